@@ -1,0 +1,4 @@
+pub mod Sample
+pub mod Gain
+pub mod Mix
+pub mod Command

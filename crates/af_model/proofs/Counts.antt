@@ -1,0 +1,81 @@
+-- What the client's list alone tells of the point.
+use Rattle.std.proofs.Common.{◌≡◌, ℕ, ◌+◌, Bool, true, false, true≢false, ◌&&◌, List, [], ◌∷◌, ◌++◌, length, length-append, ◌≤◌, refl, sym, ap, ◌∙◌, arith}
+use Rattle.af_base.specs.declared.event.ClientEvent.{ClientEvent}
+use Rattle.af_base.specs.declared.event.ClientEvent.TheVariants as client
+use Rattle.af_base.specs.declared.event.ServerEvent.{ServerEvent}
+use Rattle.af_base.specs.declared.event.ServerEvent.TheVariants as server
+use Rattle.af_base.specs.declared.event.HandEvent.{HandEvent}
+use Rattle.af_base.specs.declared.event.HandEvent.TheVariants as hand
+use Rattle.af_model.specs.declared.point.TrackPoint.{TrackPoint}
+use Rattle.af_model.specs.Point.{start, after_client, after_server, after_hand}
+use Rattle.af_model.specs.History.{Moment, by_client, by_server, by_hand, client_of, clients_at, after, is_tame, is_lawful, flush_in, flushes_of}
+
+both_left : (a b : Bool) → (a && b) ≡ true → a ≡ true
+both_left true b e = refl
+both_left false b e = e
+
+both_right : (a b : Bool) → (a && b) ≡ true → b ≡ true
+both_right true b e = e
+both_right false b e = absurd (true≢false (sym e))
+
+both_are : (a b : Bool) → a ≡ true → b ≡ true → (a && b) ≡ true
+both_are true b x y = y
+both_are false b x y = x
+
+-- what was lawful with an event more was lawful before
+pub lawful_before : (es : List ClientEvent) (e : ClientEvent) → is_lawful (es ++ e ∷ []) ≡ true → is_lawful es ≡ true
+lawful_before [] e h = refl
+lawful_before (x ∷ es) e h = both_are (is_tame x) (is_lawful es) (both_left (is_tame x) _ h) (lawful_before es e (both_right (is_tame x) _ h))
+
+pub poke_is_not : (es : List ClientEvent) (word value : ℕ) → is_lawful (es ++ client.Poke word value ∷ []) ≡ true → ⊥
+poke_is_not [] word value h = true≢false (sym h)
+poke_is_not (x ∷ es) word value h = poke_is_not es word value (both_right (is_tame x) _ h)
+
+flushes-snoc : (es : List ClientEvent) (e : ClientEvent) → flushes_of (es ++ e ∷ []) ≡ flushes_of es + flush_in e
+flushes-snoc [] e = omega arith
+flushes-snoc (x ∷ es) e = let r = flushes-snoc es e in omega arith
+
+flushes_client : (p : TrackPoint) (e : ClientEvent) → (after_client p e).flushes ≡ p.flushes + flush_in e
+flushes_client p (client.Release count) = omega arith
+flushes_client p client.Flush = refl
+flushes_client p (client.SetGain word) = omega arith
+flushes_client p (client.ClearFlags old) = omega arith
+flushes_client p (client.SawFlags flags) = omega arith
+flushes_client p (client.SawFront front) = omega arith
+flushes_client p (client.SawStatus word) = omega arith
+flushes_client p (client.Poke word value) = omega arith
+flushes_client p (client.Learn count) = omega arith
+
+flushes_server : (p : TrackPoint) (e : ServerEvent) → (after_server p e).flushes ≡ p.flushes
+flushes_server p (server.SawGain word) = refl
+flushes_server p (server.SawFlush flush) = refl
+flushes_server p (server.SawRear rear) = refl
+flushes_server p (server.SawFront front) = refl
+flushes_server p (server.Drop to) = refl
+flushes_server p (server.Take count) = refl
+flushes_server p (server.Tally missing) = refl
+flushes_server p (server.SetFlags bits) = refl
+flushes_server p (server.SetStatus word) = refl
+flushes_server p (server.Learn count) = refl
+
+flushes_hand : (p : TrackPoint) (e : HandEvent) → (after_hand p e).flushes ≡ p.flushes
+flushes_hand p (hand.SetFlags bits) = refl
+flushes_hand p (hand.Met client) = refl
+
+-- the flush count is the number of the client's flushes
+pub flushes_are : (base : ℕ) (order : List Moment) → (after (start base) order).flushes ≡ flushes_of (client_of order)
+flushes_are base [] = refl
+flushes_are base (by_client e ∷ order) = flushes_client (after (start base) order) e ∙ ap (λ n. n + flush_in e) (flushes_are base order) ∙ sym (flushes-snoc (client_of order) e)
+flushes_are base (by_server e ∷ order) = flushes_server (after (start base) order) e ∙ flushes_are base order
+flushes_are base (by_hand e ∷ order) = flushes_hand (after (start base) order) e ∙ flushes_are base order
+
+-- it stays lawful with an event that is no poke
+pub lawful_more : (es : List ClientEvent) (e : ClientEvent) → is_tame e ≡ true → is_lawful es ≡ true → is_lawful (es ++ e ∷ []) ≡ true
+lawful_more [] e tame h = both_are (is_tame e) true tame refl
+lawful_more (x ∷ es) e tame h = both_are (is_tame x) _ (both_left (is_tame x) _ h) (lawful_more es e tame (both_right (is_tame x) _ h))
+
+pub clients_at_most : (order : List Moment) → clients_at order ≤ length (client_of order)
+clients_at_most [] = omega arith
+clients_at_most (by_client e ∷ order) = let r = clients_at_most order in let l : length (client_of order ++ e ∷ []) ≡ length (client_of order) + 1 = length-append (client_of order) (e ∷ []) in omega arith
+clients_at_most (by_server e ∷ order) = clients_at_most order
+clients_at_most (by_hand e ∷ order) = omega arith

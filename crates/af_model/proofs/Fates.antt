@@ -1,0 +1,115 @@
+-- Where nothing was dropped, what was taken begins what was released.
+use Rattle.std.proofs.Common.{◌≡◌, ℕ, ◌+◌, ◌-◌, ◌≤◌, Bool, true, false, true≢false, ◌&&◌, List, [], ◌∷◌, ◌++◌, take, drop, refl, sym, ap, ◌∙◌, subst, arith, take-add}
+use Rattle.af_base.specs.declared.event.ClientEvent.{ClientEvent}
+use Rattle.af_base.specs.declared.event.ClientEvent.TheVariants as client
+use Rattle.af_base.specs.declared.event.ServerEvent.{ServerEvent}
+use Rattle.af_base.specs.declared.event.ServerEvent.TheVariants as server
+use Rattle.af_base.specs.declared.event.HandEvent.{HandEvent}
+use Rattle.af_base.specs.declared.event.HandEvent.TheVariants as hand
+use Rattle.af_model.specs.declared.point.TrackPoint.{TrackPoint}
+use Rattle.af_model.specs.Point.{start, ServerMay, after_client, after_server, after_hand}
+use Rattle.af_model.specs.History.{Moment, by_client, by_server, by_hand, server_of, after, IsLegal, with_taken, taken_of, HasHistory}
+use Rattle.af_model.specs.Fates.{keeps_all, drops_none, InTurn}
+
+client_turn : (base : ℕ) (p : TrackPoint) (e : ClientEvent) → InTurn base p → InTurn base (after_client p e)
+client_turn base p (client.Release count) t = record { from_base = t.from_base; to_seen = t.to_seen; to_released = (let a = t.to_released in omega arith) }
+client_turn base p client.Flush t = record { from_base = t.from_base; to_seen = t.to_seen; to_released = t.to_released }
+client_turn base p (client.SetGain word) t = record { from_base = t.from_base; to_seen = t.to_seen; to_released = t.to_released }
+client_turn base p (client.ClearFlags old) t = record { from_base = t.from_base; to_seen = t.to_seen; to_released = t.to_released }
+client_turn base p (client.SawFlags flags) t = t
+client_turn base p (client.SawFront front) t = t
+client_turn base p (client.SawStatus word) t = t
+client_turn base p (client.Poke word value) t = t
+client_turn base p (client.Learn count) t = t
+
+server_turn : (base others : ℕ) (p : TrackPoint) (e : ServerEvent) → ServerMay p others e → InTurn base p → InTurn base (after_server p e)
+server_turn base others p (server.SawGain word) may t = t
+server_turn base others p (server.SawFlush flush) may t = record { from_base = t.from_base; to_seen = t.to_seen; to_released = t.to_released }
+server_turn base others p (server.SawRear rear) may t = record { from_base = t.from_base; to_seen = (let a = t.to_seen in let b = t.to_released in omega arith); to_released = omega arith }
+server_turn base others p (server.SawFront front) may t = t
+server_turn base others p (server.Drop to) may t = record { from_base = (let a = t.from_base in let b = t.to_seen in omega arith); to_seen = omega arith; to_released = t.to_released }
+server_turn base others p (server.Take count) may t = record { from_base = (let a = t.from_base in omega arith); to_seen = may; to_released = t.to_released }
+server_turn base others p (server.Tally missing) may t = record { from_base = t.from_base; to_seen = t.to_seen; to_released = t.to_released }
+server_turn base others p (server.SetFlags bits) may t = record { from_base = t.from_base; to_seen = t.to_seen; to_released = t.to_released }
+server_turn base others p (server.SetStatus word) may t = record { from_base = t.from_base; to_seen = t.to_seen; to_released = t.to_released }
+server_turn base others p (server.Learn count) may t = t
+
+hand_turn : (base : ℕ) (p : TrackPoint) (e : HandEvent) → InTurn base p → InTurn base (after_hand p e)
+hand_turn base p (hand.SetFlags bits) t = record { from_base = t.from_base; to_seen = t.to_seen; to_released = t.to_released }
+hand_turn base p (hand.Met client) t = t
+
+-- positions never pass one another
+pub in_turn : (base : ℕ) (order : List Moment) → IsLegal (start base) order → InTurn base (after (start base) order)
+in_turn base [] h = record { from_base = omega arith; to_seen = omega arith; to_released = omega arith }
+in_turn base (by_client e ∷ order) h = client_turn base _ e (in_turn base order h.1)
+in_turn base (by_server e ∷ order) h = server_turn base _ _ e h.0 (in_turn base order h.1)
+in_turn base (by_hand e ∷ order) h = hand_turn base _ e (in_turn base order h.1)
+
+both_left : (a b : Bool) → (a && b) ≡ true → a ≡ true
+both_left true b e = refl
+both_left false b e = e
+
+both_right : (a b : Bool) → (a && b) ≡ true → b ≡ true
+both_right true b e = e
+both_right false b e = absurd (true≢false (sym e))
+
+before_it : (es : List ServerEvent) (e : ServerEvent) → drops_none (es ++ e ∷ []) ≡ true → (drops_none es ≡ true) × (keeps_all e ≡ true)
+before_it [] e h = (refl, both_left (keeps_all e) true h)
+before_it (x ∷ es) e h = let r = before_it es e (both_right (keeps_all x) _ h) in let x' : keeps_all x ≡ true = both_left (keeps_all x) _ h in (ap (λ b. b && drops_none es) x' ∙ r.0, r.1)
+
+module _ (frames : List ℕ) (base : ℕ) where
+  abbrev Begins : TrackPoint → List ℕ → Type 0
+  Begins p taken = taken ≡ take (p.consumed - base) frames
+
+  of_client : (p : TrackPoint) (taken : List ℕ) (e : ClientEvent) → Begins p taken → Begins (after_client p e) taken
+  of_client p taken (client.Release count) b = b
+  of_client p taken client.Flush b = b
+  of_client p taken (client.SetGain word) b = b
+  of_client p taken (client.ClearFlags old) b = b
+  of_client p taken (client.SawFlags flags) b = b
+  of_client p taken (client.SawFront front) b = b
+  of_client p taken (client.SawStatus word) b = b
+  of_client p taken (client.Poke word value) b = b
+  of_client p taken (client.Learn count) b = b
+
+  of_server : (p : TrackPoint) (taken : List ℕ) (e : ServerEvent) → base ≤ p.consumed → keeps_all e ≡ true → Begins p taken → Begins (after_server p e) (with_taken frames base p taken e)
+  of_server p taken (server.SawGain word) low k b = b
+  of_server p taken (server.SawFlush flush) low k b = b
+  of_server p taken (server.SawRear rear) low k b = b
+  of_server p taken (server.SawFront front) low k b = b
+  of_server p taken (server.Drop to) low k b = absurd (true≢false (sym k))
+  of_server p taken (server.Take count) low k b =
+      let d : ℕ = p.consumed - base in
+      let next : d + count ≡ p.consumed + count - base = omega arith in
+      ap (λ (l : List ℕ). l ++ take count (drop d frames)) b ∙ sym (take-add d count frames) ∙ ap (λ (n : ℕ). take n frames) next
+  of_server p taken (server.Tally missing) low k b = b
+  of_server p taken (server.SetFlags bits) low k b = b
+  of_server p taken (server.SetStatus word) low k b = b
+  of_server p taken (server.Learn count) low k b = b
+
+  of_hand : (p : TrackPoint) (taken : List ℕ) (e : HandEvent) → Begins p taken → Begins (after_hand p e) taken
+  of_hand p taken (hand.SetFlags bits) b = b
+  of_hand p taken (hand.Met client) b = b
+
+  begins : (order : List Moment) → IsLegal (start base) order → drops_none (server_of order) ≡ true → Begins (after (start base) order) (taken_of frames base order)
+  begins [] h none = let e : base - base ≡ 0 = omega arith in sym (ap (λ (n : ℕ). take n frames) e)
+  begins (by_client e ∷ order) h none = of_client _ _ e (begins order h.1 none)
+  begins (by_server e ∷ order) h none =
+      let b = before_it (server_of order) e none in
+      of_server _ _ e (in_turn base order h.1).from_base b.1 (begins order h.1 b.0)
+  begins (by_hand e ∷ order) h none = of_hand _ _ e (begins order h.1 none)
+
+-- where nothing was dropped, the frames taken begin the frames released
+pub taken_begins : (base : ℕ) (ce : List ClientEvent) (cf : List ℕ) (se : List ServerEvent) (sf : List ℕ) (he : List HandEvent) → HasHistory base ce cf se sf he → drops_none se ≡ true
+    → (n : ℕ) × (sf ≡ take n cf)
+taken_begins base ce cf se sf he h none =
+    (_, sym h.taken_is ∙ begins cf base h.order h.legal (subst (λ es. drops_none es ≡ true) (sym h.server_is) none))
+
+both_are : (a b : Bool) → a ≡ true → b ≡ true → (a && b) ≡ true
+both_are true b x y = y
+both_are false b x y = x
+
+-- an event that drops nothing adds no drop
+pub drops_more : (es : List ServerEvent) (e : ServerEvent) → keeps_all e ≡ true → drops_none es ≡ true → drops_none (es ++ e ∷ []) ≡ true
+drops_more [] e k h = both_are (keeps_all e) true k refl
+drops_more (x ∷ es) e k h = both_are (keeps_all x) _ (both_left (keeps_all x) _ h) (drops_more es e k (both_right (keeps_all x) _ h))

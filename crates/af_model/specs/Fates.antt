@@ -1,0 +1,19 @@
+-- What a history says of the frames.
+use Rattle.std.specs.Prelude.{ℕ, ◌≤◌, Bool, true, false, ◌&&◌, List, [], ◌∷◌}
+use Rattle.af_base.specs.declared.event.ServerEvent.{ServerEvent}
+use Rattle.af_base.specs.declared.event.ServerEvent.TheVariants as server
+use Rattle.af_model.specs.declared.point.TrackPoint.{TrackPoint}
+
+abbrev pub keeps_all : ServerEvent → Bool
+keeps_all (server.Drop to) = false
+keeps_all _ = true
+
+-- nothing was dropped
+abbrev pub drops_none : List ServerEvent → Bool
+drops_none [] = true
+drops_none (e ∷ es) = keeps_all e && drops_none es
+
+pub record InTurn (base : ℕ) (p : TrackPoint) : Type 0 where
+  pub from_base : base ≤ p.consumed
+  pub to_seen : p.consumed ≤ p.rear_seen
+  pub to_released : p.rear_seen ≤ p.released

@@ -1,0 +1,80 @@
+-- The point of a block, and which event may follow it. Positions count from the base on and never wrap.
+use Rattle.std.specs.Prelude.{◌≡◌, ℕ, ◌+◌, ◌%◌, ◌^◌, ◌≤◌, ◌==◌, MatchBool, bit_and, bit_or}
+use Rattle.af_base.specs.declared.event.ClientEvent.{ClientEvent}
+use Rattle.af_base.specs.declared.event.ClientEvent.TheVariants as client
+use Rattle.af_base.specs.declared.event.ServerEvent.{ServerEvent}
+use Rattle.af_base.specs.declared.event.ServerEvent.TheVariants as server
+use Rattle.af_base.specs.declared.event.HandEvent.{HandEvent}
+use Rattle.af_base.specs.declared.event.HandEvent.TheVariants as hand
+use Rattle.af_model.specs.declared.point.TrackPoint.{TrackPoint}
+
+-- the word of a number
+abbrev pub wrapped : ℕ → ℕ
+wrapped n = n % 2 ^ 32
+
+abbrev pub start : ℕ → TrackPoint
+start base =
+    record {
+      released = base;
+      consumed = base;
+      flushes = 0;
+      flush_seen = 0;
+      rear_seen = base;
+      gains = 268439552;
+      flags = 0;
+      status = 0;
+      underruns = 0;
+    }
+
+-- `others` is the number of the server's events before
+abbrev pub ClientMay : TrackPoint → ℕ → ClientEvent → Type 0
+ClientMay p others (client.Release count) = Unit {0}
+ClientMay p others client.Flush = Unit {0}
+ClientMay p others (client.SetGain word) = Unit {0}
+ClientMay p others (client.ClearFlags old) = old ≡ p.flags
+ClientMay p others (client.SawFlags flags) = MatchBool (bit_and flags 4 == 0) (bit_and p.flags 4 ≡ 0) (flags ≡ p.flags)
+ClientMay p others (client.SawFront front) = front ≡ wrapped p.consumed
+ClientMay p others (client.SawStatus word) = word ≡ p.status
+ClientMay p others (client.Poke word value) = ⊥
+ClientMay p others (client.Learn count) = count ≤ others
+
+-- `others` is the number of the client's events before
+abbrev pub ServerMay : TrackPoint → ℕ → ServerEvent → Type 0
+ServerMay p others (server.SawGain word) = word ≡ p.gains
+ServerMay p others (server.SawFlush flush) = flush ≡ p.flushes
+ServerMay p others (server.SawRear rear) = rear ≡ wrapped p.released
+ServerMay p others (server.SawFront front) = front ≡ wrapped p.consumed
+ServerMay p others (server.Drop to) = to ≡ wrapped p.rear_seen
+ServerMay p others (server.Take count) = p.consumed + count ≤ p.rear_seen
+ServerMay p others (server.Tally missing) = Unit {0}
+ServerMay p others (server.SetFlags bits) = Unit {0}
+ServerMay p others (server.SetStatus word) = Unit {0}
+ServerMay p others (server.Learn count) = count ≤ others
+
+-- `clients` is the number of the client's events before, `met` the most that an earlier meeting of the hand named, and `at` how many stand before the hand's last event.
+-- What was met stands before the hand's later events, and the hand's earlier events stand before what the client did after the meeting
+abbrev pub HandMay : ℕ → ℕ → ℕ → HandEvent → Type 0
+HandMay clients met at (hand.SetFlags bits) = met ≤ clients
+HandMay clients met at (hand.Met client) = (met ≤ clients) × (at ≤ client)
+
+-- what lacks a line leaves the point as it is
+abbrev pub after_client : TrackPoint → ClientEvent → TrackPoint
+after_client p (client.Release count) = record p { released = p.released + count }
+after_client p client.Flush = record p { flushes = p.flushes + 1 }
+after_client p (client.SetGain word) = record p { gains = word }
+after_client p (client.ClearFlags old) = record p { flags = bit_and p.flags 4294967287 }
+after_client p _ = p
+
+abbrev pub after_server : TrackPoint → ServerEvent → TrackPoint
+after_server p (server.SawFlush flush) = record p { flush_seen = flush }
+after_server p (server.SawRear rear) = record p { rear_seen = p.released }
+after_server p (server.Drop to) = record p { consumed = p.rear_seen }
+after_server p (server.Take count) = record p { consumed = p.consumed + count }
+after_server p (server.Tally missing) = record p { underruns = wrapped (p.underruns + missing) }
+after_server p (server.SetFlags bits) = record p { flags = bit_or p.flags bits }
+after_server p (server.SetStatus word) = record p { status = word }
+after_server p _ = p
+
+abbrev pub after_hand : TrackPoint → HandEvent → TrackPoint
+after_hand p (hand.SetFlags bits) = record p { flags = bit_or p.flags bits }
+after_hand p (hand.Met client) = p
