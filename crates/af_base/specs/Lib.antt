@@ -2,3 +2,4 @@ pub mod Sample
 pub mod Gain
 pub mod Mix
 pub mod Command
+pub mod Part

@@ -4,15 +4,18 @@
 mod event;
 mod frame;
 mod gains;
+mod plain;
 mod state;
 mod steps;
+mod want;
 
 pub use event::{ClientCall, ClientEvent, HandEvent, ServerEvent};
 pub use frame::Frame;
 pub use gains::Gains;
+pub use plain::{Part, plain_mix};
 pub use state::{Command, FastState, FastTrack, Push, SLOTS};
 pub use steps::Steps;
+pub use want::Memory;
 
-/// Want of memory, where that is a call's only refusal.
-#[derive(Clone, Copy, Debug, PartialEq, Eq)]
-pub struct Memory;
+#[cfg(test)]
+mod tests;

@@ -1,0 +1,52 @@
+use crate::{Command, Frame, Gains, Part, plain_mix};
+use std::test::Fail;
+
+#[test]
+fn frames_are_words(rt: HostRuntime) {
+    for (left, right, word) in [
+        (1000, -1000, 0xfc18_03e8),
+        (-1, 1, 0x0001_ffff),
+        (-32768, 32767, 0x7fff_8000),
+    ] {
+        let frame = Frame { left, right };
+        assert_eq!(rt; frame.pack(), word);
+        assert_eq!(rt; Frame::unpack(word), frame);
+    }
+}
+
+#[test]
+fn gains_end_at_unity(rt: HostRuntime) {
+    let gains = Gains::clamped(0xffff_1001);
+    assert_eq!(rt; (gains.left(), gains.right()), (0x1000, 0x1000));
+    let half = Gains::clamped(0x0800_0fff).scaled(0x0800);
+    assert_eq!(rt; (half.left(), half.right()), (0x07ff, 0x0400));
+    assert_eq!(rt; Command::MixWrite.code(), 24);
+}
+
+#[test]
+fn one_sum_and_one_clamp(rt: HostRuntime) -> Result<(), Fail> {
+    let loud = [Frame {
+        left: 32767,
+        right: -32768,
+    }];
+    let quiet = [Frame {
+        left: -32767,
+        right: 0,
+    }];
+    let part = |frames| Part {
+        frames,
+        mono: false,
+        gains: 0x1000_1000,
+        scale: 0x1000,
+    };
+    let mixed = plain_mix(rt.alloc(), &[part(&loud), part(&loud), part(&quiet)], 2)?;
+    let want = [
+        Frame {
+            left: 32767,
+            right: -32768,
+        },
+        Frame { left: 0, right: 0 },
+    ];
+    assert_eq!(rt; mixed.as_slice(), want.as_slice());
+    Ok(())
+}
