@@ -1,0 +1,16 @@
+//! What a server's look at a control block showed.
+
+/// What a look showed (AOSP's ServerProxy::obtainBuffer, with the flush that it noticed told apart).
+#[derive(Clone, Copy, Debug, PartialEq, Eq)]
+pub enum Seen {
+    /// There was no look.
+    Absent,
+    /// So many frames may be taken, at least one.
+    Frames { count: u32 },
+    /// No frame is there.
+    Empty,
+    /// A new flush was noticed: so many frames were discarded.
+    Flushed { dropped: u32 },
+    /// Front and rear lie further apart than the block has frames: the block is shut for good.
+    Shut { front: u32, rear: u32 },
+}
