@@ -1,9 +1,8 @@
 -- The least power of two that is not below a number.
-use Rattle.std.proofs.Common.{◌≡◌, ℕ, zero, suc, ◌+◌, ◌*◌, ◌/◌, ◌^◌, ◌≤◌, ◌<◌, max, Bool, true, false, nat_le, if◌then◌else◌, refl, sym, ap, ◌∙◌, arith, inl, inr}
+use Rattle.std.proofs.Common.{◌≡◌, ℕ, zero, suc, ◌*◌, ◌/◌, ◌^◌, ◌≤◌, ◌<◌, max, Bool, true, false, nat_le, if◌then◌else◌, refl, sym, ap, ◌∙◌, arith, inl, inr}
 use Rattle.std.specs.Int.{IsPowerOfTwo}
 use Rattle.std.proofs.lemmas.Bool.{cases_lt}
 use Rattle.std.proofs.lemmas.Bool.Decides.{nat_tests}
-use Rattle.std.proofs.lemmas.Nat.{pow_below}
 use Rattle.std.proofs.Math.Nat.{pow-le-pow_right, pow-succ'}
 use Rattle.af_script.specs.Ops.{power_above, cells_of}
 
@@ -16,20 +15,22 @@ half k = let twice : 2 ^ suc k ≡ 2 * 2 ^ k = pow-succ' 2 k in omega (arith, tw
 mutual_step : (k j n : ℕ) (test : Bool) → nat_le n (2 ^ k) ≡ test → j ≤ suc k → n ≤ 2 ^ j → 2 ^ j / 2 < max 1 n → (j ≤ k → power_above k n ≡ 2 ^ j) → (if test then power_above k n else 2 ^ suc k) ≡ 2 ^ j
 mutual_step k j n true is le above half_below below =
     elim (cases_lt k j) [
-      inl lt ↦
-        let top : j ≡ suc k = omega arith in
-        let small : n ≤ 2 ^ k = grind (arith, nat_tests) in
-        let some : 1 ≤ 2 ^ k = le-power 0 k (omega arith) in
-        let tall : 2 ^ k < max 1 n = rw (sym (half k)) (rw (sym top) half_below) in
-        absurd (omega arith)
-    | inr ge ↦ below (omega arith) ]
+      | inl lt ↦
+          let top : j ≡ suc k = omega arith in
+          let small : n ≤ 2 ^ k = grind (arith, nat_tests) in
+          let some : 1 ≤ 2 ^ k = le-power 0 k (omega arith) in
+          let tall : 2 ^ k < max 1 n = rw (sym (half k)) (rw (sym top) half_below) in
+          absurd (omega arith)
+      | inr ge ↦ below (omega arith)
+    ]
 mutual_step k j n false is le above half_below below =
     elim (cases_lt k j) [
-      inl lt ↦ let top : suc k ≡ j = omega arith in ap (λ i. 2 ^ i) top
-    | inr ge ↦
-        let large : 2 ^ k < n = grind (arith, nat_tests) in
-        let bound : 2 ^ j ≤ 2 ^ k = le-power j k (omega arith) in
-        absurd (omega arith) ]
+      | inl lt ↦ let top : suc k ≡ j = omega arith in ap (λ i. 2 ^ i) top
+      | inr ge ↦
+          let large : 2 ^ k < n = grind (arith, nat_tests) in
+          let bound : 2 ^ j ≤ 2 ^ k = le-power j k (omega arith) in
+          absurd (omega arith)
+    ]
 
 power_above-power : (k j n : ℕ) → j ≤ k → n ≤ 2 ^ j → 2 ^ j / 2 < max 1 n → power_above k n ≡ 2 ^ j
 power_above-power zero j n le above half_below = let first : zero ≡ j = omega arith in ap (λ i. 2 ^ i) first
@@ -39,10 +40,11 @@ power_above-power (suc k) j n le above half_below =
 small : (j n : ℕ) → 2 ^ j / 2 < max 1 n → n ≤ 8192 → j ≤ 13
 small j n half_below fits =
     elim (cases_lt 13 j) [
-      inl large ↦
-        let bound : 2 ^ 14 ≤ 2 ^ j = le-power 14 j (omega arith) in
-        absurd (omega arith)
-    | inr le ↦ le ]
+      | inl large ↦
+          let bound : 2 ^ 14 ≤ 2 ^ j = le-power 14 j (omega arith) in
+          absurd (omega arith)
+      | inr le ↦ le
+    ]
 
 pub cells_of-next : (n p : ℕ) → IsPowerOfTwo p → n ≤ p → p / 2 < max 1 n → n ≤ 8192 → p ≡ cells_of n
 unfolding cells_of

@@ -1,5 +1,5 @@
 -- What each form of a key is read as: the fault of its place, or the value that it means.
-use Rattle.std.proofs.Common.{◌≡◌, ℕ, ◌==◌, ◌&&◌, ◌||◌, nat_le, pos, negsuc, Bool, true, false, List, Option, Some, None, Result, Ok, Err, refl, codes, if◌then◌else◌}
+use Rattle.std.proofs.Common.{◌≡◌, ℕ, ◌&&◌, ◌||◌, nat_le, pos, negsuc, Bool, true, false, Option, Some, None, Ok, Err, refl, codes, if◌then◌else◌}
 use Rattle.std.specs.Prelude.{ok_or, option_and_then}
 use Rattle.std.specs.Str.{bytes_eq}
 use Rattle.toml.specs.Data.{Data, string, integer, float, boolean, datetime, array, table, Items, as_str, as_integer, as_table}
@@ -9,7 +9,7 @@ use Rattle.af_script.specs.Tree.{array_of, all_are, count_of}
 use Rattle.af_script.specs.Results.{◌>>=◌}
 use Rattle.af_script.specs.Reading.{in_range_if, default_if_none, fast_word, name_if, some_tables, turn_items_if}
 use Rattle.af_script.specs.Meaning.{number_of, text_of, items_of}
-use Rattle.af_script.specs.Places.{Form, number, number_or_none, kind, name, texts, texts_or_none, tables, entry_fault, unless}
+use Rattle.af_script.specs.Places.{number, number_or_none, kind, name, texts, texts_or_none, tables, entry_fault, unless}
 use Rattle.af_script.specs.declared.fault.ScriptFault.{ScriptFault}
 use Rattle.af_script.specs.declared.fault.ScriptFault.TheVariants as fault
 use Rattle.af_script.specs.declared.fault.KeyId.{KeyId}

@@ -1,5 +1,5 @@
 -- The first fault of some places, and answers that are it.
-use Rattle.std.proofs.Common.{◌≡◌, ℕ, Bool, true, false, List, [], ◌∷◌, ◌++◌, Option, Some, None, Result, Ok, Err, refl, sym, ap, ◌∙◌, if◌then◌else◌}
+use Rattle.std.proofs.Common.{◌≡◌, Bool, true, false, List, [], ◌∷◌, ◌++◌, Option, Some, None, Result, Ok, Err, refl, sym, ap, ◌∙◌, if◌then◌else◌}
 use Rattle.af_script.specs.Ops.{or_else}
 use Rattle.af_script.specs.Results.{◌>>=◌}
 use Rattle.af_script.specs.Places.{Place, fault_at, unless}

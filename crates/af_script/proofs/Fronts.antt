@@ -1,5 +1,5 @@
 -- What stands at the front and at the end of texts and lists.
-use Rattle.std.proofs.Common.{◌≡◌, ℕ, suc, ◌-◌, ◌≤◌, ◌/◌, ◌^◌, ◌<◌, zero, max, Bool, true, false, List, [], ◌∷◌, length, drop, Option, Some, None, Bor, refl, sym, ap, ◌∙◌, subst, arith, inl, inr, nat_le, if◌then◌else◌}
+use Rattle.std.proofs.Common.{◌≡◌, ℕ, suc, ◌-◌, true, false, List, [], ◌∷◌, length, drop, Option, Some, None, Bor, refl, sym, ap, ◌∙◌, subst, arith}
 use Rattle.std.specs.Prelude.{option_map, MatchOption, slice_get, IsCharBoundary}
 use Rattle.std.specs.Str.Pattern.{FindsTextPrefix, StripsPrefix}
 use Rattle.std.proofs.lemmas.Str.Pattern.{starts_text}

@@ -1,5 +1,5 @@
 -- What holds of the values that steps find.
-use Rattle.std.proofs.Common.{◌≡◌, ℕ, suc, ◌+◌, ◌*◌, ◌≤◌, ◌<◌, ◌&&◌, nat_le, ℤ, pos, negsuc, Bool, true, false, List, [], ◌∷◌, length, Option, Some, None, Result, Ok, Err, refl, ap, ◌∙◌, arith, if◌then◌else◌}
+use Rattle.std.proofs.Common.{◌≡◌, ℕ, suc, ◌+◌, ◌≤◌, ◌&&◌, nat_le, ℤ, pos, negsuc, Bool, true, false, List, ◌∷◌, length, Option, Some, None, Result, Ok, Err, refl, ap, arith, if◌then◌else◌}
 use Rattle.std.specs.Prelude.{All, IfSome, ok_or, option_and_then, option_map}
 use Rattle.std.proofs.lemmas.Bool.Decides.{nat_tests}
 use Rattle.std.proofs.lemmas.List.Elements.{All-nil, All-cons}
@@ -9,7 +9,7 @@ use Rattle.std.specs.List.{before_first, after_first}
 use Rattle.std.specs.Str.Parse.{digits_value}
 use Rattle.af_script.specs.Tree.{value_at, count_of}
 use Rattle.af_script.specs.Results.{◌>>=◌}
-use Rattle.af_script.specs.Reading.{in_range, in_range_if, number_in, default_if_none, number_or, each_in}
+use Rattle.af_script.specs.Reading.{in_range_if, number_in, default_if_none, number_or, each_in}
 use Rattle.af_script.specs.declared.fault.ScriptFault.{ScriptFault}
 use Rattle.af_script.specs.declared.fault.ScriptFault.TheVariants as fault
 use Rattle.af_script.specs.declared.fault.KeyId.{KeyId}
@@ -68,9 +68,9 @@ each-length {X} read i (item d rest) =
     then_holds (λ (x : X). Unit {0}) (λ (xs : List X). length xs ≡ suc (count_of rest)) (read i d) (λ x. each_in read (i + 1) rest >>= (λ xs. Ok (x ∷ xs))) (any (read i d))
     (λ x here. then_holds (λ (xs : List X). length xs ≡ count_of rest) (λ (xs : List X). length xs ≡ suc (count_of rest)) (each_in read (i + 1) rest) (λ xs. Ok (x ∷ xs)) (each-length read (i + 1) rest) (λ xs len. ap suc len))
   where
-  any : {X : Type 0} (r : Result X ScriptFault) → Holds (λ (x : X). Unit {0}) r
-  any (Ok x) = tt
-  any (Err found) = tt
+    any : {X : Type 0} (r : Result X ScriptFault) → Holds (λ (x : X). Unit {0}) r
+    any (Ok x) = tt
+    any (Err found) = tt
 
 -- numbers of ops and turns
 

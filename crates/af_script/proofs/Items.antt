@@ -3,14 +3,14 @@ use Rattle.std.proofs.Common.{◌≡◌, ℕ, suc, ◌+◌, ◌==◌, ◌&&◌, 
 use Rattle.std.specs.Prelude.{ok_or, option_and_then, is_some, unwrap_or}
 use Rattle.std.specs.List.{cons_option}
 use Rattle.std.proofs.lemmas.Bool.Decides.{nat_tests}
-use Rattle.toml.specs.Data.{Data, string, integer, float, boolean, datetime, array, table, Items, no_items, item, as_str}
+use Rattle.toml.specs.Data.{Data, Items, no_items, item, as_str}
 use Rattle.af_script.specs.Bounds.{most_ops, most_turns}
 use Rattle.af_script.specs.Ops.{or_else, op_of, op_at, may_stand, in_place, closed, turn_of, fast_cycles}
 use Rattle.af_script.specs.Tree.{all_are, count_of}
 use Rattle.af_script.specs.Results.{◌>>=◌}
 use Rattle.af_script.specs.Reading.{each_in, op_in, ops_in, turn_in, paid_turns, turns_in}
 use Rattle.af_script.specs.Meaning.{picked, op_meant, turn_meant}
-use Rattle.af_script.specs.Places.{Place, bound, no_op, op, turn, each_place, op_place, ops_places, turn_place, unless}
+use Rattle.af_script.specs.Places.{Place, bound, each_place, op_place, ops_places, turn_place, unless}
 use Rattle.af_script.specs.declared.op.Op.{Op}
 use Rattle.af_script.specs.declared.op.Op.TheVariants.{Remove}
 use Rattle.af_script.specs.declared.op.TurnSpec.{TurnSpec}
@@ -18,7 +18,7 @@ use Rattle.af_script.specs.declared.op.TurnSpec.TheVariants.{Normal}
 use Rattle.af_script.specs.declared.fault.ScriptFault.{ScriptFault}
 use Rattle.af_script.specs.declared.fault.ScriptFault.TheVariants as fault
 use Rattle.af_script.specs.declared.fault.LimitId.TheVariants as limit
-use Rattle.af_script.proofs.First.{first_of, judged, first_of-append, bind, bind_ok, behind, tested}
+use Rattle.af_script.proofs.First.{first_of, judged, first_of-append, bind, bind_ok, behind}
 
 -- an item of the type is read as its places and its meaning say
 abbrev pub IsTied : {X Y : Type 0} → (Data → Option X) → (ℕ → Data → Result Y ScriptFault) → (ℕ → X → List Place) → (X → Y) → Type 0

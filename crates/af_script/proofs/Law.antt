@@ -1,7 +1,7 @@
 -- The grammar and the steps say the same of all bytes.
-use Rattle.std.proofs.Common.{◌≡◌, ◌⊎◌, ◌↔◌, inl, inr, ℕ, Bool, List, [], ◌∷◌, ◌++◌, Option, Some, None, Result, Ok, Err, refl, sym, ap, ◌∙◌}
+use Rattle.std.proofs.Common.{◌≡◌, ◌↔◌, inl, inr, ℕ, List, [], ◌∷◌, ◌++◌, Option, Some, None, Result, Ok, Err, refl, sym, ap, ◌∙◌}
 use Rattle.std.specs.Prelude.{All, ok_or}
-use Rattle.std.proofs.lemmas.List.Elements.{All-nil, All-cons, All-head, All-tail, All-same}
+use Rattle.std.proofs.lemmas.List.Elements.{All-nil, All-cons, All-head, All-tail}
 use Rattle.toml.specs.Data.{Members}
 use Rattle.af_script.specs.Ops.{or_else}
 use Rattle.af_script.specs.Tree.{tree_of}
@@ -10,7 +10,7 @@ use Rattle.af_script.specs.Results.{◌>>=◌, Reads}
 use Rattle.af_script.specs.Reading.{script_in, script_of}
 use Rattle.af_script.specs.Meaning.{script_meant}
 use Rattle.af_script.specs.Places.{Place, fault_at, places}
-use Rattle.af_script.specs.Grammar.{HasNoFault, IsFirstFault, IsAccepted, IsNoDocument, HasFirstFault, IsRefused, FollowsGrammar}
+use Rattle.af_script.specs.Grammar.{HasNoFault, IsFirstFault, IsAccepted, IsRefused, FollowsGrammar}
 use Rattle.af_script.specs.declared.fault.ScriptFault.{ScriptFault}
 use Rattle.af_script.specs.declared.fault.ScriptFault.TheVariants as fault
 use Rattle.af_script.specs.declared.fault.ReadError.{ReadError}
@@ -26,7 +26,7 @@ one_more p ps found none first = record {
   after = first.after;
   order = ap (λ qs. p ∷ qs) first.order;
   none_before = All-cons HasNoFault p first.before none first.none_before;
-  here = first.here
+  here = first.here;
 }
 
 first-by : (p : Place) (ps : List Place) (found : ScriptFault) (o : Option ScriptFault) → fault_at p ≡ o → or_else o (first_of ps) ≡ Some found → (first_of ps ≡ Some found → IsFirstFault ps found) → IsFirstFault (p ∷ ps) found

@@ -1,14 +1,14 @@
 -- The forms of ops and turns that were read.
-use Rattle.std.proofs.Common.{◌≡◌, ℕ, suc, ◌+◌, ◌-◌, ◌==◌, ◌≤◌, ◌<◌, ◌&&◌, ◌++◌, not, nat_le, Bool, true, false, List, [], ◌∷◌, length, length-append, codes, Option, Some, None, Result, Ok, Err, refl, sym, ap, ◌∙◌, arith, if◌then◌else◌}
-use Rattle.std.specs.Prelude.{All, IfSome, ok_or, option_and_then, option_map}
+use Rattle.std.proofs.Common.{◌≡◌, ℕ, suc, ◌+◌, ◌-◌, ◌==◌, ◌≤◌, ◌<◌, ◌&&◌, ◌++◌, not, nat_le, Bool, true, false, List, [], ◌∷◌, length, length-append, codes, Option, Some, None, Result, Ok, Err, refl, ap, subst, ◌∙◌, arith, if◌then◌else◌}
+use Rattle.std.specs.Prelude.{All, IfSome, option_and_then}
 use Rattle.std.specs.Str.{bytes_eq}
 use Rattle.std.proofs.lemmas.Bool.Decides.{nat_tests}
 use Rattle.std.proofs.lemmas.List.Elements.{All-nil, All-cons, All-append}
 use Rattle.toml.specs.Data.{Data, Items, no_items, item, as_str}
 use Rattle.af_script.specs.Bounds.{most_gain, most_write, most_value, most_fast, header_words, command_frames, most_ops}
-use Rattle.af_script.specs.Ops.{words_of, cells_of, plain_op, gain_of, write_of, poke_stream, poke_command, or_else, op_of, may_stand, in_place, op_at, is_remove, ends_with_remove, closed, client_of, fast_of, turn_of}
+use Rattle.af_script.specs.Ops.{words_of, plain_op, gain_of, write_of, poke_stream, poke_command, or_else, op_of, may_stand, in_place, op_at, is_remove, ends_with_remove, closed, end_with_remove, are_whole, client_of, fast_of, turn_of}
 use Rattle.af_script.specs.Tree.{count_of}
-use Rattle.af_script.specs.Form.{end_with_remove, are_whole, HasOpNumbers, IsTurn}
+use Rattle.af_script.specs.Form.{HasOpNumbers, IsTurn}
 use Rattle.af_script.specs.Results.{◌>>=◌}
 use Rattle.af_script.specs.Reading.{each_in, op_in, ops_in, turn_in}
 use Rattle.af_script.specs.declared.op.Op.{Op}
@@ -18,7 +18,7 @@ use Rattle.af_script.specs.declared.op.TurnSpec.TheVariants.{Client, Normal, Fas
 use Rattle.af_script.specs.declared.fault.ScriptFault.{ScriptFault}
 use Rattle.af_script.specs.declared.fault.ScriptFault.TheVariants as fault
 use Rattle.af_script.specs.declared.fault.LimitId.TheVariants as limit
-use Rattle.af_script.proofs.Holds.{Holds, then_holds, test_holds, some_holds, IsIn, AreIn, each-holds, each-length, and_then-holds, map-holds, number_after-holds, pair_after-holds}
+use Rattle.af_script.proofs.Holds.{Holds, then_holds, some_holds, IsIn, AreIn, each-length, and_then-holds, map-holds, number_after-holds, pair_after-holds}
 
 -- the first of two
 either-holds : {X : Type 0} (P : X → Type 0) (a b : Option X) → IfSome a P → IfSome b P → IfSome (or_else a b) P
@@ -168,7 +168,7 @@ closed-are : (frames count : ℕ) (ops : List Op) → 0 < count → count ≤ mo
 closed-are frames count ops some few w = record {
   whole = ops-whole frames count ops some w.len w.fit;
   count = let bound : length (closed ops) ≤ length ops + 1 = if-length (ends_with_remove ops) ops in omega (arith, bound, w.len);
-  numbers = if-All (HasOpNumbers frames) (ends_with_remove ops) ops (fit-numbers frames count 0 ops w.fit) tt
+  numbers = if-All (HasOpNumbers frames) (ends_with_remove ops) ops (fit-numbers frames count 0 ops w.fit) tt;
 }
 
 some-count : (count : ℕ) (test : Bool) → (count == 0) ≡ test → test ≡ false → 0 < count
@@ -210,3 +210,11 @@ pub turn_in-holds : (tracks i : ℕ) (d : Data) → 0 < tracks → Holds (IsTurn
 turn_in-holds tracks i d some =
     some_holds (IsTurn tracks) (option_and_then (turn_of tracks) (as_str d)) (fault.Turn i)
     (and_then-holds (IsTurn tracks) (as_str d) (turn_of tracks) (λ text. turn_of-holds tracks text some))
+
+-- the ops that were read, with `remove` at their end
+pub closed-whole : (track frames : ℕ) (items : Items) (ops : List Op) → 0 < count_of items → count_of items ≤ most_ops → each_in (op_in track frames (count_of items)) 0 items ≡ Ok ops → are_whole (closed ops) ≡ true
+closed-whole track frames items ops some bound is =
+    let count : ℕ = count_of items in
+    let len : length ops ≡ count = subst (Holds (λ (xs : List Op). length xs ≡ count)) is (each-length (op_in track frames count) 0 items) in
+    let fit : FitFrom frames count 0 ops = subst (Holds (FitFrom frames count 0)) is (each-fit track frames count 0 items) in
+    (closed-are frames count ops some bound (record { len = len; fit = fit })).whole

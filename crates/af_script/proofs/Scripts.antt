@@ -1,14 +1,13 @@
 -- What a script's table is read as: the first fault of its places, or the script that it means.
-use Rattle.std.proofs.Common.{◌≡◌, ℕ, ◌+◌, ◌*◌, nat_le, true, List, [], ◌∷◌, ◌++◌, length, map, Option, Some, None, Result, Ok, Err, refl, sym, ap, ◌∙◌}
-use Rattle.toml.specs.Data.{Data, Items, Members, as_str, as_table}
+use Rattle.std.proofs.Common.{◌≡◌, ℕ, ◌*◌, nat_le, true, List, ◌∷◌, ◌++◌, length, Option, Ok, sym, ap, ◌∙◌}
+use Rattle.toml.specs.Data.{Items, Members, as_str, as_table}
 use Rattle.af_script.specs.Bounds.{most_frames, most_normal, most_cycles, most_product, most_tracks}
 use Rattle.af_script.specs.Ops.{or_else}
 use Rattle.af_script.specs.Tree.{value_at, all_keys, is_top_key, all_are}
-use Rattle.af_script.specs.Data.{ScriptData}
 use Rattle.af_script.specs.Results.{◌>>=◌}
 use Rattle.af_script.specs.Reading.{number_in, top_numbers, track_items, turn_items, each_in, track_item, turns_in, parts_in, script_in}
-use Rattle.af_script.specs.Meaning.{number_of, items_of, tables_of, buffer_of, track_meant, tracks_meant, turns_meant, script_meant, picked}
-use Rattle.af_script.specs.Places.{Place, number, tables, texts_or_none, entry_fault, at, bound, each_place, track_places, turns_places, places, unless}
+use Rattle.af_script.specs.Meaning.{number_of, items_of, tables_of, buffer_of, track_meant, tracks_meant, turns_meant, script_meant}
+use Rattle.af_script.specs.Places.{Place, number, tables, texts_or_none, entry_fault, bound, each_place, track_places, turns_places, places}
 use Rattle.af_script.specs.declared.op.TurnSpec.{TurnSpec}
 use Rattle.af_script.specs.declared.track.TrackSpec.{TrackSpec}
 use Rattle.af_script.specs.declared.script.TopNumbers.{TopNumbers}
@@ -26,7 +25,7 @@ top_meant tree = record {
   version = number_of 0 (value_at key.Version tree);
   frames = buffer_of tree;
   normal = number_of 0 (value_at key.Normal tree);
-  cycles = number_of 0 (value_at key.Cycles tree)
+  cycles = number_of 0 (value_at key.Cycles tree);
 }
 
 abbrev version_fault : Members → Option ScriptFault

@@ -1,9 +1,9 @@
 -- What every script that was read keeps.
-use Rattle.std.proofs.Common.{◌≡◌, ℕ, suc, ◌+◌, ◌*◌, ◌≤◌, ◌<◌, ◌==◌, ◌&&◌, nat_le, Bool, true, false, List, [], ◌∷◌, length, Option, Some, None, Result, Ok, Err, refl, sym, ap, subst, ◌∙◌, arith, if◌then◌else◌}
+use Rattle.std.proofs.Common.{◌≡◌, ℕ, ◌+◌, ◌*◌, ◌≤◌, ◌<◌, ◌==◌, ◌&&◌, nat_le, Bool, true, false, List, length, Option, Some, None, Result, Ok, Err, refl, subst, arith, if◌then◌else◌}
 use Rattle.std.specs.Prelude.{All, IfSome, ok_or, option_and_then, pos}
 use Rattle.std.proofs.lemmas.Bool.Decides.{nat_tests}
 use Rattle.toml.specs.Data.{Data, Items, Members, as_str, as_table}
-use Rattle.af_script.specs.Bounds.{most_frames, most_normal, most_cycles, most_product, most_tracks, most_buffer, most_base, unity_scale, most_ops, most_turns}
+use Rattle.af_script.specs.Bounds.{most_frames, most_normal, most_cycles, most_product, most_tracks, most_buffer, most_base, unity_scale, most_turns}
 use Rattle.af_script.specs.Text.{is_name}
 use Rattle.af_script.specs.Ops.{fast_cycles}
 use Rattle.af_script.specs.Tree.{value_at, all_keys, is_track_key, count_of, array_of}
@@ -182,5 +182,5 @@ script-keeps tree top tables texts specs turns is_top is_tables is_tracks is_tur
       tracks = all;
       turn_count = paid.count;
       turns = paid.each;
-      asked = paid.asked
+      asked = paid.asked;
     }

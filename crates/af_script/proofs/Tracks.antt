@@ -1,15 +1,14 @@
 -- What a track's table is read as: the first fault of its places, or the track that it means.
-use Rattle.std.proofs.Common.{◌≡◌, ℕ, ◌+◌, ◌==◌, Bool, true, false, List, [], ◌∷◌, length, map, Option, Some, None, Result, Ok, Err, refl, sym, ap, ◌∙◌, codes}
+use Rattle.std.proofs.Common.{◌≡◌, ℕ, ◌+◌, ◌==◌, Bool, List, ◌∷◌, length, map, Option, Result, Ok, ap, ◌∙◌, codes}
 use Rattle.std.specs.Str.{bytes_eq}
-use Rattle.toml.specs.Data.{Data, Items, Members, as_str, as_table}
+use Rattle.toml.specs.Data.{Items, Members, as_str, as_table}
 use Rattle.af_script.specs.Bounds.{most_buffer, most_base, unity_scale, most_ops}
 use Rattle.af_script.specs.Ops.{or_else, closed}
-use Rattle.af_script.specs.Tree.{value_at, all_keys, is_track_key, all_are}
+use Rattle.af_script.specs.Tree.{value_at, all_keys, is_track_key}
 use Rattle.af_script.specs.Results.{◌>>=◌}
 use Rattle.af_script.specs.Reading.{fast_in, number_in, shape_in, name_in, op_items, number_or, ops_in, track_in, track_item, track_if}
 use Rattle.af_script.specs.Meaning.{number_of, text_of, items_of, texts_of, buffer_of, track_meant, op_meant, picked}
-use Rattle.af_script.specs.Places.{Place, number, number_or_none, kind, name, texts, entry_fault, at, bound, track_places, ops_places, unless}
-use Rattle.af_script.specs.declared.op.Op.{Op}
+use Rattle.af_script.specs.Places.{Place, number, number_or_none, kind, name, texts, entry_fault, at, bound, track_places, ops_places}
 use Rattle.af_script.specs.declared.track.Shape.{Shape}
 use Rattle.af_script.specs.declared.track.TrackSpec.{TrackSpec}
 use Rattle.af_script.specs.declared.fault.ScriptFault.{ScriptFault}
@@ -56,8 +55,15 @@ abbrev after_shape : ℕ → Members → Shape → Result TrackSpec ScriptFault
 after_shape i tree shape =
     name_in (i + 1) tree >>= (λ file. op_items (i + 1) tree >>= (λ items.
     number_or (i + 1) key.Base most_base 0 tree >>= (λ base. number_or (i + 1) key.Scale unity_scale unity_scale tree >>= (λ scale.
-    ops_in i shape.frames items >>= (λ ops. Ok (record { fast = shape.fast; frames = shape.frames; mono = shape.mono;
-    base = base; scale = scale; file = file; ops = ops }))))))
+    ops_in i shape.frames items >>= (λ ops. Ok (record {
+      fast = shape.fast;
+      frames = shape.frames;
+      mono = shape.mono;
+      base = base;
+      scale = scale;
+      file = file;
+      ops = ops;
+    }))))))
 
 abbrev later_places : ℕ → Members → List Place
 later_places i tree =

@@ -1,27 +1,14 @@
 -- What every script keeps.
-use Rattle.std.specs.Prelude.{◌≡◌, ℕ, ◌+◌, ◌-◌, ◌*◌, ◌<◌, ◌≤◌, ◌&&◌, nat_le, nat_lt, Bool, true, false, List, [], ◌∷◌, length, All}
+use Rattle.std.specs.Prelude.{◌≡◌, ℕ, ◌+◌, ◌*◌, ◌<◌, ◌≤◌, true, false, length, All}
 use Rattle.af_script.specs.Bounds.{most_frames, most_normal, most_cycles, most_product, most_tracks, most_buffer, unity_scale, most_ops, most_turns, most_gain, most_write, most_value, most_fast, header_words, command_frames}
 use Rattle.af_script.specs.Text.{is_name}
-use Rattle.af_script.specs.Ops.{words_of, fast_cycles}
+use Rattle.af_script.specs.Ops.{words_of, are_whole, fast_cycles}
 use Rattle.af_script.specs.Data.{ScriptData}
 use Rattle.af_script.specs.declared.op.Op.{Op}
-use Rattle.af_script.specs.declared.op.Op.TheVariants.{OpenTrack, Start, Pause, Stop, Flush, Drain, Remove, Yield, Gain, Write, Poke}
+use Rattle.af_script.specs.declared.op.Op.TheVariants.{Gain, Write, Poke}
 use Rattle.af_script.specs.declared.op.TurnSpec.{TurnSpec}
 use Rattle.af_script.specs.declared.op.TurnSpec.TheVariants.{Client, Normal, Fast}
 use Rattle.af_script.specs.declared.track.TrackSpec.{TrackSpec}
-
--- ops without `open` that end with their only `remove`
-abbrev pub end_with_remove : List Op → Bool
-end_with_remove [] = false
-end_with_remove (OpenTrack ∷ rest) = false
-end_with_remove (Remove ∷ []) = true
-end_with_remove (Remove ∷ next ∷ rest) = false
-end_with_remove (op ∷ rest) = end_with_remove rest
-
--- ops that begin with their only `open` and end with their only `remove`
-abbrev pub are_whole : List Op → Bool
-are_whole (OpenTrack ∷ rest) = end_with_remove rest
-are_whole _ = false
 
 -- the numbers of an op of a track of so many frames
 abbrev pub HasOpNumbers : ℕ → Op → Type 0

@@ -1,5 +1,5 @@
 -- What the parts of a tree mean. A part that isn't there, or is of another type, counts as nothing; then the tree has a fault.
-use Rattle.std.specs.Prelude.{ℕ, ◌==◌, pos, List, [], length, map, codes, Option, Some, None, unwrap_or}
+use Rattle.std.specs.Prelude.{ℕ, ◌==◌, pos, List, [], length, map, codes, Option, Some, unwrap_or}
 use Rattle.std.specs.Str.{bytes_eq}
 use Rattle.toml.specs.Data.{Data, string, integer, array, Items, no_items, item, Members, as_str, as_table}
 use Rattle.std.specs.List.{cons_option}
@@ -60,7 +60,7 @@ track_meant tree = record {
   base = number_of 0 (value_at key.Base tree);
   scale = number_of unity_scale (value_at key.Scale tree);
   file = text_of (value_at key.File tree);
-  ops = closed (map (op_meant (buffer_of tree)) (texts_of (value_at key.Ops tree)))
+  ops = closed (map (op_meant (buffer_of tree)) (texts_of (value_at key.Ops tree)));
 }
 
 abbrev pub tracks_meant : Members → List TrackSpec
@@ -77,5 +77,5 @@ script_meant tree = record {
   normal = number_of 0 (value_at key.Normal tree);
   cycles = number_of 0 (value_at key.Cycles tree);
   tracks = tracks_meant tree;
-  turns = turns_meant (length (tracks_meant tree)) tree
+  turns = turns_meant (length (tracks_meant tree)) tree;
 }

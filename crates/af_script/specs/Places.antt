@@ -1,7 +1,7 @@
 -- The places of a script in the order in which they are looked at, and the fault that a place has.
 use Rattle.std.specs.Prelude.{ℕ, ◌+◌, ◌*◌, ◌&&◌, ◌||◌, nat_le, ℤ, pos, negsuc, Bool, List, [], ◌∷◌, ◌++◌, length, codes, Option, Some, None, is_some, if◌then◌else◌}
 use Rattle.std.specs.Str.{bytes_eq}
-use Rattle.toml.specs.Data.{Data, string, integer, array, Items, Members, as_str, as_table}
+use Rattle.toml.specs.Data.{Data, string, integer, array, Members, as_str, as_table}
 use Rattle.af_script.specs.Bounds.{most_frames, most_normal, most_cycles, most_product, most_tracks, most_buffer, most_base, unity_scale, most_ops, most_turns}
 use Rattle.af_script.specs.Text.{is_name}
 use Rattle.af_script.specs.Ops.{op_at, turn_of, fast_cycles}
@@ -16,13 +16,13 @@ use Rattle.af_script.specs.declared.fault.LimitId.TheVariants as limit
 
 -- The form that a key asks of its value.
 pub data Form : Type 0 where
-  number : ℕ → ℕ → Form          -- a number from .. to
+  number : ℕ → ℕ → Form  -- a number from .. to
   number_or_none : ℕ → ℕ → Form  -- the same, and the key may be missing
-  kind : Form                    -- one of the two words
-  name : Form                    -- a file's name
-  texts : Form                   -- an array of texts
-  texts_or_none : Form           -- the same, and the key may be missing
-  tables : ℕ → ℕ → Form          -- an array of so many tables
+  kind : Form  -- one of the two words
+  name : Form  -- a file's name
+  texts : Form  -- an array of texts
+  texts_or_none : Form  -- the same, and the key may be missing
+  tables : ℕ → ℕ → Form  -- an array of so many tables
 
 -- A place of a script, with what stands there. Tables, tracks, ops and turns go by number.
 pub data Place : Type 0 where

@@ -1,5 +1,5 @@
 -- The script that bytes are read as, or its first fault: one step after another.
-use Rattle.std.specs.Prelude.{ℕ, zero, suc, ◌+◌, ◌*◌, ◌==◌, ◌&&◌, nat_le, ℤ, pos, negsuc, Bool, true, false, List, [], ◌∷◌, length, codes, Option, Some, None, ok_or, option_and_then, Result, Ok, Err, if◌then◌else◌}
+use Rattle.std.specs.Prelude.{ℕ, ◌+◌, ◌*◌, ◌==◌, ◌&&◌, nat_le, ℤ, pos, negsuc, Bool, true, false, List, [], ◌∷◌, length, codes, Option, Some, None, ok_or, option_and_then, Result, Ok, Err, if◌then◌else◌}
 use Rattle.std.specs.Str.{bytes_eq}
 use Rattle.toml.specs.Data.{Data, Items, no_items, item, Members, as_integer, as_str, as_table}
 use Rattle.af_script.specs.Bounds.{most_frames, most_normal, most_cycles, most_product, most_tracks, most_buffer, most_base, unity_scale, most_ops, most_turns}
@@ -114,8 +114,15 @@ track_in track tree =
     if all_keys is_track_key tree
     then shape_in (track + 1) tree >>= (λ shape. name_in (track + 1) tree >>= (λ file. op_items (track + 1) tree >>= (λ items.
     number_or (track + 1) key.Base most_base 0 tree >>= (λ base. number_or (track + 1) key.Scale unity_scale unity_scale tree >>= (λ scale.
-    ops_in track shape.frames items >>= (λ ops. Ok (record { fast = shape.fast; frames = shape.frames; mono = shape.mono;
-    base = base; scale = scale; file = file; ops = ops })))))))
+    ops_in track shape.frames items >>= (λ ops. Ok (record {
+      fast = shape.fast;
+      frames = shape.frames;
+      mono = shape.mono;
+      base = base;
+      scale = scale;
+      file = file;
+      ops = ops;
+    })))))))
     else Err (fault.Unknown (track + 1))
 
 abbrev pub track_if : ℕ → Option Members → Result TrackSpec ScriptFault

@@ -1,5 +1,5 @@
 -- Answers of steps that find the first fault, where memory may run out.
-use Rattle.std.specs.Prelude.{◌≡◌, Option, Some, None, Result, Ok, Err}
+use Rattle.std.specs.Prelude.{◌≡◌, Result, Ok, Err}
 use Rattle.af_script.specs.declared.fault.ScriptFault.{ScriptFault}
 use Rattle.af_script.specs.declared.fault.ReadError.{ReadError}
 use Rattle.af_script.specs.declared.fault.ReadError.TheVariants.{Fault, Memory}

@@ -2,9 +2,7 @@ ghost use Rattle.std.specs.Prelude.{◌≡◌, ◌<◌, ◌≤◌};
 ghost use Rattle.af_script.specs.Bounds.{most_buffer};
 ghost use Rattle.af_script.specs.Ops.{cells_of, words_of, plain_op, gain_of, write_of, poke_stream, poke_command, op_of, may_stand, op_at, is_remove, ends_with_remove, asked_cycles, client_of, fast_of, turn_of};
 
-use crate::bounds::{
-    COMMAND_FRAMES, HEADER_WORDS, MOST_FAST, MOST_GAIN, MOST_VALUE, MOST_WRITE,
-};
+use crate::bounds::{COMMAND_FRAMES, HEADER_WORDS, MOST_FAST, MOST_GAIN, MOST_VALUE, MOST_WRITE};
 use crate::text::{number_after, pair_after};
 
 /// What a client does next.
@@ -23,11 +21,20 @@ pub enum Op {
     /// Ends the turn.
     Yield,
     /// Sets both gains, each 0 to 65535 in 4.12.
-    Gain { left: u32, right: u32 },
+    Gain {
+        left: u32,
+        right: u32,
+    },
     /// Writes the next frames of the file, 1 to 4194304.
-    Write { count: u32 },
+    Write {
+        count: u32,
+    },
     /// Stores a value in a word of the command block, or else of the stream block.
-    Poke { command: bool, word: u32, value: u32 },
+    Poke {
+        command: bool,
+        word: u32,
+        value: u32,
+    },
 }
 
 /// Whose turn it is.

@@ -57,25 +57,31 @@ impl Name {
     }
 }
 
-/// The ops of a track, of which `remove` is the last.
+/// The ops of a track: `open` is the first and only the first, `remove` the last and only the last.
 #[derive(Drop)]
 pub struct Ops {
     ops: Vec<Op>,
 }
 
 impl Model for Ops {
-    ghost use Rattle.std.specs.Prelude.{List};
+    ghost use Rattle.std.specs.Prelude.{◌≡◌, List, true};
     ghost use Rattle.af_script.specs.declared.op.Op.{Op};
+    ghost use Rattle.af_script.specs.Ops.{are_whole};
 
     ghost Value = { List Op };
 
     ghost view = { λ o. o.ops.items };
+
+    ghost invariant = { λ o. are_whole o.ops.items ≡ true };
 }
 
 impl Ops {
+    ghost use Rattle.af_script.specs.Ops.{are_whole};
+
     /// The ops in order.
     pub fn as_slice(&self) -> &[Op]
-        ensures { result.now ≡ self.now }
+        ensures ops { result.now ≡ self.now }
+        ensures whole { are_whole self.now ≡ true }
     {
         &self.ops
     }
@@ -160,12 +166,7 @@ fn op_of_item(value: &Value, frames: u32, count: usize, index: usize) -> Option<
 }
 
 /// The ops that the items of an array spell, or the first that doesn't fit.
-fn each_op(
-    alloc: Global,
-    track: u32,
-    frames: u32,
-    values: &[Value],
-) -> Result<Vec<Op>, ReadError>
+fn each_op(alloc: Global, track: u32, frames: u32, values: &[Value]) -> Result<Vec<Op>, ReadError>
     requires frames { frames ≤ most_buffer }
     requires count { length values.now ≤ most_ops }
     ensures { Reads (λ ops. ops.items) result (each_in (op_in track frames (count_of (items_view values.now))) 0 (items_view values.now)) }
