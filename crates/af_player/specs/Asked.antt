@@ -1,0 +1,116 @@
+-- What the words ask for, of the files that are there: a plan, or the first refusal in order.
+use Rattle.std.specs.Prelude.{ℕ, ◌+◌, ◌%◌, ◌^◌, nat_le, ◌==◌, ◌&&◌, not, Bool, List, [], ◌∷◌, ◌++◌, length, take, codes, Option, Some, None, ok_or, Result, Ok, Err, if◌then◌else◌}
+use Rattle.std.specs.Str.{bytes_eq}
+use Rattle.af_base.specs.declared.frame.Frame.{Frame}
+use Rattle.af_io.specs.Files.{Files}
+use Rattle.af_io.specs.Pcm.{frames_from, frame_width}
+use Rattle.af_script.specs.Text.{is_name}
+use Rattle.af_script.specs.Data.{ScriptData}
+use Rattle.af_script.specs.Reading.{script_of}
+use Rattle.af_script.specs.Ops.{fast_cycles}
+use Rattle.af_script.specs.declared.track.TrackSpec.{TrackSpec}
+use Rattle.af_script.specs.declared.fault.ScriptFault.{ScriptFault}
+use Rattle.af_player.specs.declared.status.Refusal.{Refusal}
+use Rattle.af_player.specs.declared.status.Refusal.TheVariants.{Usage, Script, File, Unbuilt}
+use Rattle.af_player.specs.declared.status.Role.{Role}
+use Rattle.af_player.specs.declared.status.Role.TheVariants as role
+use Rattle.af_player.specs.declared.status.Why.TheVariants.{Missing, Long, Ragged, Short, Total}
+use Rattle.af_player.specs.Plain.{PlanTrack, Plan}
+use Rattle.af_player.specs.declared.runnable.Written.{Written}
+use Rattle.af_player.specs.Runnable.{written_of, are_runnable_turns}
+
+-- one step and then another, up to the first refusal
+infixl 10 ◌>>=◌
+abbrev pub ◌>>=◌ : {X Y : Type 0} → Result X Refusal → (X → Result Y Refusal) → Result Y Refusal
+Ok x >>= next = next x
+Err refusal >>= next = Err refusal
+
+-- one more value before those of the steps that follow
+abbrev pub then_cons : {X : Type 0} → X → Result (List X) Refusal → Result (List X) Refusal
+then_cons x rest = rest >>= (λ xs. Ok (x ∷ xs))
+
+-- the script's and the output's name, where the words are `render` and two different names
+abbrev pub names_of : List (List ℕ) → Option (List ℕ × List ℕ)
+names_of (command ∷ script ∷ out ∷ []) =
+    if (bytes_eq command (codes "render") && (is_name script && is_name out)) && not (bytes_eq script out) then Some (script, out) else None
+names_of words = None
+
+-- a file of at most so many bytes
+abbrev pub loaded : Role → ℕ → Option (List ℕ) → Result (List ℕ) Refusal
+loaded part limit None = Err (File (record { role = part; why = Missing }))
+loaded part limit (Some bytes) = if nat_le (length bytes) limit then Ok bytes else Err (File (record { role = part; why = Long }))
+
+-- a script, or the line of its first fault
+abbrev pub script_or : Result ScriptData ScriptFault → Result ScriptData Refusal
+script_or (Ok script) = Ok script
+script_or (Err fault) = Err (Script fault)
+
+-- a track that can be played: its file, whether it is mono, its scale, and what its client writes
+pub record Playable : Type 0 where
+  pub file : List ℕ
+  pub mono : Bool
+  pub scale : ℕ
+  pub count : ℕ
+  pub gains : ℕ
+
+abbrev pub playable_with : TrackSpec → Written → Playable
+playable_with track written = record { file = track.file; mono = track.mono; scale = track.scale; count = written.count; gains = written.gains }
+
+-- the tracks, where each can be played so far
+abbrev pub playables : List TrackSpec → Result (List Playable) Refusal
+playables [] = Ok []
+playables (track ∷ tracks) = ok_or (written_of track) Unbuilt >>= (λ written. then_cons (playable_with track written) (playables tracks))
+
+-- the limits of a file and of all files, in bytes
+abbrev pub most_file : ℕ
+most_file = 2 ^ 23
+
+abbrev pub most_files : ℕ
+most_files = 2 ^ 24
+
+-- the frames of a track's file that has as many as are written
+abbrev pub frames_in : ℕ → Bool → ℕ → List ℕ → Result (List Frame) Refusal
+frames_in number mono asked bytes =
+    if length bytes % frame_width mono == 0
+    then (if nat_le asked (length (frames_from mono bytes)) then Ok (frames_from mono bytes)
+    else Err (File (record { role = role.Track number; why = Short (length (frames_from mono bytes)) asked })))
+    else Err (File (record { role = role.Track number; why = Ragged (length bytes) }))
+
+-- a file's bytes, where those of the files so far are not too many
+abbrev pub counted : ℕ → ℕ → List ℕ → Result (List ℕ) Refusal
+counted number total bytes =
+    if nat_le (total + length bytes) most_files then Ok bytes else Err (File (record { role = role.Track number; why = Total (total + length bytes) }))
+
+-- the track of a plan whose file has these frames
+abbrev pub plan_track : Playable → List Frame → PlanTrack
+plan_track playable frames = record { frames = take playable.count frames; mono = playable.mono; gains = playable.gains; scale = playable.scale }
+
+-- the track of a plan with a number, behind files of so many bytes, and the bytes of the files up to it
+abbrev pub track_in : Files → ℕ → ℕ → Playable → Result (PlanTrack × ℕ) Refusal
+track_in files number total playable =
+    loaded (role.Track number) most_file (files playable.file) >>= counted number total >>= (λ bytes. frames_in number playable.mono playable.count bytes >>= (λ frames.
+    Ok (plan_track playable frames, total + length bytes)))
+
+-- the tracks of a plan, from a number on
+abbrev pub tracks_in : Files → ℕ → ℕ → List Playable → Result (List PlanTrack) Refusal
+tracks_in files number total [] = Ok []
+tracks_in files number total (playable ∷ rest) = track_in files number total playable >>= (λ one. then_cons one.0 (tracks_in files (number + 1) one.1 rest))
+
+-- what can be played so far of a script: its tracks
+abbrev pub runnable : ScriptData → Result (List Playable) Refusal
+runnable script =
+    if nat_le (length script.tracks) 7 && are_runnable_turns script.tracks script.turns then playables script.tracks else Err Unbuilt
+
+-- what a script plays of its files
+abbrev pub plan_of : Files → ScriptData → Result Plan Refusal
+plan_of files script =
+    runnable script >>= (λ list. tracks_in files 0 0 list >>= (λ tracks.
+    Ok (record { len = script.frames; cycles = fast_cycles script.turns; tracks = tracks })))
+
+-- what the file of a script plays
+abbrev pub prepared_of : Files → List ℕ → Result Plan Refusal
+prepared_of files name = loaded role.Script (2 ^ 20) (files name) >>= (λ bytes. script_or (script_of bytes) >>= plan_of files)
+
+-- what the words ask for: the output's name and the plan
+abbrev pub asked_of : Files → List (List ℕ) → Result (List ℕ × Plan) Refusal
+asked_of files words = ok_or (names_of words) Usage >>= (λ names. prepared_of files names.0 >>= (λ plan. Ok (names.1, plan)))
