@@ -1,6 +1,11 @@
 //! The plain machines: what a block is after some events, and which orders of events are legal.
 #![tactic(auto)]
 
+mod merging;
+mod pieces;
 mod point;
+mod search;
+mod step;
 
+pub use merging::{Merge, merge_check};
 pub use point::TrackPoint;
