@@ -1,6 +1,12 @@
 //! The plain machines: what a block is after some events, and which orders of events are legal.
 #![tactic(auto)]
 
+#[cfg(test)]
+mod merge_plain;
+#[cfg(test)]
+mod merge_random;
+#[cfg(test)]
+mod merge_tests;
 mod merging;
 mod pieces;
 mod point;

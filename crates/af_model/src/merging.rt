@@ -1,5 +1,5 @@
 //! Whether three lists of events have an order in which each event is legal.
-ghost use Rattle.std.specs.Prelude.{◌≡◌, ◌++◌, ◌↔◌, [], IfOk, OnOk, OnErr, IsErr, IsTrue, true, false};
+ghost use Rattle.std.specs.Prelude.{◌≡◌, ◌+◌, ◌^◌, ◌≤◌, ◌↔◌, [], length, IfOk, OnOk, OnErr, IsErr, IsTrue, true, false};
 ghost use Rattle.af_model.specs.Merges.{HasLegalOrder, AreShort, IsStart, merged, with_pieces};
 
 use crate::pieces::{Search, extend};
@@ -87,7 +87,9 @@ impl Merge {
         server: &[ServerEvent],
         hand: &[HandEvent],
     ) -> Result<bool, Memory>
-        requires short { AreShort (self.old.client ++ client.now) (self.old.server ++ server.now) (self.old.hand ++ hand.now) }
+        requires client { length self.old.client + length client.now ≤ 2 ^ 30 }
+        requires server { length self.old.server + length server.now ≤ 2 ^ 30 }
+        requires hand { length self.old.hand + length hand.now ≤ 2 ^ 30 }
         ensures answer { IfOk result (λ yes. IsTrue yes ↔ HasLegalOrder self.new.from self.new.client self.new.server self.new.hand) }
         ensures joined { OnOk result (self.new ≡ with_pieces self.old client.now server.now hand.now) }
         ensures from { self.new.from ≡ self.old.from }
