@@ -91,4 +91,3 @@ names-fewer (hand.Met known ∷ hs) i j h e =
     let both = and_parts (nat_le j known) (names_at_least j hs) e in
     let low : i ≤ known = let b = le_is j known both.0 in omega arith in
     and_true (nat_le i known) (names_at_least i hs) (is_le i known low) (names-fewer hs i j h both.1)
-

@@ -173,4 +173,3 @@ HasWalk-from_order l from h =
     } in
     let t = turns l from h.order [] [] [] h.legal rest in
     (t.ws, stage_of from h.order, t.leads, record { client = ap length h.client_is; server = ap length h.server_is; hand = ap length h.hand_is })
-

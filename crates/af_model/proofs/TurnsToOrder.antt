@@ -199,4 +199,3 @@ HasLegalOrder-from_walk l from h =
       server_is = s.server ∙ take_whole l.server h.1.servers h.3.server;
       hand_is = s.hand ∙ take_whole l.hand h.1.hands h.3.hand;
     }
-

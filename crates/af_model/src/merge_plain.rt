@@ -139,7 +139,11 @@ fn is_legal(lists: Lists<'_>, from: &TrackPoint, code: u32, turns: usize) -> boo
 
 /// Whether some order is legal, by trying all.
 pub(crate) fn some_order(lists: Lists<'_>, from: &TrackPoint) -> bool {
-    let turns = lists.0.len().wrapping_add(lists.1.len()).wrapping_add(lists.2.len());
+    let turns = lists
+        .0
+        .len()
+        .wrapping_add(lists.1.len())
+        .wrapping_add(lists.2.len());
     let mut codes = 1u32;
     for _ in 0..turns {
         codes = codes.wrapping_mul(3);

@@ -176,6 +176,9 @@ fn answers_as_all_orders_do(rt: HostRuntime) -> Result<(), Fail> {
         assert_eq!(rt; got, (want.0, (want.1, want.2, want.0)), "triple {number}");
         legal = legal.wrapping_add(u32::from(want.0));
     }
-    assert!(rt; legal > 600 && legal < 5400, "{legal} of 6000 have a legal order");
+    assert!(rt;
+        legal > 600 && legal < 5400,
+        "{legal} of 6000 have a legal order"
+    );
     Ok(())
 }

@@ -34,10 +34,12 @@ fn cut<'a>(lists: Lists<'a>, at: (usize, usize, usize)) -> (Lists<'a>, Lists<'a>
     ((client.0, server.0, hand.0), (client.1, server.1, hand.1))
 }
 
-fn is_small(lists: Lists<'_>) -> bool
-    ensures { IsTrue result → (length lists.0.now ≤ 1000) × (length lists.1.now ≤ 1000) × (length lists.2.now ≤ 1000) }
+fn is_small(client: &[ClientEvent], server: &[ServerEvent], hand: &[HandEvent]) -> bool
+    ensures client { IsTrue result → length client.now ≤ 1000 }
+    ensures server { IsTrue result → length server.now ≤ 1000 }
+    ensures hand { IsTrue result → length hand.now ≤ 1000 }
 {
-    lists.0.len() <= 1000 && lists.1.len() <= 1000 && lists.2.len() <= 1000
+    client.len() <= 1000 && server.len() <= 1000 && hand.len() <= 1000
 }
 
 /// What `merge_check` answers, and a `Merge` after each of three pieces.
@@ -52,7 +54,13 @@ pub(crate) fn decide(
 {
     let (two, third) = cut(lists, middle);
     let (one, second) = cut(two, first);
-    if !is_small(lists) || !is_small(one) || !is_small(second) || !is_small(third) {
+    if !is_small(lists.0, lists.1, lists.2) {
+        return Err(Memory);
+    }
+    if !is_small(one.0, one.1, one.2) || !is_small(second.0, second.1, second.2) {
+        return Err(Memory);
+    }
+    if !is_small(third.0, third.1, third.2) {
         return Err(Memory);
     }
     let whole = merge_check(alloc, lists.0, lists.1, lists.2, from)?;
@@ -81,10 +89,22 @@ fn takes_only_what_was_seen(rt: HostRuntime) -> Result<(), Fail> {
             ServerEvent::SawFront { front: FRONT },
             ServerEvent::Take { count },
         ];
-        let alone = decide(rt.alloc(), (&client, &server, &[]), (5, 2, 0), (8, 3, 0), &from)?;
+        let alone = decide(
+            rt.alloc(),
+            (&client, &server, &[]),
+            (5, 2, 0),
+            (8, 3, 0),
+            &from,
+        )?;
         assert_eq!(rt; (alone.0, alone.1.2), (want, want), "take {count}");
         let met = [HandEvent::Met { client: 8 }];
-        let with_hand = decide(rt.alloc(), (&client, &server, &met), (8, 1, 0), (8, 4, 0), &from)?;
+        let with_hand = decide(
+            rt.alloc(),
+            (&client, &server, &met),
+            (8, 1, 0),
+            (8, 4, 0),
+            &from,
+        )?;
         assert_eq!(rt; (with_hand.0, with_hand.1.2), (want, want), "take {count}, met");
     }
     Ok(())
@@ -99,7 +119,13 @@ fn late_meeting_reaches_back(rt: HostRuntime) -> Result<(), Fail> {
             HandEvent::SetFlags { bits: 8 },
             HandEvent::Met { client: known },
         ];
-        let got = decide(rt.alloc(), (&client, &[], &hand), (1, 0, 1), (1, 0, 1), &fresh(0))?;
+        let got = decide(
+            rt.alloc(),
+            (&client, &[], &hand),
+            (1, 0, 1),
+            (1, 0, 1),
+            &fresh(0),
+        )?;
         assert_eq!(rt; got, (want, (true, true, want)), "met {known}");
     }
     Ok(())
@@ -110,7 +136,13 @@ fn late_meeting_reaches_back(rt: HostRuntime) -> Result<(), Fail> {
 fn late_hand_may_stand_first(rt: HostRuntime) -> Result<(), Fail> {
     let client = [ClientEvent::ClearFlags { old: 8 }];
     let hand = [HandEvent::SetFlags { bits: 8 }];
-    let got = decide(rt.alloc(), (&client, &[], &hand), (1, 0, 0), (1, 0, 0), &fresh(0))?;
+    let got = decide(
+        rt.alloc(),
+        (&client, &[], &hand),
+        (1, 0, 0),
+        (1, 0, 0),
+        &fresh(0),
+    )?;
     assert_eq!(rt; got, (true, (false, false, true)));
     Ok(())
 }
@@ -120,14 +152,26 @@ fn late_hand_may_stand_first(rt: HostRuntime) -> Result<(), Fail> {
 fn meeting_may_stand_early(rt: HostRuntime) -> Result<(), Fail> {
     let client = [ClientEvent::Release { count: 1 }];
     let early = [HandEvent::Met { client: 1 }, HandEvent::Met { client: 0 }];
-    let got = decide(rt.alloc(), (&client, &[], &early), (0, 0, 1), (1, 0, 1), &fresh(0))?;
+    let got = decide(
+        rt.alloc(),
+        (&client, &[], &early),
+        (0, 0, 1),
+        (1, 0, 1),
+        &fresh(0),
+    )?;
     assert_eq!(rt; got, (true, (true, true, true)));
     let crossed = [
         HandEvent::Met { client: 1 },
         HandEvent::SetFlags { bits: 8 },
         HandEvent::Met { client: 0 },
     ];
-    let got = decide(rt.alloc(), (&client, &[], &crossed), (1, 0, 1), (1, 0, 2), &fresh(0))?;
+    let got = decide(
+        rt.alloc(),
+        (&client, &[], &crossed),
+        (1, 0, 1),
+        (1, 0, 2),
+        &fresh(0),
+    )?;
     assert_eq!(rt; got, (false, (true, true, false)));
     Ok(())
 }
@@ -143,7 +187,13 @@ fn rear_may_wait_for_its_word(rt: HostRuntime) -> Result<(), Fail> {
         ServerEvent::SawRear { rear: 0 },
         ServerEvent::Take { count: 5 },
     ];
-    let got = decide(rt.alloc(), (&client, &server, &[]), (0, 2, 0), (1, 2, 0), &fresh(0))?;
+    let got = decide(
+        rt.alloc(),
+        (&client, &server, &[]),
+        (0, 2, 0),
+        (1, 2, 0),
+        &fresh(0),
+    )?;
     assert_eq!(rt; got, (true, (false, false, true)));
     Ok(())
 }
