@@ -13,14 +13,14 @@ use Rattle.af_base.specs.declared.event.HandEvent.TheVariants as hand
 use Rattle.af_model.specs.declared.search.Stage.{Stage}
 use Rattle.af_model.specs.MergeSteps.{client_step, server_step}
 use Rattle.af_model.specs.Point.{after_hand}
-use Rattle.af_model.specs.Walks.{walk, IsReached, IsLevel}
+use Rattle.af_model.specs.Walks.{walk, IsReached}
 use Rattle.af_model.specs.Stages.{Lists, Who, Client, Server, Hand, move, eager, is_met, kept, keeps_event, keeps_mets, with_client, with_server, with_hand, begin, IsWhole, HasWalk, InBounds}
 use Rattle.af_model.specs.Merges.{IsStart}
 use Rattle.af_model.specs.MergePieces.{knows_no_more, is_open, IsOpen, IsFrontier, IsAhead, names_at_least, joined}
 use Rattle.af_model.specs.MergeSearch.{lists_in, MayStart, Afresh, GoesOn}
 use Rattle.af_model.specs.declared.pieces.Search.{Search}
 use Rattle.af_model.proofs.Levels.{walk-push, walk-append}
-use Rattle.af_model.proofs.StageCounts.{only_one, total, count-walk}
+use Rattle.af_model.proofs.StageCounts.{IsWithin, only_one}
 use Rattle.af_model.proofs.EagerMets.{eager-walk, follows-walk, ahead-itself}
 use Rattle.af_model.proofs.Mets.{and_true, and_parts, keeps-append}
 
@@ -69,12 +69,6 @@ knows-front (hand.SetFlags bits ∷ a) b i e = knows-front a b i e
 knows-front (hand.Met known ∷ a) b i e =
     let both = and_parts (nat_le known i) (knows_no_more (a ++ b) i) e in
     and_true (nat_le known i) (knows_no_more a i) both.0 (knows-front a b i both.1)
-
--- no more events have stood than there are
-pub record IsWithin (l : Lists) (m : Stage) : Type 0 where
-  pub clients : m.clients ≤ length l.client
-  pub servers : m.servers ≤ length l.server
-  pub hands : m.hands ≤ length l.hand
 
 -- a step that can be made can still be made when more events have come
 pub record Lifts (l : Lists) (cs : List ClientEvent) (ss : List ServerEvent) (hs : List HandEvent) (w : Who) (x y : Stage) : Type 0 where
@@ -332,22 +326,6 @@ HasWalk-at_frontier l from stages frontier = (
   (λ r. let p = frontier.complete r.0 r.1 r.2 (open-client l r.1 r.3.client) in (p.0, p.1, whole-ahead l r.1 p.0 p.2 r.3)),
 )
 
--- a whole stage on the level of all events is the end of an order, and each order has one there
-pub HasWalk-at_level : (l : Lists) (from : TrackPoint) (now : List Stage) → IsLevel (eager l) (begin from ∷ []) (total l) now
-    → ((m : Stage) × Contains now m × IsWhole l m) ↔ HasWalk l from
-HasWalk-at_level l from now level = (
-  (λ r.
-      let s = level.sound r.0 r.1 in
-      let at : s.0 ≡ begin from = only_one (begin from) s.0 s.1 in
-      (s.2, r.0, ap (walk (move l) s.2) (sym at) ∙ eager-walk l s.2 s.0 r.0 s.4, r.2)),
-  (λ r.
-      let f = follows-walk l r.0 (begin from) r.1 (begin from) (starts-ahead l from) r.2 in
-      let whole = whole-ahead l r.1 f.end f.ahead r.3 in
-      let many : length f.ws ≡ total l =
-      omega (arith, count-walk l f.ws (begin from) f.end (eager-walk l f.ws (begin from) f.end f.walk), whole.client, whole.server, whole.hand) in
-      (f.end, level.complete (begin from) f.ws f.end (0, omega arith, refl) many f.walk, whole)),
-)
-
 -- what was searched from stages that it may begin at is all of it
 pub IsFrontier-from_starts : (s : Search) (cs : List ClientEvent) (ss : List ServerEvent) (hs : List HandEvent) (starts found : List Stage)
     → MayStart s hs starts → IsReached (eager (joined (lists_in s) cs ss hs)) (IsOpen (joined (lists_in s) cs ss hs)) starts found
@@ -375,21 +353,24 @@ InBounds-more l cs ss hs m names b = record {
   kept = keeps-append l.hand hs 0 m.clients m.hands b.kept (keeps-new (length l.client) hs (0 + length l.hand) m.clients m.hands names b.clients (omega (arith, b.hands)));
 }
 
+-- the beginning is in bounds
+pub InBounds-first : (l : Lists) (from : TrackPoint) → IsStart from → InBounds l (begin from)
+InBounds-first l from p = record {
+  released = omega (arith, p.released);
+  rear_seen = omega (arith, p.rear_seen);
+  consumed = omega (arith, p.consumed);
+  flushes = omega (arith, p.flushes);
+  clients = omega arith;
+  servers = omega arith;
+  hands = omega arith;
+  kept = keeps_first l.hand 0;
+}
+
 -- such stages are in bounds
 pub All-InBounds-from_starts : (s : Search) (cs : List ClientEvent) (ss : List ServerEvent) (hs : List HandEvent) (starts : List Stage)
     → MayStart s hs starts → IsStart s.from → All (InBounds (joined (lists_in s) cs ss hs)) starts
 All-InBounds-from_starts s cs ss hs starts (Afresh e) p =
     let l = joined (lists_in s) cs ss hs in
-    let here : InBounds l (begin s.from) = record {
-      released = omega (arith, p.released);
-      rear_seen = omega (arith, p.rear_seen);
-      consumed = omega (arith, p.consumed);
-      flushes = omega (arith, p.flushes);
-      clients = omega arith;
-      servers = omega arith;
-      hands = omega arith;
-      kept = keeps_first l.hand 0;
-    } in
-    subst (All (InBounds l)) (sym e) (all_one (InBounds l) (begin s.from) here)
+    subst (All (InBounds l)) (sym e) (all_one (InBounds l) (begin s.from) (InBounds-first l s.from p))
 All-InBounds-from_starts s cs ss hs starts (GoesOn names frontier bounds) p =
     λ k d h. InBounds-more (lists_in s) cs ss hs _ names (bounds k d h)

@@ -1,11 +1,12 @@
 -- From the places where walks of one length end to those of the next.
-use Rattle.std.proofs.Common.{◌≡◌, ◌⊎◌, ℕ, zero, suc, ◌+◌, ◌-◌, ◌<◌, ◌≤◌, List, [], ◌∷◌, ◌++◌, length, take, drop, get_or, Option, Some, None, Bool, true, false, cond, refl, ap, ◌∙◌, sym, subst, inl, inr, arith, length-append}
+use Rattle.std.proofs.Common.{◌≡◌, ◌⊎◌, ℕ, zero, suc, ◌+◌, ◌<◌, ◌≤◌, List, [], ◌∷◌, ◌++◌, length, take, drop, get_or, Option, Some, None, Bool, true, false, cond, ◌==◌, refl, ap, ◌∙◌, sym, subst, inl, inr, arith}
 use Rattle.std.specs.Option.{option_and_then, IfSome}
 use Rattle.std.specs.List.{Contains, All}
 use Rattle.std.proofs.lemmas.Option.{option_and_then_some, same_Some, MatchOption-at_some}
 use Rattle.std.proofs.lemmas.List.{take_more}
 use Rattle.std.proofs.lemmas.List.Elements.{Contains-get_or, Contains-append_left, Contains-append_right, Contains-push, Contains-push_cases, All-contains}
 use Rattle.std.proofs.lemmas.Bool.{cases_lt}
+use Rattle.std.proofs.lemmas.Bool.Decides.{nat_tests}
 use Rattle.af_model.specs.Walks.{walk, IsNext, IsLevel, IsFoundBelow, IsReached, Collects, Adds, Spreads}
 
 take-drop : {X : Type 0} (n : ℕ) (xs : List X) → take n xs ++ drop n xs ≡ xs
@@ -40,84 +41,106 @@ walk-split step (v ∷ ws) w start n e =
     option_and_then_some (walk step (ws ++ w ∷ [])) (step v start) n e
     (λ x is rest. let r = walk-split step ws w x n rest in (r.0, ap (option_and_then (walk step ws)) is ∙ r.1, r.2))
 
--- a list that isn't empty ends with an element
-pub split_last : {W : Type 0} (ws : List W) (n : ℕ) → length ws ≡ n + 1
-    → (front : List W) × (w : W) × (ws ≡ front ++ w ∷ []) × (length front ≡ n)
-split_last [] n h = absurd (omega arith)
-split_last (w ∷ []) n h = ([], w, refl, omega arith)
-split_last (w ∷ v ∷ vs) n h =
-    let r = split_last (v ∷ vs) (n - 1) (omega arith) in
-    (w ∷ r.0, r.1, ap (λ t. w ∷ t) r.2, omega (arith, r.3))
+-- a list is empty or ends with an element
+pub data Ends {W : Type 0} (ws : List W) : Type 0 where
+  Empty : ws ≡ [] → Ends ws
+  Last : (front : List W) (w : W) → ws ≡ front ++ w ∷ [] → Ends ws
+
+ends-cons : {W : Type 0} (w : W) (ws : List W) → Ends ws → Ends (w ∷ ws)
+ends-cons w ws (Empty e) = Last [] w (ap (λ t. w ∷ t) e)
+ends-cons w ws (Last front v e) = Last (w ∷ front) v (ap (λ t. w ∷ t) e)
+
+ends : {W : Type 0} (ws : List W) → Ends ws
+ends [] = Empty refl
+ends (w ∷ ws) = ends-cons w ws (ends ws)
+
+-- each step makes a place larger by one
+abbrev pub Enlarges : {W M : Type 0} → (W → M → Option M) → (M → ℕ) → Type 0
+Enlarges {W = W} {M = M} step size = (w : W) (m n : M) → step w m ≡ Some n → size n ≡ size m + 1
+
+pub size-walk : {W M : Type 0} (step : W → M → Option M) (size : M → ℕ) → Enlarges step size → (ws : List W) (s m : M)
+    → walk step ws s ≡ Some m → size m ≡ size s + length ws
+size-walk step size more [] s m e = let h : s ≡ m = same_Some _ _ e in omega (arith, ap size h)
+size-walk step size more (w ∷ ws) s m e =
+    option_and_then_some (walk step ws) (step w s) m e
+    (λ x is rest. omega (arith, more w s x is, size-walk step size more ws x m rest))
 
 no_steps : {W M : Type 0} (step : W → M → Option M) (ws : List W) (s m : M) → length ws ≡ 0 → walk step ws s ≡ Some m → s ≡ m
 no_steps step [] s m l e = same_Some _ _ e
 no_steps step (w ∷ ws) s m l e = absurd (omega arith)
 
-pub level-zero : {W M : Type 0} (step : W → M → Option M) (starts : List M) → IsLevel step starts 0 starts
-level-zero step starts = record {
-  sound = λ m c. (m, c, [], refl, refl);
-  complete = λ s ws m c l e. subst (Contains starts) (no_steps step ws s m l e) c;
+same_is : (a b : ℕ) → a ≡ b → (a == b) ≡ true
+same_is a b h = grind (arith, nat_tests)
+
+-- the starts of the least size
+pub level-first : {W M : Type 0} (step : W → M → Option M) (size : M → ℕ) (starts now : List M) (n : ℕ) → Enlarges step size
+    → All (λ s. n ≤ size s) starts → Collects (λ s. (size s == n) ≡ true) starts [] now → IsLevel step size starts n now
+level-first step size starts now n more least collects = record {
+  sound = λ m c.
+      elim (collects.only m c) [
+        | inl none ↦ absurd (omega (arith, none.1))
+        | inr start ↦ (m, start, [], refl)
+      ];
+  complete = λ s ws m c e k.
+      let none : length ws ≡ 0 = omega (arith, size-walk step size more ws s m e, All-contains (λ s. n ≤ size s) starts s least c, k) in
+      let same : s ≡ m = no_steps step ws s m none e in
+      subst (Contains now) same (collects.has s c (same_is _ _ (ap size same ∙ k)));
 }
 
-pub level-more : {W M : Type 0} (step : W → M → Option M) (starts : List M) (count : ℕ) (now next : List M)
-    → IsLevel step starts count now → IsNext step now next → IsLevel step starts (count + 1) next
-level-more step starts count now next level is = record {
-  sound = λ n c.
-      let r = is.sound n c in
-      let s = level.sound r.1 r.2 in
-      (s.0, s.1, s.2 ++ r.0 ∷ [], omega (arith, length-append s.2 (r.0 ∷ []), s.3), walk-push step s.2 r.0 s.0 r.1 n s.4 r.3);
-  complete = λ s ws n c l e.
-      let r = split_last ws count l in
-      let t = walk-split step r.0 r.1 s n (ap (λ v. walk step v s) (sym r.2) ∙ e) in
-      is.complete r.1 t.0 n (level.complete s r.0 t.0 c r.3 t.1) t.2;
+-- one size further
+pub level-more : {W M : Type 0} (step : W → M → Option M) (size : M → ℕ) (starts now next new : List M) (n : ℕ) → Enlarges step size
+    → IsLevel step size starts n now → IsNext step now next → Collects (λ s. (size s == n + 1) ≡ true) starts next new → IsLevel step size starts (n + 1) new
+level-more step size starts now next new n more level is collects = record {
+  sound = λ m c.
+      elim (collects.only m c) [
+        | inl came ↦
+            let r = is.sound m came in
+            let s = level.sound r.1 r.2 in
+            (s.0, s.1, s.2 ++ r.0 ∷ [], walk-push step s.2 r.0 s.0 r.1 m s.3 r.3)
+        | inr start ↦ (m, start, [], refl)
+      ];
+  complete = λ s ws m c e k.
+      elim (ends ws) [
+        | Empty none ↦
+            let same : s ≡ m = no_steps step ws s m (ap length none) e in
+            subst (Contains new) same (collects.has s c (same_is _ _ (ap size same ∙ k)))
+        | Last front w is_last ↦
+            let t = walk-split step front w s m (ap (λ v. walk step v s) (sym is_last) ∙ e) in
+            let low : size t.0 ≡ n = omega (arith, more w t.0 m t.2, k) in
+            collects.keeps m (is.complete w t.0 m (level.complete s front t.0 c t.1 low) t.2)
+      ];
 }
 
--- a walk passes each level below its length
-pub walk-passes : {W M : Type 0} (step : W → M → Option M) (count : ℕ) (ws : List W) (s m : M) → count ≤ length ws → walk step ws s ≡ Some m
-    → (vs : List W) × (x : M) × (length vs ≡ count) × (walk step vs s ≡ Some x)
-walk-passes step zero ws s m l e = ([], s, refl, refl)
-walk-passes step (suc count) [] s m l e = absurd (omega arith)
-walk-passes step (suc count) (w ∷ ws) s m l e =
-    option_and_then_some (walk step ws) (step w s) m e
-    (λ y is rest.
-    let r = walk-passes step count ws y m (omega arith) rest in
-    (w ∷ r.0, r.1, omega (arith, r.2), ap (option_and_then (walk step r.0)) is ∙ r.3))
-
-pub found-none : {W M : Type 0} (step : W → M → Option M) (Counts : M → Type 0) (starts : List M) → IsFoundBelow step Counts starts 0 []
-found-none step Counts starts = record {
+pub found-none : {W M : Type 0} (step : W → M → Option M) (size : M → ℕ) (Counts : M → Type 0) (starts : List M) (n : ℕ) → Enlarges step size
+    → All (λ s. n ≤ size s) starts → IsFoundBelow step size Counts starts n []
+found-none step size Counts starts n more least = record {
   sound = λ m c. absurd (omega (arith, c.1));
-  complete = λ s ws m c l e k. absurd (omega (arith, l));
+  complete = λ s ws m c e l k. absurd (omega (arith, size-walk step size more ws s m e, All-contains (λ s. n ≤ size s) starts s least c, l));
 }
 
-pub found-more : {W M : Type 0} (step : W → M → Option M) (Counts : M → Type 0) (starts now old new : List M) (count : ℕ)
-    → IsLevel step starts count now → IsFoundBelow step Counts starts count old → Collects Counts now old new
-    → IsFoundBelow step Counts starts (count + 1) new
-found-more step Counts starts now old new count level found collects = record {
+pub found-more : {W M : Type 0} (step : W → M → Option M) (size : M → ℕ) (Counts : M → Type 0) (starts now old new : List M) (n : ℕ)
+    → IsLevel step size starts n now → IsFoundBelow step size Counts starts n old → Collects Counts now old new
+    → IsFoundBelow step size Counts starts (n + 1) new
+found-more step size Counts starts now old new n level found collects = record {
   sound = λ m c.
       elim (collects.only m c) [
         | inl before ↦ found.sound m before
-        | inr here ↦ let r = level.sound m here in (r.0, r.1, r.2, r.4)
+        | inr here ↦ level.sound m here
       ];
-  complete = λ s ws m c l e k.
-      elim (cases_lt (length ws) count) [
-        | inl below ↦ collects.keeps m (found.complete s ws m c below e k)
-        | inr above ↦ collects.has m (level.complete s ws m c (omega arith) e) k
+  complete = λ s ws m c e l k.
+      elim (cases_lt (size m) n) [
+        | inl below ↦ collects.keeps m (found.complete s ws m c e below k)
+        | inr above ↦ collects.has m (level.complete s ws m c e (omega arith)) k
       ];
 }
 
--- where a level is empty, no walk is longer
-pub found-all : {W M : Type 0} (step : W → M → Option M) (Counts : M → Type 0) (starts found : List M) (count : ℕ)
-    → IsLevel step starts count [] → IsFoundBelow step Counts starts count found → IsReached step Counts starts found
-found-all step Counts starts found count level below = record {
+-- where no place is as large as that
+pub found-all : {W M : Type 0} (step : W → M → Option M) (size : M → ℕ) (Counts : M → Type 0) (starts found : List M) (n : ℕ)
+    → ((s : M) (ws : List W) (m : M) → Contains starts s → walk step ws s ≡ Some m → size m < n)
+    → IsFoundBelow step size Counts starts n found → IsReached step Counts starts found
+found-all step size Counts starts found n short below = record {
   sound = below.sound;
-  complete = λ s ws m c e k.
-      elim (cases_lt (length ws) count) [
-        | inl short ↦ below.complete s ws m c short e k
-        | inr long ↦
-            let r = walk-passes step count ws s m long e in
-            let none = level.complete s r.0 r.1 c r.2 r.3 in
-            absurd (omega (arith, none.1))
-      ];
+  complete = λ s ws m c e k. below.complete s ws m c e (short s ws m c e) k;
 }
 
 pub next-none : {W M : Type 0} (step : W → M → Option M) (now : List M) → IsNext step (take 0 now) []
@@ -152,6 +175,11 @@ All-added P old new Q only more all k d h =
       | inl before ↦ All-contains P old _ all before
       | inr found ↦ more _ found
     ]
+
+-- what holds of the old and of what is collected holds of the new
+pub All-collected : {M : Type 0} (P : M → Type 0) (Counts : M → Type 0) (now old new : List M) → Collects Counts now old new → All P now → All P old → All P new
+All-collected P Counts now old new collects here before =
+    All-added P old new (Contains now) collects.only (λ x i. All-contains P now x here i) before
 
 pub All-from_adds : {M : Type 0} (P : M → Type 0) (old : List M) (found : Option M) (new : List M)
     → Adds old found new → IfSome found P → All P old → All P new

@@ -1,5 +1,5 @@
 -- The search's own form of an order: whose event is next, turn by turn, and the stage that it leads to.
-use Rattle.std.specs.Prelude.{◌≡◌, ℕ, ◌+◌, ◌<◌, ◌≤◌, ◌*◌, ◌^◌, List, [], ◌∷◌, length, Bool, true, false, Option, Some, None, zero, suc, nat_le, ◌&&◌, ◌||◌, if◌then◌else◌, slice_get}
+use Rattle.std.specs.Prelude.{◌≡◌, ℕ, ◌+◌, ◌<◌, ◌≤◌, ◌*◌, ◌^◌, List, [], ◌∷◌, length, Bool, true, false, Option, Some, None, zero, suc, nat_le, ◌&&◌, ◌||◌, if◌then◌else◌, slice_get, ◌==◌}
 use Rattle.std.specs.Option.{option_and_then}
 use Rattle.af_model.specs.declared.point.TrackPoint.{TrackPoint}
 use Rattle.af_base.specs.declared.event.ClientEvent.{ClientEvent}
@@ -82,6 +82,17 @@ eager l w m = if takes_met l.hand m then hand_only l w m else move l w m
 -- before all events
 abbrev pub begin : TrackPoint → Stage
 begin p = record { point = p; clients = 0; servers = 0; hands = 0 }
+
+-- how many events of all lists have stood
+abbrev pub count : Stage → ℕ
+count m = m.clients + m.servers + m.hands
+
+abbrev pub HasCount : ℕ → Stage → Type 0
+HasCount n m = (count m == n) ≡ true
+
+-- how many there are
+abbrev pub total : Lists → ℕ
+total l = length l.client + length l.server + length l.hand
 
 -- after all events
 pub record IsWhole (l : Lists) (m : Stage) : Type 0 where

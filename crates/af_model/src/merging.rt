@@ -2,9 +2,9 @@
 ghost use Rattle.std.specs.Prelude.{◌≡◌, ◌+◌, ◌^◌, ◌≤◌, ◌↔◌, [], length, IfOk, OnOk, OnErr, IsErr, IsTrue, true, false};
 ghost use Rattle.af_model.specs.Merges.{HasLegalOrder, AreShort, IsStart, merged, with_pieces};
 
-use crate::pieces::{Search, extend};
+use crate::pieces::{Search, extend, has_order};
 use crate::point::TrackPoint;
-use crate::search::{Events, has_order};
+use crate::search::Events;
 use af_base::{ClientEvent, HandEvent, Memory, ServerEvent};
 use std::alloc::{AllocError, Global};
 use std::marker::Model;

@@ -1,7 +1,7 @@
 //! The search for an order of lists that come piece by piece.
 ghost use Rattle.std.specs.Prelude.{◌≡◌, ◌∷◌, [], ◌+◌, ◌*◌, ◌<◌, ◌≤◌, ◌^◌, ◌↔◌, IfOk, IfSome, IsTrue, OnOk, All, Contains, false, ◌==◌, ◌&&◌, length, true, if◌then◌else◌};
 ghost use Rattle.af_model.specs.Walks.{IsLevel, IsFoundBelow, IsReached, Collects};
-ghost use Rattle.af_model.specs.Stages.{keeps_mets, move, eager, begin, lists_of, IsWhole, InBounds, AreShortLists, HasWalk};
+ghost use Rattle.af_model.specs.Stages.{keeps_mets, move, eager, begin, lists_of, IsWhole, InBounds, AreShortLists, HasWalk, HasCount, count, total};
 ghost use Rattle.af_model.specs.MergePieces.{knows_no_more, is_open, IsOpen, IsFrontier, names_at_least, joined};
 ghost use Rattle.af_model.specs.MergeSearch.{Knows, MayStart, SameLists, lists_in};
 ghost use Rattle.af_model.specs.Merges.{IsStart};
@@ -63,22 +63,96 @@ fn collect(events: &Events<'_>, now: &[Stage], found: &mut Vec<Stage>) -> Result
     Ok(())
 }
 
-/// The open stages that these lead to.
-fn settle(alloc: Global, events: &Events<'_>, starts: Vec<Stage>) -> Result<Vec<Stage>, AllocError>
+fn count_of(events: &Events<'_>, stage: &Stage) -> usize
     requires short { AreShortLists (lists_of events.now) }
-    requires bounds { All (InBounds (lists_of events.now)) starts.items }
-    ensures reached { IfOk result (λ found. IsReached (eager (lists_of events.now)) (IsOpen (lists_of events.now)) starts.items found.items) }
+    requires bounds { InBounds (lists_of events.now) stage.now }
+    ensures { result ≡ count stage.now }
+{
+    let _ = events;
+    stage.clients + stage.servers + stage.hands
+}
+
+/// The least count of these stages.
+fn least_count(events: &Events<'_>, starts: &[Stage]) -> usize
+    requires short { AreShortLists (lists_of events.now) }
+    requires bounds { All (InBounds (lists_of events.now)) starts.now }
+    ensures least { All (λ s. result ≤ count s) starts.now }
+    ensures short { result ≤ total (lists_of events.now) }
+{
+    let mut least = events.client.len() + events.server.len() + events.hand.len();
+    for stage in starts {
+        least = least.min(count_of(events, stage));
+    }
+    least
+}
+
+fn if_counts(events: &Events<'_>, stage: &Stage, number: usize) -> Option<Stage>
+    requires short { AreShortLists (lists_of events.now) }
+    requires bounds { InBounds (lists_of events.now) stage.now }
+    ensures { result ≡ (if count stage.now == number then Some stage.now else None) }
+{
+    if count_of(events, stage) == number {
+        Some(*stage)
+    } else {
+        None
+    }
+}
+
+/// Adds each of these stages that has that count.
+fn join(
+    events: &Events<'_>,
+    starts: &[Stage],
+    number: usize,
+    now: &mut Vec<Stage>,
+) -> Result<(), AllocError>
+    requires short { AreShortLists (lists_of events.now) }
+    requires bounds { All (InBounds (lists_of events.now)) starts.now }
+    ensures { OnOk result (Collects (HasCount number) starts.now now.old.items now.new.items) }
+{
+    for stage in starts {
+        add(now, if_counts(events, stage, number))?;
+    }
+    Ok(())
+}
+
+/// The open stages that these lead to, count by count.
+fn settle(alloc: Global, events: &Events<'_>, starts: &[Stage]) -> Result<Vec<Stage>, AllocError>
+    requires short { AreShortLists (lists_of events.now) }
+    requires bounds { All (InBounds (lists_of events.now)) starts.now }
+    ensures reached { IfOk result (λ found. IsReached (eager (lists_of events.now)) (IsOpen (lists_of events.now)) starts.now found.items) }
     ensures bounds { IfOk result (λ found. All (InBounds (lists_of events.now)) found.items) }
 {
+    let first = least_count(events, starts);
+    let all = events.client.len() + events.server.len() + events.hand.len();
     let mut found = Vec::new(alloc);
-    let mut now = starts;
-    let mut level = 0usize;
-    'levels: while !now.is_empty() {
+    let mut now = Vec::new(alloc);
+    join(events, starts, first, &mut now)?;
+    for level in first..all + 1 {
         collect(events, &now, &mut found)?;
         now = advance(alloc, events, &now)?;
-        level += 1;
+        join(events, starts, level + 1, &mut now)?;
     }
     Ok(found)
+}
+
+/// Whether some order of the three lists is legal from that point.
+pub(crate) fn has_order(
+    alloc: Global,
+    events: &Events<'_>,
+    from: &TrackPoint,
+) -> Result<bool, AllocError>
+    requires short { AreShortLists (lists_of events.now) }
+    requires from { IsStart from.now }
+    ensures { IfOk result (λ yes. IsTrue yes ↔ HasWalk (lists_of events.now) from.now) }
+{
+    let begin = Stage {
+        point: *from,
+        clients: 0,
+        servers: 0,
+        hands: 0,
+    };
+    let found = settle(alloc, events, &[begin])?;
+    Ok(has_whole(events, &found))
 }
 
 /// The lists so far, and the open stages of their orders, once `known`.
@@ -149,7 +223,7 @@ fn found_from(
         server: &search.server,
         hand: &search.hand,
     };
-    let open = settle(alloc, &events, starts)?;
+    let open = settle(alloc, &events, &starts)?;
     let whole = has_whole(&events, &open);
     Ok((open, whole))
 }

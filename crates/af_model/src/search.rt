@@ -1,10 +1,9 @@
 //! The search for a legal order of three lists of events, event by event.
 ghost use Rattle.std.specs.Prelude.{◌≡◌, ◌+◌, ◌*◌, ◌<◌, ◌≤◌, ◌^◌, ◌↔◌, IfOk, IfSome, IsTrue, OnOk, All, Contains, Some, None, true, if◌then◌else◌, slice_get, drop, length};
 ghost use Rattle.af_model.specs.MergeSteps.{HasRoom};
-ghost use Rattle.af_model.specs.Walks.{IsNext, IsLevel, Adds, Spreads};
+ghost use Rattle.af_model.specs.Walks.{IsNext, Adds, Spreads};
 ghost use Rattle.af_model.specs.MergePieces.{names_at_least};
-ghost use Rattle.af_model.specs.Merges.{IsStart};
-ghost use Rattle.af_model.specs.Stages.{Client, Server, Hand, keeps_mets, known_by, move, eager, takes_met, is_met, begin, lists_of, IsWhole, InBounds, AreShortLists, HasWalk};
+ghost use Rattle.af_model.specs.Stages.{Client, Server, Hand, keeps_mets, known_by, move, eager, takes_met, is_met, begin, lists_of, IsWhole, InBounds, AreShortLists};
 
 use crate::point::TrackPoint;
 use crate::step::{after_client, after_hand, after_server};
@@ -275,27 +274,4 @@ pub(crate) fn has_whole(events: &Events<'_>, now: &[Stage]) -> bool
         }
     }
     false
-}
-
-/// Whether some order of the three lists is legal from that point.
-pub(crate) fn has_order(
-    alloc: Global,
-    events: &Events<'_>,
-    from: &TrackPoint,
-) -> Result<bool, AllocError>
-    requires short { AreShortLists (lists_of events.now) }
-    requires from { IsStart from.now }
-    ensures { IfOk result (λ yes. IsTrue yes ↔ HasWalk (lists_of events.now) from.now) }
-{
-    let mut now = Vec::new(alloc);
-    now.push(Stage {
-        point: *from,
-        clients: 0,
-        servers: 0,
-        hands: 0,
-    })?;
-    for _ in 0..events.client.len() + events.server.len() + events.hand.len() {
-        now = advance(alloc, events, &now)?;
-    }
-    Ok(has_whole(events, &now))
 }
