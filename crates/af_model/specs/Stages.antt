@@ -7,7 +7,7 @@ use Rattle.af_base.specs.declared.event.ServerEvent.{ServerEvent}
 use Rattle.af_base.specs.declared.event.HandEvent.{HandEvent}
 use Rattle.af_base.specs.declared.event.HandEvent.TheVariants as hand
 use Rattle.af_model.specs.declared.search.Stage.{Stage}
-use Rattle.af_model.specs.declared.search.Events.{Events}
+use Rattle.af_model.specs.declared.events.Events.{Events}
 use Rattle.af_model.specs.Point.{after_hand}
 use Rattle.af_model.specs.MergeSteps.{client_step, server_step}
 use Rattle.af_model.specs.Merges.{AreShort}

@@ -1,6 +1,7 @@
 //! The plain machines: what a block is after some events, and which orders of events are legal.
 #![tactic(auto)]
 
+mod events;
 #[cfg(test)]
 mod merge_plain;
 #[cfg(test)]

@@ -2,9 +2,10 @@
 ghost use Rattle.std.specs.Prelude.{◌≡◌, ◌+◌, ◌^◌, ◌≤◌, ◌↔◌, [], length, IfOk, OnOk, OnErr, IsErr, IsTrue, true, false};
 ghost use Rattle.af_model.specs.Merges.{HasLegalOrder, AreShort, IsStart, merged, with_pieces};
 
+use crate::events::Events;
 use crate::pieces::{Search, extend, has_order};
 use crate::point::TrackPoint;
-use crate::search::Events;
+use crate::search::rises;
 use af_base::{ClientEvent, HandEvent, Memory, ServerEvent};
 use std::alloc::{AllocError, Global};
 use std::marker::Model;
@@ -28,6 +29,7 @@ pub fn merge_check(
         client,
         server,
         hand,
+        rises: rises(hand),
     };
     match has_order(alloc, &events, from) {
         Ok(yes) => Ok(yes),

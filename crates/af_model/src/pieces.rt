@@ -6,8 +6,9 @@ ghost use Rattle.af_model.specs.MergePieces.{knows_no_more, is_open, IsOpen, IsF
 ghost use Rattle.af_model.specs.MergeSearch.{Knows, MayStart, SameLists, lists_in};
 ghost use Rattle.af_model.specs.Merges.{IsStart};
 
+use crate::events::Events;
 use crate::point::TrackPoint;
-use crate::search::{Events, Stage, add, advance, event_at, has_whole, is_known, names_each};
+use crate::search::{Stage, add, advance, event_at, has_whole, is_known, names_each, rises};
 use af_base::{ClientEvent, HandEvent, ServerEvent};
 use std::alloc::{AllocError, Global};
 
@@ -222,6 +223,7 @@ fn found_from(
         client: &search.client,
         server: &search.server,
         hand: &search.hand,
+        rises: rises(&search.hand),
     };
     let open = settle(alloc, &events, &starts)?;
     let whole = has_whole(&events, &open);

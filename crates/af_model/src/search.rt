@@ -3,8 +3,10 @@ ghost use Rattle.std.specs.Prelude.{◌≡◌, ◌+◌, ◌*◌, ◌<◌, ◌≤
 ghost use Rattle.af_model.specs.MergeSteps.{HasRoom};
 ghost use Rattle.af_model.specs.Walks.{IsNext, Adds, Spreads};
 ghost use Rattle.af_model.specs.MergePieces.{names_at_least};
+ghost use Rattle.af_model.specs.Rising.{rises_from, first_names};
 ghost use Rattle.af_model.specs.Stages.{Client, Server, Hand, keeps_mets, known_by, move, eager, takes_met, is_met, begin, lists_of, IsWhole, InBounds, AreShortLists};
 
+use crate::events::Events;
 use crate::point::TrackPoint;
 use crate::step::{after_client, after_hand, after_server};
 use af_base::{ClientEvent, HandEvent, ServerEvent};
@@ -19,12 +21,43 @@ pub(crate) struct Stage {
     pub hands: usize,
 }
 
-/// The three lists.
-#[derive(Clone, Copy)]
-pub(crate) struct Events<'a> {
-    pub client: &'a [ClientEvent],
-    pub server: &'a [ServerEvent],
-    pub hand: &'a [HandEvent],
+/// Whether each Met names no fewer client events than the Met before it.
+pub(crate) fn rises(hand: &[HandEvent]) -> bool
+    ensures { result ≡ rises_from 0 hand.now }
+{
+    let mut low = 0u64;
+    for event in hand {
+        if let HandEvent::Met { client } = *event {
+            if client < low {
+                return false;
+            }
+            low = client;
+        }
+    }
+    true
+}
+
+/// Whether the first Met names at least so many client events.
+fn first_names_each(hand: &[HandEvent], clients: usize) -> bool
+    ensures { result ≡ first_names clients hand.now }
+{
+    for event in hand {
+        if let HandEvent::Met { client } = *event {
+            return client >= clients as u64;
+        }
+    }
+    true
+}
+
+/// Whether each Met names at least so many client events. Where they rise, the first one tells.
+fn names_all(hand: &[HandEvent], clients: usize, rises: bool) -> bool
+    requires { rises ≡ true → rises_from 0 hand.now ≡ true }
+    ensures { result ≡ names_at_least clients hand.now }
+{
+    if rises {
+        return first_names_each(hand, clients);
+    }
+    names_each(hand, clients)
 }
 
 pub(crate) fn names_each(hand: &[HandEvent], clients: usize) -> bool
@@ -65,7 +98,8 @@ fn later(hand: &[HandEvent], place: usize) -> &[HandEvent]
 }
 
 /// Whether each Met is kept with one client event more. Only the events past the hand's next one can forbid it.
-fn keeps_client(hand: &[HandEvent], clients: usize, hands: usize) -> bool
+fn keeps_client(hand: &[HandEvent], clients: usize, hands: usize, rises: bool) -> bool
+    requires told { rises ≡ true → rises_from 0 hand.now ≡ true }
     requires kept { keeps_mets hand.now 0 clients hands ≡ true }
     requires fits { clients + 1 < 2 ^ 64 }
     ensures { result ≡ keeps_mets hand.now 0 (clients + 1) hands }
@@ -73,7 +107,7 @@ fn keeps_client(hand: &[HandEvent], clients: usize, hands: usize) -> bool
     if hands >= hand.len() {
         return true;
     }
-    names_each(later(hand, hands + 1), clients + 1)
+    names_all(later(hand, hands + 1), clients + 1, rises)
 }
 
 /// The same with one event of the hand more. Only its last event can forbid it.
@@ -103,7 +137,7 @@ fn client_move(events: &Events<'_>, stage: &Stage) -> Option<Stage>
     let event = events.client.get(stage.clients)?;
     let point = after_client(&stage.point, stage.servers as u64, event)?;
     when(
-        keeps_client(events.hand, stage.clients, stage.hands),
+        keeps_client(events.hand, stage.clients, stage.hands, events.rises),
         Stage {
             point,
             clients: stage.clients + 1,
