@@ -1,6 +1,18 @@
 //! The plain machines: what a block is after some events, and which orders of events are legal.
 #![tactic(auto)]
 
+mod events;
+#[cfg(test)]
+mod merge_plain;
+#[cfg(test)]
+mod merge_random;
+#[cfg(test)]
+mod merge_tests;
+mod merging;
+mod pieces;
 mod point;
+mod search;
+mod step;
 
+pub use merging::{Merge, merge_check};
 pub use point::TrackPoint;

@@ -1,0 +1,199 @@
+//! Cases of merges whose answers were worked out by hand.
+ghost use Rattle.std.specs.Prelude.{◌<◌, ◌≤◌, ◌^◌, IsTrue, length};
+ghost use Rattle.af_model.specs.Merges.{IsStart};
+
+use crate::merge_plain::Lists;
+use crate::{Merge, TrackPoint, merge_check};
+use af_base::{ClientEvent, HandEvent, Memory, ServerEvent};
+use std::alloc::Global;
+use std::test::Fail;
+
+/// A block with no frames and no flags, at that base.
+fn fresh(base: u64) -> TrackPoint
+    requires { base < 2 ^ 62 }
+    ensures { IsStart result }
+{
+    TrackPoint {
+        released: base,
+        consumed: base,
+        flushes: 0,
+        flush_seen: 0,
+        rear_seen: base,
+        gains: 0x1000_1000,
+        flags: 0,
+        status: 0,
+        underruns: 0,
+    }
+}
+
+/// Three lists cut in two.
+fn cut<'a>(lists: Lists<'a>, at: (usize, usize, usize)) -> (Lists<'a>, Lists<'a>) {
+    let client = lists.0.split_at(at.0.min(lists.0.len()));
+    let server = lists.1.split_at(at.1.min(lists.1.len()));
+    let hand = lists.2.split_at(at.2.min(lists.2.len()));
+    ((client.0, server.0, hand.0), (client.1, server.1, hand.1))
+}
+
+fn is_small(client: &[ClientEvent], server: &[ServerEvent], hand: &[HandEvent]) -> bool
+    ensures client { IsTrue result → length client.now ≤ 1000 }
+    ensures server { IsTrue result → length server.now ≤ 1000 }
+    ensures hand { IsTrue result → length hand.now ≤ 1000 }
+{
+    client.len() <= 1000 && server.len() <= 1000 && hand.len() <= 1000
+}
+
+/// What `merge_check` answers, and a `Merge` after each of three pieces.
+pub(crate) fn decide(
+    alloc: Global,
+    lists: Lists<'_>,
+    first: (usize, usize, usize),
+    middle: (usize, usize, usize),
+    from: &TrackPoint,
+) -> Result<(bool, (bool, bool, bool)), Memory>
+    requires { IsStart from.now }
+{
+    let (two, third) = cut(lists, middle);
+    let (one, second) = cut(two, first);
+    if !is_small(lists.0, lists.1, lists.2) {
+        return Err(Memory);
+    }
+    if !is_small(one.0, one.1, one.2) || !is_small(second.0, second.1, second.2) {
+        return Err(Memory);
+    }
+    if !is_small(third.0, third.1, third.2) {
+        return Err(Memory);
+    }
+    let whole = merge_check(alloc, lists.0, lists.1, lists.2, from)?;
+    let mut merge = Merge::new(alloc, from);
+    let begins = merge.extend(one.0, one.1, one.2)?;
+    let goes_on = merge.extend(second.0, second.1, second.2)?;
+    let ends = merge.extend(third.0, third.1, third.2)?;
+    Ok((whole, (begins, goes_on, ends)))
+}
+
+const SAW: ClientEvent = ClientEvent::SawFlags { flags: 0 };
+
+const FRONT: u32 = 0xffff_fffe;
+
+/// Two writes of two frames and one into a full block of four, and a look and a take: the rear wraps.
+#[test]
+fn takes_only_what_was_seen(rt: HostRuntime) -> Result<(), Fail> {
+    let seen = ClientEvent::SawFront { front: FRONT };
+    let put = ClientEvent::Release { count: 2 };
+    let client = [SAW, seen, put, SAW, seen, put, SAW, seen];
+    let from = fresh(0xffff_fffe);
+    for (count, want) in [(3, true), (5, false)] {
+        let server = [
+            ServerEvent::SawFlush { flush: 0 },
+            ServerEvent::SawRear { rear: 2 },
+            ServerEvent::SawFront { front: FRONT },
+            ServerEvent::Take { count },
+        ];
+        let alone = decide(
+            rt.alloc(),
+            (&client, &server, &[]),
+            (5, 2, 0),
+            (8, 3, 0),
+            &from,
+        )?;
+        assert_eq!(rt; (alone.0, alone.1.2), (want, want), "take {count}");
+        let met = [HandEvent::Met { client: 8 }];
+        let with_hand = decide(
+            rt.alloc(),
+            (&client, &server, &met),
+            (8, 1, 0),
+            (8, 4, 0),
+            &from,
+        )?;
+        assert_eq!(rt; (with_hand.0, with_hand.1.2), (want, want), "take {count}, met");
+    }
+    Ok(())
+}
+
+/// A meeting told late forbids an order that was found before.
+#[test]
+fn late_meeting_reaches_back(rt: HostRuntime) -> Result<(), Fail> {
+    let client = [ClientEvent::ClearFlags { old: 0 }];
+    for (known, want) in [(0, false), (1, true)] {
+        let hand = [
+            HandEvent::SetFlags { bits: 8 },
+            HandEvent::Met { client: known },
+        ];
+        let got = decide(
+            rt.alloc(),
+            (&client, &[], &hand),
+            (1, 0, 1),
+            (1, 0, 1),
+            &fresh(0),
+        )?;
+        assert_eq!(rt; got, (want, (true, true, want)), "met {known}");
+    }
+    Ok(())
+}
+
+/// Where the hand has no events yet, its first may still stand before all others.
+#[test]
+fn late_hand_may_stand_first(rt: HostRuntime) -> Result<(), Fail> {
+    let client = [ClientEvent::ClearFlags { old: 8 }];
+    let hand = [HandEvent::SetFlags { bits: 8 }];
+    let got = decide(
+        rt.alloc(),
+        (&client, &[], &hand),
+        (1, 0, 0),
+        (1, 0, 0),
+        &fresh(0),
+    )?;
+    assert_eq!(rt; got, (true, (false, false, true)));
+    Ok(())
+}
+
+/// A meeting binds the hand's other events, and not its own place.
+#[test]
+fn meeting_may_stand_early(rt: HostRuntime) -> Result<(), Fail> {
+    let client = [ClientEvent::Release { count: 1 }];
+    let early = [HandEvent::Met { client: 1 }, HandEvent::Met { client: 0 }];
+    let got = decide(
+        rt.alloc(),
+        (&client, &[], &early),
+        (0, 0, 1),
+        (1, 0, 1),
+        &fresh(0),
+    )?;
+    assert_eq!(rt; got, (true, (true, true, true)));
+    let crossed = [
+        HandEvent::Met { client: 1 },
+        HandEvent::SetFlags { bits: 8 },
+        HandEvent::Met { client: 0 },
+    ];
+    let got = decide(
+        rt.alloc(),
+        (&client, &[], &crossed),
+        (1, 0, 1),
+        (1, 0, 2),
+        &fresh(0),
+    )?;
+    assert_eq!(rt; got, (false, (true, true, false)));
+    Ok(())
+}
+
+/// A rear may be seen a whole turn of its word later than where it first fits.
+#[test]
+fn rear_may_wait_for_its_word(rt: HostRuntime) -> Result<(), Fail> {
+    let client = [
+        ClientEvent::Release { count: u32::MAX },
+        ClientEvent::Release { count: 1 },
+    ];
+    let server = [
+        ServerEvent::SawRear { rear: 0 },
+        ServerEvent::Take { count: 5 },
+    ];
+    let got = decide(
+        rt.alloc(),
+        (&client, &server, &[]),
+        (0, 2, 0),
+        (1, 2, 0),
+        &fresh(0),
+    )?;
+    assert_eq!(rt; got, (true, (false, false, true)));
+    Ok(())
+}

@@ -1,0 +1,138 @@
+//! One event of a block's history as a step of a search.
+ghost use Rattle.std.specs.Prelude.{◌≡◌, IfSome, if◌then◌else◌, Some, None};
+ghost use Rattle.af_model.specs.Point.{wrapped, after_hand as after_hand_event};
+ghost use Rattle.af_model.specs.MergeSteps.{HasRoom, ClientGrows, ServerGrows, client_step, server_step};
+
+use crate::point::TrackPoint;
+use af_base::{ClientEvent, HandEvent, ServerEvent};
+
+/// The flag that says that the block is dead.
+const INVALID: u32 = 4;
+
+fn wrapped_word(x: u64) -> u32
+    ensures { result ≡ wrapped x }
+{
+    (x % (1 << 32)) as u32
+}
+
+fn when(legal: bool, point: TrackPoint) -> Option<TrackPoint>
+    ensures { result ≡ (if legal then Some point else None) }
+{
+    if legal { Some(point) } else { None }
+}
+
+/// The point after a client's event, where it is legal. That many events of the server stand before it.
+pub(crate) fn after_client(
+    point: &TrackPoint,
+    servers: u64,
+    event: &ClientEvent,
+) -> Option<TrackPoint>
+    requires { HasRoom point.now }
+    ensures value { result ≡ client_step point.now servers event.now }
+    // A client's event raises what was released by less than 2 ^ 32, and the flushes by one at most.
+    ensures grows { IfSome result (ClientGrows point.now) }
+{
+    match *event {
+        ClientEvent::Release { count } => Some(TrackPoint {
+            released: point.released + u64::from(count),
+            ..*point
+        }),
+        ClientEvent::Flush => Some(TrackPoint {
+            flushes: point.flushes + 1,
+            ..*point
+        }),
+        ClientEvent::SetGain { word } => Some(TrackPoint {
+            gains: word,
+            ..*point
+        }),
+        ClientEvent::ClearFlags { old } => when(
+            old == point.flags,
+            TrackPoint {
+                flags: point.flags & 0xffff_fff7,
+                ..*point
+            },
+        ),
+        ClientEvent::SawFlags { flags } => {
+            if flags & INVALID == 0 {
+                when(point.flags & INVALID == 0, *point)
+            } else {
+                when(flags == point.flags, *point)
+            }
+        }
+        ClientEvent::SawFront { front } => when(front == wrapped_word(point.consumed), *point),
+        ClientEvent::SawStatus { word } => when(word == point.status, *point),
+        ClientEvent::Poke { .. } => None,
+        ClientEvent::Learn { count } => when(count <= servers, *point),
+    }
+}
+
+/// The same for a server's event, before which that many events of the client stand.
+pub(crate) fn after_server(
+    point: &TrackPoint,
+    clients: u64,
+    event: &ServerEvent,
+) -> Option<TrackPoint>
+    requires { HasRoom point.now }
+    ensures value { result ≡ server_step point.now clients event.now }
+    // A server's event leaves no position beyond those that the point had.
+    ensures grows { IfSome result (ServerGrows point.now) }
+{
+    match *event {
+        ServerEvent::SawGain { word } => when(word == point.gains, *point),
+        ServerEvent::SawFlush { flush } => when(
+            flush == point.flushes,
+            TrackPoint {
+                flush_seen: flush,
+                ..*point
+            },
+        ),
+        ServerEvent::SawRear { rear } => when(
+            rear == wrapped_word(point.released),
+            TrackPoint {
+                rear_seen: point.released,
+                ..*point
+            },
+        ),
+        ServerEvent::SawFront { front } => when(front == wrapped_word(point.consumed), *point),
+        ServerEvent::Drop { to } => when(
+            to == wrapped_word(point.rear_seen),
+            TrackPoint {
+                consumed: point.rear_seen,
+                ..*point
+            },
+        ),
+        ServerEvent::Take { count } => {
+            let consumed = point.consumed + u64::from(count);
+            when(
+                consumed <= point.rear_seen,
+                TrackPoint { consumed, ..*point },
+            )
+        }
+        ServerEvent::Tally { missing } => Some(TrackPoint {
+            underruns: point.underruns.wrapping_add(missing),
+            ..*point
+        }),
+        ServerEvent::SetFlags { bits } => Some(TrackPoint {
+            flags: point.flags | bits,
+            ..*point
+        }),
+        ServerEvent::SetStatus { word } => Some(TrackPoint {
+            status: word,
+            ..*point
+        }),
+        ServerEvent::Learn { count } => when(count <= clients, *point),
+    }
+}
+
+/// The same for an event of the hand.
+pub(crate) fn after_hand(point: &TrackPoint, event: &HandEvent) -> TrackPoint
+    ensures { result ≡ after_hand_event point.now event.now }
+{
+    match *event {
+        HandEvent::SetFlags { bits } => TrackPoint {
+            flags: point.flags | bits,
+            ..*point
+        },
+        HandEvent::Met { .. } => *point,
+    }
+}
