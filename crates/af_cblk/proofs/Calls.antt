@@ -11,9 +11,11 @@ use Rattle.af_cblk.specs.declared.view.Shape.{Shape}
 use Rattle.af_cblk.specs.declared.view.ClientPart.{ClientPart}
 use Rattle.af_cblk.specs.declared.view.ServerPart.{ServerPart}
 use Rattle.af_cblk.specs.declared.view.View.{View}
-use Rattle.af_cblk.specs.Parts.{IsShape, ahead, released, room, Has, run_of, client_did, client_saw_front, cell_stored, stored_at, rear_stored, recorded, client_met, server_did, saw_flush, saw_rear, server_saw_front, saw_cell, took, dropped, front_stored, MayStoreFront, hand_set, hand_met}
+use Rattle.af_cblk.specs.Shape.{IsShape}
+use Rattle.af_cblk.specs.Parts.{ahead, released, room, Has, run_of, client_did, client_saw_front, cell_stored, stored_at, rear_stored, recorded, client_met, server_did, saw_flush, saw_rear, server_saw_front, saw_cell, took, dropped, front_stored, MayStoreFront, hand_set, hand_met}
 use Rattle.af_cblk.specs.Rule.{Stands, Holds}
 use Rattle.af_cblk.specs.Plays.{ClientSeesFront, CellIsStored, RearIsStored, ClientSeesFlags, ClientSeesStatus, Flushes, GainIsStored, FlagsAreCleared, Pokes, SeesFlush, SeesRear, ServerSeesFront, SeesCell, FrontIsStored, SeesGain, Tallies, FlagsAreSet, StatusIsStored, HandSets, ClientLearns, ServerLearns, HandMeets}
+use Rattle.af_cblk.proofs.Sized.{IsSized, sized}
 use Rattle.af_cblk.proofs.Numbers.{ahead_of, ahead_is}
 use Rattle.af_cblk.proofs.Rows.{run_length}
 use Rattle.af_cblk.proofs.Seats.{client_steps, server_steps, hand_steps, pair_steps, client_hand_steps}
@@ -24,7 +26,7 @@ seven_off j = omega arith
 
 -- the cell of a position is one of the words
 pub cell_within : (shape : Shape) → IsShape shape → (position words : ℕ) → words ≡ 7 + shape.cells → 7 + position % shape.cells < words
-cell_within shape is position words wide = let m : position % shape.cells < shape.cells = mod-lt position (let a = is.0 in let b = is.1 in omega arith) in omega arith
+cell_within shape is position words wide = let m : position % shape.cells < shape.cells = mod-lt position (let a = is.some in let b = is.cells.1 in omega arith) in omega arith
 
 abbrev Mine : Type 0
 Mine = Me (Unit {0}) View
@@ -42,7 +44,7 @@ module _ (key shape : Shape) (keyed : key ≡ shape) (slots id : ℕ) (me : Mine
 
     pub front_by_client : IsShape shape → Allows (Holds key) slots id me 0 (λ n. n) (ClientSeesFront (step slots 0 0 0 none) me)
     front_by_client ok =
-        let old : IsShape c.shape = subst IsShape (sym same) ok in
+        let old : IsSized c.shape = sized c.shape (subst IsShape (sym same) ok) in
         let told = ClientSeesFront (step slots 0 0 0 none) me in
         moved c.shape same 0 (λ n. n) told (client_steps c.shape slots id 0 me (λ n. n) told (λ n. client_saw_front c (wrapped n)) is (λ words s h stands. (
           (λ ok. client_loads_front words c s h (stands (lawful_before c.events _ ok))),
@@ -52,7 +54,7 @@ module _ (key shape : Shape) (keyed : key ≡ shape) (slots id : ℕ) (me : Mine
     pub cell_by_client : IsShape shape → (position word : ℕ) → position < 2 ^ 32 → word < 2 ^ 32 → ahead (released c) position < room c
         → Allows (Holds key) slots id me (7 + position % shape.cells) (λ _. word) (λ _. CellIsStored (step slots (7 + position % shape.cells) word 0 none) me word)
     cell_by_client ok position word small fits inside =
-        let old : IsShape c.shape = subst IsShape (sym same) ok in
+        let old : IsSized c.shape = sized c.shape (subst IsShape (sym same) ok) in
         let j : ℕ = position % c.shape.cells in
         let told : Shape → ℕ → Mine → Type 0 = λ k _. CellIsStored (step slots (7 + position % k.cells) word 0 none) me word in
         subst (λ (k : Shape). Allows (Holds k) slots id me (7 + position % shape.cells) (λ _. word) (told shape)) (sym keyed)
@@ -104,13 +106,18 @@ module _ (key shape : Shape) (keyed : key ≡ shape) (slots id : ℕ) (me : Mine
           refl,
         )))
 
-    pub clear_by_client : Allows (Holds key) slots id me 4 (λ n. bit_and n 4294967287) (FlagsAreCleared (step slots 4 4294967287 0 none) me)
-    clear_by_client =
-        let told = FlagsAreCleared (step slots 4 4294967287 0 none) me in
-        moved c.shape same 4 (λ n. bit_and n 4294967287) told (client_steps c.shape slots id 4 me (λ n. bit_and n 4294967287) told (λ n. client_did c (client.ClearFlags (wrapped n))) is (λ words s h stands. (
-          (λ ok. client_clears_flags words c s h (stands (lawful_before c.events _ ok))),
-          refl,
-        )))
+    -- the mask has all bits but DISABLED
+    pub clear_by_client : (mask : ℕ) → mask ≡ 4294967287 → Allows (Holds key) slots id me 4 (λ n. bit_and n mask) (FlagsAreCleared (step slots 4 mask 0 none) me)
+    clear_by_client mask is_mask =
+        subst (λ (z : ℕ). Allows (Holds key) slots id me 4 (λ n. bit_and n z) (FlagsAreCleared (step slots 4 z 0 none) me)) (sym is_mask) cleared
+      where
+        cleared : Allows (Holds key) slots id me 4 (λ n. bit_and n 4294967287) (FlagsAreCleared (step slots 4 4294967287 0 none) me)
+        cleared =
+            let told = FlagsAreCleared (step slots 4 4294967287 0 none) me in
+            moved c.shape same 4 (λ n. bit_and n 4294967287) told (client_steps c.shape slots id 4 me (λ n. bit_and n 4294967287) told (λ n. client_did c (client.ClearFlags (wrapped n))) is (λ words s h stands. (
+              (λ ok. client_clears_flags words c s h (stands (lawful_before c.events _ ok))),
+              refl,
+            )))
 
     -- after a poke the rule says nothing of the words
     pub poke_by_client : (word value : ℕ) → Allows (Holds key) slots id me word (λ _. value) (λ _. Pokes (step slots word value 0 none) me value)
@@ -144,7 +151,7 @@ module _ (key shape : Shape) (keyed : key ≡ shape) (slots id : ℕ) (me : Mine
 
     pub cell_by_server : IsShape shape → (position : ℕ) → Allows (Holds key) slots id me (7 + position % shape.cells) (λ n. n) (SeesCell (step slots (7 + position % shape.cells) 0 0 none) me)
     cell_by_server ok position =
-        let old : IsShape s.shape = subst IsShape (sym same) ok in
+        let old : IsSized s.shape = sized s.shape (subst IsShape (sym same) ok) in
         let j : ℕ = position % s.shape.cells in
         let told : Shape → ℕ → Mine → Type 0 = λ k. SeesCell (step slots (7 + position % k.cells) 0 0 none) me in
         subst (λ (k : Shape). Allows (Holds k) slots id me (7 + position % shape.cells) (λ n. n) (told shape)) (sym keyed)
@@ -157,14 +164,14 @@ module _ (key shape : Shape) (keyed : key ≡ shape) (slots id : ℕ) (me : Mine
     pub front_stored_by_server : IsShape shape → (front : ℕ) → front < 2 ^ 32 → MayStoreFront s front
         → Allows (Holds key) slots id me 0 (λ _. front) (λ _. FrontIsStored (step slots 0 front 0 none) me front)
     front_stored_by_server ok front small may =
-        let old : IsShape s.shape = subst IsShape (sym same) ok in
+        let old : IsSized s.shape = sized s.shape (subst IsShape (sym same) ok) in
         let told : ℕ → Mine → Type 0 = λ _. FrontIsStored (step slots 0 front 0 none) me front in
         moved s.shape same 0 (λ _. front) told (server_steps s.shape slots id 0 me (λ _. front) told (λ n. front_stored s front) is (λ words c h stands. (
           (λ ok. by_case words c h (stands ok) old s.noticed refl),
           refl,
         )))
       where
-        by_case : (words : _) (c : _) (h : _) → Stands s.shape words c s h → IsShape s.shape → (b : Bool) → s.noticed ≡ b
+        by_case : (words : _) (c : _) (h : _) → Stands s.shape words c s h → IsSized s.shape → (b : Bool) → s.noticed ≡ b
             → Stands s.shape (set words 0 front) c (if b then dropped s front else took s front) h
         by_case words c h now old true is = server_drops words c s h now front (may.0 is).1
         by_case words c h now old false is = let m = may.1 is in server_takes words c s h now old front small m.1 m.2
@@ -228,7 +235,7 @@ module _ (key shape : Shape) (keyed : key ≡ shape) (slots id : ℕ) (me : Mine
 pub cell_is : (c : ClientPart) (shape : Shape) → c.shape ≡ shape → IsShape shape → (position word : ℕ) → position < 2 ^ 32 → ahead (released c) position < room c
     → cell_stored c (7 + position % shape.cells - 7) word ≡ stored_at c position word
 cell_is c shape same ok position word small inside =
-    let old : IsShape c.shape = subst IsShape (sym same) ok in
+    let old : IsSized c.shape = sized c.shape (subst IsShape (sym same) ok) in
     let j : ℕ = position % c.shape.cells in
     ap (λ (k : Shape). cell_stored c (7 + position % k.cells - 7) word) (sym same) ∙ ap (λ (n : ℕ). cell_stored c n word) (seven_off j)
     ∙ ap (λ (n : ℕ). record c { stored = (n, word) ∷ c.stored }) (number_is c old position small inside)

@@ -1,39 +1,18 @@
 -- A new block.
-use Rattle.std.proofs.Common.{◌≡◌, ℕ, zero, suc, ◌+◌, ◌-◌, ◌*◌, ◌/◌, ◌^◌, ◌<◌, ◌≤◌, max, List, [], ◌∷◌, length, get_or, drop, replicate, sym, refl, ap, ◌∙◌, subst, arith, pow-add, pow_mono, mod-eq_of_lt, lt_of_not-le}
+use Rattle.std.proofs.Common.{◌≡◌, ℕ, zero, suc, ◌+◌, ◌-◌, ◌^◌, ◌<◌, ◌≤◌, List, [], ◌∷◌, length, get_or, drop, replicate, sym, refl, ap, ◌∙◌, subst, arith, mod-eq_of_lt}
 use mathlib.Core.Option.{some, some-injective, some-ne-none}
-use mathlib.Core.Logic.{dite}
-use native.Mathlib.Decide.{dec_le}
 use lib.ListN.{get_elem?}
-use Rattle.std.specs.Int.{IsPowerOfTwo}
 use lib.ListN.{length-replicate}
 use Rattle.af_cblk.proofs.Rows.{take_none}
 use Rattle.atomic_table.specs.Table.{opening}
 use Rattle.af_model.specs.Point.{wrapped}
 use Rattle.af_cblk.specs.declared.view.Shape.{Shape}
 use Rattle.af_cblk.specs.declared.view.View.{View}
-use Rattle.af_cblk.specs.Parts.{IsShape}
 use Rattle.af_cblk.specs.Rule.{Parties, Sits, Holds, newcomer, new_client, new_server, new_hand}
 
--- the least power of two that holds the frames
-pub shape_of : (k : Shape) → 1 ≤ k.frames → k.frames ≤ 65536 → IsPowerOfTwo k.cells → k.frames ≤ k.cells → k.cells / 2 < max 1 k.frames → IsShape k
-shape_of k one few power enough least =
-    let j : ℕ = power.0 in
-    let is : k.cells ≡ 2 ^ j = power.1 in
-    let half : k.cells / 2 < 65536 = (let e : max 1 k.frames ≡ k.frames = max_one k.frames one in let a : k.cells / 2 < k.frames = subst (λ (z : ℕ). k.cells / 2 < z) e least in omega arith) in
-    let low : k.cells < 131072 = omega arith in
-    let small : j ≤ 16 = dite (dec_le 17 j)
-    (λ (big : 17 ≤ j). let m : 2 ^ 17 ≤ 2 ^ j = pow_mono big in absurd (omega arith))
-    (λ not. let a = lt_of_not-le not in omega arith) in
-    let pair : 2 ^ (32 - j) * 2 ^ j ≡ 2 ^ 32 = sym (pow-add 2 (32 - j) j) ∙ ap (λ (z : ℕ). 2 ^ z) (let e : 32 - j + j ≡ 32 = omega arith in e) in
-    let most : k.cells ≤ 65536 = (let m : 2 ^ j ≤ 2 ^ 16 = pow_mono small in omega arith) in
-    (one, enough, most, (2 ^ (32 - j), ap (λ (z : ℕ). 2 ^ (32 - j) * z) is ∙ pair))
-  where
-    max_one : (n : ℕ) → 1 ≤ n → max 1 n ≡ n
-    max_one n h = omega arith
-
-pub begins : (k : Shape) → IsShape k → k.base < 2 ^ 32 → (words : List ℕ)
+pub begins : (k : Shape) → k.base < 2 ^ 32 → (words : List ℕ)
     → words ≡ k.base ∷ k.base ∷ 0 ∷ 0 ∷ 0 ∷ 268439552 ∷ 0 ∷ replicate k.cells 0 → Holds k (opening words [] (newcomer k))
-begins k shape fits words are =
+begins k fits words are =
     let base : wrapped k.base ≡ k.base = mod-eq_of_lt fits in
     record {
       parties = begun;

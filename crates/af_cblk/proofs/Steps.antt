@@ -19,8 +19,9 @@ use Rattle.af_cblk.specs.declared.view.Shape.{Shape}
 use Rattle.af_cblk.specs.declared.view.ClientPart.{ClientPart}
 use Rattle.af_cblk.specs.declared.view.ServerPart.{ServerPart}
 use Rattle.af_cblk.specs.declared.view.HandPart.{HandPart}
-use Rattle.af_cblk.specs.Parts.{IsShape, ahead, released, filled, room, number_at, Has, word_at, run_of, client_did, client_saw_front, cell_stored, rear_stored, recorded, client_met, server_did, saw_flush, saw_rear, server_saw_front, saw_cell, took, dropped, hand_set, hand_met}
+use Rattle.af_cblk.specs.Parts.{ahead, released, filled, room, number_at, Has, word_at, run_of, client_did, client_saw_front, cell_stored, rear_stored, recorded, client_met, server_did, saw_flush, saw_rear, server_saw_front, saw_cell, took, dropped, hand_set, hand_met}
 use Rattle.af_cblk.specs.Rule.{words_of, Small, InTurn, ClientKnows, ServerKnows, StartsWith, Stands}
+use Rattle.af_cblk.proofs.Sized.{IsSized}
 use Rattle.af_cblk.proofs.Numbers.{twice, same_cell, ahead_is, apart, back, between, past, one_place}
 use Rattle.af_cblk.proofs.Rows.{small_set, set_cell, get_cell, run_length, run_at, run_fits, get_front, part_front, set_back, take_none, read_on}
 
@@ -157,7 +158,7 @@ module _ (words : List ℕ) (c : ClientPart) (s : ServerPart) (h : HandPart) (i 
       }
 
   -- the client lies less than a room past the front that it saw
-  pub filled_is : IsShape c.shape → filled c ≡ released c - i.client_knows.known
+  pub filled_is : IsSized c.shape → filled c ≡ released c - i.client_knows.known
   filled_is shape =
       let y = i.client_knows in
       let r = i.history.released_is in
@@ -168,10 +169,10 @@ module _ (words : List ℕ) (c : ClientPart) (s : ServerPart) (h : HandPart) (i 
       let high : released c ≤ y.known + 65536 = (let a = y.known_room in omega arith) in
       ap (λ (z : ℕ). ahead z (wrapped (released c))) (sym front) ∙ between y.known (released c) low high
 
-  pub filled_fits : IsShape c.shape → filled c ≤ c.shape.frames
+  pub filled_fits : IsSized c.shape → filled c ≤ c.shape.frames
   filled_fits shape = let e = filled_is shape in let r = i.history.released_is in let a = i.client_knows.known_room in omega arith
 
-  pub room_is : IsShape c.shape → (x : ℕ) → x < room c → released c + x < i.client_knows.known + c.shape.frames
+  pub room_is : IsSized c.shape → (x : ℕ) → x < room c → released c + x < i.client_knows.known + c.shape.frames
   room_is shape x less =
       let e = filled_is shape in
       let r = i.history.released_is in
@@ -181,7 +182,7 @@ module _ (words : List ℕ) (c : ClientPart) (s : ServerPart) (h : HandPart) (i 
       let f = i.in_turn.to_released in
       omega arith
 
-pub number_is : (c : ClientPart) → IsShape c.shape → (position : ℕ) → position < 2 ^ 32 → ahead (released c) position < room c
+pub number_is : (c : ClientPart) → IsSized c.shape → (position : ℕ) → position < 2 ^ 32 → ahead (released c) position < room c
     → number_at c (position % c.shape.cells) ≡ length c.frames + ahead (released c) position
 number_is c shape position small inside =
     let k = c.shape in
@@ -190,7 +191,7 @@ number_is c shape position small inside =
     let below : x < k.cells = (let a = inside in let b = shape.1 in omega arith) in
     ap (λ (z : ℕ). length c.frames + (z + (k.cells - released c % k.cells)) % k.cells) (sym here) ∙ ap (λ (z : ℕ). length c.frames + z) (back (released c) x k.cells below)
 
-module _ (words : List ℕ) (c : ClientPart) (s : ServerPart) (h : HandPart) (i : Stands c.shape words c s h) (shape : IsShape c.shape) where
+module _ (words : List ℕ) (c : ClientPart) (s : ServerPart) (h : HandPart) (i : Stands c.shape words c s h) (shape : IsSized c.shape) where
   pub client_stores_cell : (position word : ℕ) → position < 2 ^ 32 → word < 2 ^ 32 → ahead (released c) position < room c
       → Stands c.shape (set words (7 + position % c.shape.cells) word) (cell_stored c (position % c.shape.cells) word) s h
   client_stores_cell position word small fits inside =
@@ -494,7 +495,7 @@ module _ (words : List ℕ) (c : ClientPart) (s : ServerPart) (h : HandPart) (i 
         record { flushes_fit = i.small.flushes_fit; flags_fit = i.small.flags_fit; gains_fit = i.small.gains_fit; status_fit = fits },
       )
 
-  module _ (shape : IsShape s.shape) where
+  module _ (shape : IsSized s.shape) where
     -- what was loaded in order is what was released there
     loads : (j w : ℕ) → wrapped (at words (7 + j)) ≡ w → (b : Bool) → (j == wrapped (s.front + length s.loaded) % s.shape.cells) ≡ b
         → (n : ℕ) → n ≤ length (if b then s.loaded ++ w ∷ [] else s.loaded) → (point i.history).consumed + n ≤ (point i.history).rear_seen

@@ -1,22 +1,15 @@
 -- What each step makes of a party's part.
-use Rattle.std.specs.Prelude.{◌≡◌, ℕ, zero, suc, ◌+◌, ◌-◌, ◌*◌, ◌%◌, ◌^◌, ◌≤◌, ◌<◌, ◌==◌, ◌||◌, ◌&&◌, ◌⊎◌, if◌then◌else◌, not, true, false, List, [], ◌∷◌, ◌++◌, length, take, bit_and}
+use Rattle.std.specs.Prelude.{◌≡◌, ℕ, zero, suc, ◌+◌, ◌-◌, ◌%◌, ◌≤◌, ◌<◌, ◌==◌, ◌||◌, ◌&&◌, ◌⊎◌, if◌then◌else◌, not, true, false, List, [], ◌∷◌, ◌++◌, length, take, bit_and}
 use Rattle.af_base.specs.declared.event.ClientEvent.{ClientEvent}
 use Rattle.af_base.specs.declared.event.ClientEvent.TheVariants as client
 use Rattle.af_base.specs.declared.event.ServerEvent.{ServerEvent}
 use Rattle.af_base.specs.declared.event.ServerEvent.TheVariants as server
 use Rattle.af_base.specs.declared.event.HandEvent.TheVariants as hand
 use Rattle.af_model.specs.Point.{wrapped}
-use Rattle.af_cblk.specs.declared.view.Shape.{Shape}
+pub use Rattle.af_model.specs.Room.{ahead}
 use Rattle.af_cblk.specs.declared.view.ClientPart.{ClientPart}
 use Rattle.af_cblk.specs.declared.view.ServerPart.{ServerPart}
 use Rattle.af_cblk.specs.declared.view.HandPart.{HandPart}
-
-abbrev pub IsShape : Shape → Type 0
-IsShape k = (1 ≤ k.frames) × (k.frames ≤ k.cells) × (k.cells ≤ 65536) × ((m : ℕ) × (m * k.cells ≡ 2 ^ 32))
-
--- how far the word `to` lies past the position `from`
-abbrev pub ahead : ℕ → ℕ → ℕ
-ahead from to = (to + (2 ^ 32 - wrapped from)) % 2 ^ 32
 
 -- ## The client
 
@@ -137,11 +130,17 @@ dropped s front =
 abbrev pub front_stored : ServerPart → ℕ → ServerPart
 front_stored s front = if s.noticed then dropped s front else took s front
 
--- after a new flush the rear seen since then, and else a position whose frames were loaded
+-- front may become the rear that was seen after the new flush
+abbrev pub MayDrop : ServerPart → ℕ → Type 0
+MayDrop s front = (s.rear_after ≡ true) × (front ≡ s.rear)
+
+-- Front may become a position up to which the cells from the front last seen on were loaded, and which does not lie past the rear. Front was loaded after that rear, and not stored since
+abbrev pub MayTake : ServerPart → ℕ → Type 0
+MayTake s front = (s.fresh ≡ true) × (ahead s.front front ≤ ahead s.front s.rear) × (ahead s.front front ≤ length s.loaded)
+
+-- after a new flush the frames are dropped, and else taken
 abbrev pub MayStoreFront : ServerPart → ℕ → Type 0
-MayStoreFront s front =
-    (s.noticed ≡ true → (s.rear_after ≡ true) × (front ≡ s.rear))
-    × (s.noticed ≡ false → (s.fresh ≡ true) × (ahead s.front front ≤ ahead s.front s.rear) × (ahead s.front front ≤ length s.loaded))
+MayStoreFront s front = (s.noticed ≡ true → MayDrop s front) × (s.noticed ≡ false → MayTake s front)
 
 -- ## The hand
 

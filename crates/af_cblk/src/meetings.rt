@@ -1,4 +1,4 @@
-// How the hand is split off, and how the parties meet.
+//! How the hand is split off, and how the parties meet.
 ghost use Rattle.std.specs.Prelude.{◌≡◌, ℕ, ◌+◌, true, false, List, [], length};
 ghost use Rattle.af_base.specs.declared.event.ServerEvent.{ServerEvent};
 ghost use Rattle.af_base.specs.declared.event.ServerEvent.TheVariants as server_event;
@@ -11,6 +11,7 @@ ghost use Rattle.af_cblk.specs.Sides.{client_made, server_made, hand_made, Serve
 use crate::block::Block;
 use crate::pass::{ClientPass, FlagHand, ServerPass};
 use crate::plays::{ClientLearns, ClientMoves, HandMeets, HandMoves, ServerLearns};
+use crate::words::FRONT;
 use af_base::Steps;
 use std::sync::ledger::Ledger;
 
@@ -50,9 +51,9 @@ impl Block {
         steps.tick();
         shared.join_seat::<ClientMoves>(&mut server.seat, moved);
         steps.tick();
-        shared.load::<ClientLearns>(&mut server.seat, 0);
+        shared.load::<ClientLearns>(&mut server.seat, FRONT);
         steps.tick();
-        shared.load::<ServerLearns>(&mut server.seat, 0);
+        shared.load::<ServerLearns>(&mut server.seat, FRONT);
         steps.tick();
         client.seat = shared.split_seat::<ClientMoves>(&mut server.seat);
         steps.tick();
@@ -80,7 +81,7 @@ impl Block {
         steps.tick();
         shared.join_seat::<ClientMoves>(&mut hand.seat, moved);
         steps.tick();
-        shared.load::<HandMeets>(&mut hand.seat, 0);
+        shared.load::<HandMeets>(&mut hand.seat, FRONT);
         steps.tick();
         client.seat = shared.split_seat::<ClientMoves>(&mut hand.seat);
         steps.tick();
@@ -115,11 +116,11 @@ impl Block {
         steps.tick();
         shared.join_seat::<HandMoves>(&mut server.seat, moved);
         steps.tick();
-        shared.load::<ClientLearns>(&mut server.seat, 0);
+        shared.load::<ClientLearns>(&mut server.seat, FRONT);
         steps.tick();
-        shared.load::<ServerLearns>(&mut server.seat, 0);
+        shared.load::<ServerLearns>(&mut server.seat, FRONT);
         steps.tick();
-        shared.load::<HandMeets>(&mut server.seat, 0);
+        shared.load::<HandMeets>(&mut server.seat, FRONT);
         steps.tick();
         hand.seat = shared.split_seat::<HandMoves>(&mut server.seat);
         steps.tick();

@@ -1,14 +1,16 @@
-// What the parties step with.
+//! What the parties step with.
 ghost use Rattle.std.specs.Prelude.{◌≡◌, ◌+◌};
 
 use crate::block::Block;
 use crate::view::View;
-use atomic_table::Seat;
 use af_base::Steps;
+use atomic_table::Seat;
 use std::marker::Model;
 use std::sync::ledger::Ledger;
 
-/// The client's right to step on one block. Contracts see what it has done there.
+/// The client's right to step on one block: there is one for each block, and it can't be copied.
+///
+/// Contracts see the list of its events there, oldest first, the words of the frames that it released, and what it last saw.
 #[derive(Drop)]
 pub struct ClientPass {
     pub(crate) seat: Seat<(), View>,
@@ -29,7 +31,9 @@ impl Model for ClientPass {
     ghost invariant = { λ p. (p.seat.me.0.is_client ≡ true) × (p.seat.me.1 ≡ []) × (p.rear ≡ wrapped (released p.seat.me.0.client)) };
 }
 
-/// The server's right to step on one block. Contracts see what it has done there.
+/// The server's right to step on one block: there is one for each block, and it can't be copied.
+///
+/// Contracts see the list of its events there, oldest first, the words of the frames that it took, and what it last saw. The hand is with it until it is split off.
 #[derive(Drop)]
 pub struct ServerPass {
     pub(crate) seat: Seat<(), View>,
@@ -47,7 +51,7 @@ impl Model for ServerPass {
     ghost invariant = { λ p. (p.seat.me.0.is_server ≡ true) × (p.seat.me.1 ≡ []) × (p.seat.me.0.is_hand ≡ true → p.seat.me.0.hand ≡ new_hand p.seat.me.0.server.shape) };
 }
 
-/// The right to set DISABLED on one block.
+/// The normal mixer's right to set DISABLED on one block, beside the server's pass. Contracts see the list of its events there.
 #[derive(Drop)]
 pub struct FlagHand {
     pub(crate) seat: Seat<(), View>,
@@ -64,7 +68,7 @@ impl Model for FlagHand {
     ghost invariant = { λ p. (p.seat.me.0.is_hand ≡ true) × (p.seat.me.1 ≡ []) };
 }
 
-/// Both kinds of pass that load front.
+/// The two kinds of pass, the client's and the server's, either of which loads front.
 pub trait BlockPass {
     ghost use Rattle.af_cblk.specs.Sides.{Made};
     ghost use Rattle.std.specs.Prelude.{ℕ};

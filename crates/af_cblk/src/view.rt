@@ -1,22 +1,26 @@
-// What a seat at the table knows.
+//! What a seat at the table knows. Contracts alone see values of these types, but for `Shape`.
 use af_base::{ClientEvent, HandEvent, ServerEvent};
 use std::collections::LinkedList;
 
-/// The sizes of a block: how many frames may lie in it, how many cells it has, and the first position.
+/// The sizes of a block.
 #[derive(Clone, Copy, Drop)]
 pub struct Shape {
+    /// How many frames may lie in it.
     pub frames: u32,
+    /// How many cells it has.
     pub cells: u32,
+    /// The position of the first frame.
     pub base: u32,
 }
 
 /// What a client has done, and what it knows. No value of it is made.
 pub struct ClientPart {
     pub shape: Shape,
+    /// Its events, oldest first.
     pub events: LinkedList<ClientEvent>,
     /// The words of the frames that were released, oldest first.
     pub frames: LinkedList<u32>,
-    /// The frames whose cells were stored: the number of each, and its word, newest first.
+    /// The frames whose cells were stored: the number of each, counted from the base on, and its word, newest first.
     pub stored: LinkedList<(u64, u32)>,
     /// The front last seen.
     pub front: u32,
@@ -27,6 +31,7 @@ pub struct ClientPart {
 /// What a server has done, and what it knows. No value of it is made.
 pub struct ServerPart {
     pub shape: Shape,
+    /// Its events, oldest first.
     pub events: LinkedList<ServerEvent>,
     /// The words of the frames that were taken, oldest first.
     pub frames: LinkedList<u32>,
@@ -49,6 +54,7 @@ pub struct ServerPart {
 /// What a hand has done. No value of it is made.
 pub struct HandPart {
     pub shape: Shape,
+    /// Its events, oldest first.
     pub events: LinkedList<HandEvent>,
 }
 
