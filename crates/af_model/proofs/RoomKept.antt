@@ -1,5 +1,5 @@
 -- In a history whose client's list is spelled by its calls, neither proxy ever sees the other outside the room.
-use Rattle.std.proofs.Common.{◌≡◌, ℕ, ◌+◌, ◌-◌, ◌%◌, ◌^◌, ◌<◌, ◌≤◌, min, Bool, true, false, if◌then◌else◌, MatchOption, Option, Some, None, is_some, nat_lt, fold, List, [], ◌∷◌, ◌++◌, refl, sym, ap, ◌∙◌, subst, arith}
+use Rattle.std.proofs.Common.{◌≡◌, ℕ, ◌+◌, ◌-◌, ◌<◌, ◌≤◌, min, Bool, true, false, if◌then◌else◌, MatchOption, Option, Some, None, is_some, nat_lt, fold, List, [], ◌∷◌, ◌++◌, refl, sym, ap, ◌∙◌, subst, arith}
 use Rattle.std.proofs.lemmas.Grind.{fold-append}
 use Rattle.af_base.specs.declared.event.ClientCall.{ClientCall}
 use Rattle.af_base.specs.declared.event.ClientCall.TheVariants as call
@@ -14,7 +14,7 @@ use Rattle.af_model.specs.Point.{wrapped, start, ClientMay, ServerMay, after_cli
 use Rattle.af_model.specs.History.{Moment, by_client, by_server, by_hand, client_of, server_of, after, IsLegal, HasHistory, point}
 use Rattle.af_model.specs.Fates.{InTurn}
 use Rattle.af_model.specs.Room.{ahead, outside}
-use Rattle.af_model.specs.ClientCalls.{ClientKept, client_keeps, client_begins, client_kept, filled_by, put_count, ClientAnswers, client_call_events, client_events_of, IsClientList, begins, calls, meets}
+use Rattle.af_model.specs.ClientCalls.{ClientKept, client_keeps, client_begins, client_kept, filled_by, ClientAnswers, client_events_of, IsClientList, begins, calls, meets}
 use Rattle.af_model.specs.ServerCalls.{ServerKept, server_keeps, server_begins, server_kept}
 use Rattle.af_model.proofs.Fates.{in_turn}
 
@@ -27,20 +27,20 @@ nat_lt-false a b le = search arith
 
 module _ (frames : ℕ) where
   -- the front that the last event saw, if it saw one
-  abbrev open_after : Option ℕ → ClientEvent → Option ℕ
+  abbrev pub open_after : Option ℕ → ClientEvent → Option ℕ
   open_after o (client.SawFront front) = Some front
   open_after o _ = None
 
   -- a release follows a look at front by which there is room for it
-  abbrev FitsRoom : ClientKept → Option ℕ → ClientEvent → Type 0
+  abbrev pub FitsRoom : ClientKept → Option ℕ → ClientEvent → Type 0
   FitsRoom k o (client.Release count) = (front : ℕ) × (o ≡ Some front) × (filled_by k front + count ≤ frames)
   FitsRoom k o _ = Unit {0}
 
-  abbrev AllFit : ClientKept → Option ℕ → List ClientEvent → Type 0
+  abbrev pub AllFit : ClientKept → Option ℕ → List ClientEvent → Type 0
   AllFit k o [] = Unit {0}
   AllFit k o (e ∷ es) = FitsRoom k o e × AllFit (client_keeps frames k e) (open_after o e) es
 
-  fit_split : (k : ClientKept) (o : Option ℕ) (xs ys : List ClientEvent) → AllFit k o (xs ++ ys)
+  pub fit_split : (k : ClientKept) (o : Option ℕ) (xs ys : List ClientEvent) → AllFit k o (xs ++ ys)
       → AllFit k o xs × AllFit (fold (client_keeps frames) k xs) (fold open_after o xs) ys
   fit_split k o [] ys h = (tt, h)
   fit_split k o (x ∷ xs) ys h = let r = fit_split (client_keeps frames k x) (open_after o x) xs ys h.1 in ((h.0, r.0), r.1)
@@ -75,20 +75,20 @@ module _ (frames : ℕ) where
   call_fits cells base es asked o (call.Poke command word value) a = (tt, tt)
 
   -- the releases of calls fit the room
-  all_fit : (cells base : ℕ) (es : List ClientEvent) → IsClientList frames cells base es → AllFit (client_begins base) None es
+  pub all_fit : (cells base : ℕ) (es : List ClientEvent) → IsClientList frames cells base es → AllFit (client_begins base) None es
   all_fit cells base _ begins = tt
   all_fit cells base _ (calls es asked answer before a) = fit_join (client_begins base) None es _ (all_fit cells base es before) (call_fits cells base es asked _ answer a)
   all_fit cells base _ (meets es count before) = fit_join (client_begins base) None es _ (all_fit cells base es before) (tt, tt)
 
   -- what the client saw is a front of before, by which the frames have room
-  abbrev SeenIn : Option ℕ → ℕ → ℕ → Type 0
+  abbrev pub SeenIn : Option ℕ → ℕ → ℕ → Type 0
   SeenIn o consumed released = MatchOption o (Unit {0}) (λ front. (known : ℕ) × (wrapped known ≡ front) × (known ≤ consumed) × (released ≤ known + frames))
 
-  record HasRoom (k : ClientKept) (o : Option ℕ) (p : TrackPoint) : Type 0 where
-    position_is : k.position ≡ p.released
-    unshut : k.shut ≡ None
-    fits : p.released ≤ p.consumed + frames
-    seen : SeenIn o p.consumed p.released
+  pub record HasRoom (k : ClientKept) (o : Option ℕ) (p : TrackPoint) : Type 0 where
+    pub position_is : k.position ≡ p.released
+    pub unshut : k.shut ≡ None
+    pub fits : p.released ≤ p.consumed + frames
+    pub seen : SeenIn o p.consumed p.released
 
   module _ (few : frames ≤ 65536) (base : ℕ) where
     outside_none : (consumed released : ℕ) → consumed ≤ released → released ≤ consumed + frames → outside frames (wrapped consumed) (wrapped released) ≡ None
@@ -176,7 +176,7 @@ module _ (frames : ℕ) where
     hand_keeps p (hand.SetFlags bits) = (refl, omega arith)
     hand_keeps p (hand.Met count) = (refl, omega arith)
 
-    room_in : (order : List Moment) → IsLegal (start base) order → AllFit (client_begins base) None (client_of order)
+    pub room_in : (order : List Moment) → IsLegal (start base) order → AllFit (client_begins base) None (client_of order)
         → HasRoom (client_kept frames base (client_of order)) (fold open_after None (client_of order)) (after (start base) order)
     room_in [] h fit = record { position_is = refl; unshut = refl; fits = omega arith; seen = tt }
     room_in (by_client e ∷ order) h fit =
@@ -210,9 +210,9 @@ module _ (frames : ℕ) where
         record {
           rear_is = s.rear_is;
           unshut = either_none k.is_new _ (
-            ap (λ (x : ℕ × ℕ). outside frames x.0 x.1) (λ i. (may i, s.rear_is i))
-            ∙ outside_none p.consumed p.rear_seen turn.to_seen (let a = turn.to_released in omega arith)
-          );
+              ap (λ (x : ℕ × ℕ). outside frames x.0 x.1) (λ i. (may i, s.rear_is i))
+              ∙ outside_none p.consumed p.rear_seen turn.to_seen (let a = turn.to_released in omega arith)
+              );
         }
     server_sees k p others (server.Drop to) may turn fits s = record { rear_is = s.rear_is; unshut = s.unshut }
     server_sees k p others (server.Take count) may turn fits s = record { rear_is = s.rear_is; unshut = s.unshut }
