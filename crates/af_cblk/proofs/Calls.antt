@@ -19,7 +19,9 @@ use Rattle.af_cblk.proofs.Sized.{IsSized, sized}
 use Rattle.af_cblk.proofs.Numbers.{ahead_of, ahead_is}
 use Rattle.af_cblk.proofs.Rows.{run_length}
 use Rattle.af_cblk.proofs.Seats.{client_steps, server_steps, hand_steps, pair_steps, client_hand_steps}
-use Rattle.af_cblk.proofs.Steps.{number_is, filled_fits, client_loads_front, client_stores_cell, client_stores_rear, client_loads_flags, client_loads_status, flushes_seen, client_flushes, client_stores_gain, client_clears_flags, server_loads_flush, server_loads_rear, server_loads_front, server_loads_cell, server_takes, server_drops, server_loads_gain, server_tallies, server_sets_flags, server_stores_status, hand_sets, client_learns, server_learns, hand_meets}
+use Rattle.af_cblk.proofs.ClientSteps.{number_is, filled_fits, client_loads_front, client_stores_cell, client_stores_rear, client_loads_flags, client_loads_status, flushes_seen, client_flushes, client_stores_gain, client_clears_flags}
+use Rattle.af_cblk.proofs.ServerSteps.{server_loads_flush, server_loads_rear, server_loads_front, server_loads_cell, server_takes, server_drops, server_loads_gain, server_tallies, server_sets_flags, server_stores_status}
+use Rattle.af_cblk.proofs.MeetingSteps.{hand_sets, client_learns, server_learns, hand_meets}
 
 seven_off : (j : ℕ) → 7 + j - 7 ≡ j
 seven_off j = omega arith
