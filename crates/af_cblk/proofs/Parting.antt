@@ -1,5 +1,6 @@
 -- What a meeting tells, said of the passes.
-use Rattle.std.proofs.Common.{◌≡◌, ℕ, List, ap, ◌∙◌, subst}
+use Rattle.af_base.specs.declared.event.ClientEvent.{ClientEvent}
+use Rattle.std.proofs.Common.{◌+◌, ◌-◌, [], ◌∷◌, ◌++◌, length, length-append, arith, ◌≡◌, ℕ, List, ap, ◌∙◌, subst}
 use Rattle.af_base.specs.declared.event.ServerEvent.{ServerEvent}
 use Rattle.af_base.specs.declared.event.HandEvent.{HandEvent}
 use Rattle.af_model.specs.History.{HasHistory}
@@ -21,3 +22,7 @@ pub met : (b base : ℕ) (se : List ServerEvent) (sf : List ℕ) (c : ClientPart
 met b base se sf c s h c' s' h' is events frames hers his its told =
     subst (λ (x : ℕ × ClientPart × List ServerEvent × List ℕ × HandPart). HasHistory x.0 x.1.events x.1.frames x.2 x.3 x.4.events)
     (λ n. (is n, hers n, (events ∙ ap (λ p. p.events) his) n, (frames ∙ ap (λ p. p.frames) his) n, its n)) told
+
+-- before an event more there was one less
+pub one_less : (es : List ClientEvent) (e : ClientEvent) → length (es ++ e ∷ []) - 1 ≡ length es
+one_less es e = let l : length (es ++ e ∷ []) ≡ length es + 1 = length-append es (e ∷ []) in omega arith

@@ -14,6 +14,7 @@ use Rattle.af_cblk.specs.declared.view.HandPart.{HandPart}
 use Rattle.af_cblk.specs.Parts.{client_did, server_did}
 use Rattle.af_cblk.specs.Rule.{words_of, Small, InTurn, ClientKnows, ServerKnows, StartsWith, Stands}
 use Rattle.af_cblk.proofs.Rows.{set_back}
+
 abbrev pub at : List ℕ → ℕ → ℕ
 at ws i = get_or ws i 0
 

@@ -97,6 +97,10 @@ HandSets st m n m' = m' ≡ (record m.0 { hand = hand_set m.0.hand }, m.1)
 abbrev pub Meeting : View → List HandEvent → Type 0
 Meeting v hand = HasHistory v.client.shape.base v.client.events v.client.frames v.server.events v.server.frames hand
 
+-- each has learnt what the other had done
+abbrev pub both_met : View → View
+both_met v = record v { client = client_met v.client v.server.events; server = server_did v.server (server.Learn (length v.client.events)) }
+
 -- The seat has the client's and the server's part. The client learns first
 abbrev pub ClientLearns : Told
 ClientLearns st m n m' = WithClient (client_met m.0.client m.0.server.events) m m'

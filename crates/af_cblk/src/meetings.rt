@@ -10,13 +10,11 @@ ghost use Rattle.af_cblk.specs.Sides.{client_made, server_made, hand_made, Serve
 
 use crate::block::Block;
 use crate::pass::{ClientPass, FlagHand, ServerPass};
-use crate::plays::{ClientLearns, ClientMoves, HandMeets, HandMoves, ServerLearns};
-use crate::words::FRONT;
 use af_base::Steps;
 use std::sync::ledger::Ledger;
 
 impl Block {
-    /// Splits the hand off the server's pass.
+    /// Splits the hand off the server's pass: from then on DISABLED is set beside the server. It appends nothing, takes one step, and can be done once for each block.
     pub fn hand<L: Ledger>(&self, pass: &mut ServerPass, steps: &mut Steps<L>) -> FlagHand
         requires made { server_made pass.old ≡ self.now }
         requires first { pass.old.has_hand ≡ true }
@@ -24,12 +22,13 @@ impl Block {
         ensures hand { (hand_made result ≡ self.now) × (result.part ≡ new_hand self.now.shape) }
         ensures steps { steps.new ≡ steps.old + 1 }
     {
-        let seat = self.table.shared.split_seat::<HandMoves>(&mut pass.seat);
-        steps.tick();
+        let seat = self.part_hand(&mut pass.seat, steps);
         FlagHand { seat }
     }
 
-    /// The client and the server learn what the other has done so far. Where the client has not poked, their lists have a history.
+    /// The client and the server learn what the other has done so far: all of it stands before their own next events. It appends Learn to each list, in five steps.
+    ///
+    /// Where the client has not poked, these two lists have a history, with some hand's list, which is empty where the hand is with the server.
     pub fn meet<L: Ledger>(
         &self,
         client: &mut ClientPass,
@@ -46,20 +45,14 @@ impl Block {
             × HasHistory self.now.shape.base client.new.part.events client.new.part.frames server.new.part.events server.new.part.frames hand }
         ensures steps { steps.new ≡ steps.old + 5 }
     {
-        let shared = &self.table.shared;
-        let moved = shared.split_seat::<ClientMoves>(&mut client.seat);
-        steps.tick();
-        shared.join_seat::<ClientMoves>(&mut server.seat, moved);
-        steps.tick();
-        shared.load::<ClientLearns>(&mut server.seat, FRONT);
-        steps.tick();
-        shared.load::<ServerLearns>(&mut server.seat, FRONT);
-        steps.tick();
-        client.seat = shared.split_seat::<ClientMoves>(&mut server.seat);
-        steps.tick();
+        self.bring_client(&mut client.seat, &mut server.seat, steps);
+        self.learn_both(&mut server.seat, steps);
+        client.seat = self.part_client(&mut server.seat, steps);
     }
 
-    /// The hand learns what the client has done so far. Where the client has not poked, their lists have a history with some list of the server's, which goes on from what the client had learnt.
+    /// The hand learns what the client has done so far, while the server's pass is elsewhere. It appends Met to the hand's list and nothing to the client's, in four steps.
+    ///
+    /// Where the client has not poked, their lists have a history with some list of the server's, which goes on from what the client had learnt.
     pub fn meet_flag<L: Ledger>(
         &self,
         client: &mut ClientPass,
@@ -76,18 +69,12 @@ impl Block {
             × HasHistory self.now.shape.base client.old.part.events client.old.part.frames server taken hand.new.part.events }
         ensures steps { steps.new ≡ steps.old + 4 }
     {
-        let shared = &self.table.shared;
-        let moved = shared.split_seat::<ClientMoves>(&mut client.seat);
-        steps.tick();
-        shared.join_seat::<ClientMoves>(&mut hand.seat, moved);
-        steps.tick();
-        shared.load::<HandMeets>(&mut hand.seat, FRONT);
-        steps.tick();
-        client.seat = shared.split_seat::<ClientMoves>(&mut hand.seat);
-        steps.tick();
+        self.bring_client(&mut client.seat, &mut hand.seat, steps);
+        self.learn_hand(&mut hand.seat, steps);
+        client.seat = self.part_client(&mut hand.seat, steps);
     }
 
-    /// What `meet` and then `meet_flag` append. Where the client has not poked, the three lists have a history.
+    /// It appends what `meet` and then `meet_flag` append, in nine steps. Where the client has not poked, these three lists have a history.
     pub fn meet_all<L: Ledger>(
         &self,
         client: &mut ClientPass,
@@ -107,24 +94,11 @@ impl Block {
             → HasHistory self.now.shape.base client.new.part.events client.new.part.frames server.new.part.events server.new.part.frames hand.new.part.events }
         ensures steps { steps.new ≡ steps.old + 9 }
     {
-        let shared = &self.table.shared;
-        let moved = shared.split_seat::<ClientMoves>(&mut client.seat);
-        steps.tick();
-        shared.join_seat::<ClientMoves>(&mut server.seat, moved);
-        steps.tick();
-        let moved = shared.split_seat::<HandMoves>(&mut hand.seat);
-        steps.tick();
-        shared.join_seat::<HandMoves>(&mut server.seat, moved);
-        steps.tick();
-        shared.load::<ClientLearns>(&mut server.seat, FRONT);
-        steps.tick();
-        shared.load::<ServerLearns>(&mut server.seat, FRONT);
-        steps.tick();
-        shared.load::<HandMeets>(&mut server.seat, FRONT);
-        steps.tick();
-        hand.seat = shared.split_seat::<HandMoves>(&mut server.seat);
-        steps.tick();
-        client.seat = shared.split_seat::<ClientMoves>(&mut server.seat);
-        steps.tick();
+        self.bring_client(&mut client.seat, &mut server.seat, steps);
+        self.bring_hand(&mut hand.seat, &mut server.seat, steps);
+        self.learn_both(&mut server.seat, steps);
+        self.learn_hand(&mut server.seat, steps);
+        hand.seat = self.part_hand(&mut server.seat, steps);
+        client.seat = self.part_client(&mut server.seat, steps);
     }
 }
