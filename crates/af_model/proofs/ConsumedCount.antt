@@ -5,13 +5,15 @@ use Rattle.af_base.specs.declared.event.ClientEvent.{ClientEvent}
 use Rattle.af_base.specs.declared.event.ServerEvent.{ServerEvent}
 use Rattle.af_base.specs.declared.event.ServerEvent.TheVariants as server
 use Rattle.af_base.specs.declared.event.HandEvent.{HandEvent}
+use Rattle.af_base.specs.declared.seen.Seen.{Seen}
+use Rattle.af_base.specs.declared.seen.Seen.TheVariants as seen
 use Rattle.af_model.specs.declared.point.TrackPoint.{TrackPoint}
 use Rattle.af_model.specs.Point.{wrapped, start, ServerMay, after_server}
 use Rattle.af_model.specs.History.{Moment, by_client, by_server, by_hand, client_of, server_of, after, IsLegal, HasHistory, point}
 use Rattle.af_model.specs.Fates.{InTurn}
 use Rattle.af_model.specs.Room.{ahead}
 use Rattle.af_model.specs.ClientCalls.{client_begins, IsClientList}
-use Rattle.af_model.specs.ServerCalls.{ServerKept, server_keeps, server_begins, server_kept, Sight, frames, empty, flushed, shut, look_at, drops_of, IsServerList, begins, looks, takes, reads_gains, tallies, sets_flags, sets_status, rests, meets}
+use Rattle.af_model.specs.ServerCalls.{ServerKept, server_keeps, server_begins, server_kept, look_at, drops_of, IsServerList, begins, looks, takes, reads_gains, tallies, sets_flags, sets_status, rests, meets}
 use Rattle.af_model.proofs.Fates.{in_turn}
 use Rattle.af_model.proofs.RoomKept.{AllFit, fit_split, all_fit, room_in, ahead-between}
 use Rattle.af_model.proofs.OneFate.{same_consumed, hand_consumed}
@@ -38,11 +40,12 @@ follow_join : (b : Bool) (xs ys : List ServerEvent) → AllFollow b xs → AllFo
 follow_join b [] ys h t = t
 follow_join b (x ∷ xs) ys h t = (h.0, follow_join (saw_front b x) xs ys h.1 t)
 
-drops_follow : (sight : Sight) (rear : ℕ) → AllFollow true (drops_of sight rear)
-drops_follow (frames count) rear = tt
-drops_follow empty rear = tt
-drops_follow (flushed dropped) rear = (refl, tt)
-drops_follow (shut front back) rear = tt
+drops_follow : (sight : Seen) (rear : ℕ) → AllFollow true (drops_of sight rear)
+drops_follow seen.Absent rear = tt
+drops_follow (seen.Frames count) rear = tt
+drops_follow seen.Empty rear = tt
+drops_follow (seen.Flushed dropped) rear = (refl, tt)
+drops_follow (seen.Shut front back) rear = tt
 
 all_follow : (size base : ℕ) (shown : Option ℕ) (es : List ServerEvent) → IsServerList size base shown es → AllFollow false es
 all_follow size base _ _ begins = tt

@@ -2,6 +2,8 @@
 use Rattle.std.specs.Prelude.{◌≡◌, ℕ, ◌+◌, ◌≤◌, ◌==◌, nat_lt, min, Bool, false, not, if◌then◌else◌, fold, List, [], ◌∷◌, ◌++◌, Option, Some, None}
 use Rattle.af_base.specs.declared.event.ServerEvent.{ServerEvent}
 use Rattle.af_base.specs.declared.event.ServerEvent.TheVariants as server
+use Rattle.af_base.specs.declared.seen.Seen.{Seen}
+use Rattle.af_base.specs.declared.seen.Seen.TheVariants as seen
 use Rattle.af_model.specs.Point.{wrapped}
 use Rattle.af_model.specs.Room.{ahead, outside}
 
@@ -29,33 +31,26 @@ server_begins base = record { flush = 0; is_new = false; rear = wrapped base; fr
 abbrev pub server_kept : ℕ → ℕ → List ServerEvent → ServerKept
 server_kept frames base events = fold (server_keeps frames) (server_begins base) events
 
--- what a look shows
-pub data Sight : Type 0 where
-  frames : ℕ → Sight
-  empty : Sight
-  flushed : ℕ → Sight
-  shut : ℕ → ℕ → Sight
-
 -- What a look for `asked` frames shows, by the three words seen and the flush count kept before: a new flush first, then whether the words fit the block
-abbrev pub look_at : (size kept asked flush rear front : ℕ) → Sight
+abbrev pub look_at : (size kept asked flush rear front : ℕ) → Seen
 look_at size kept asked flush rear front =
-    if not (flush == kept) then flushed (ahead front rear)
-    else if nat_lt size (ahead front rear) then shut front rear
-    else if rear == front then empty
-    else frames (min asked (ahead front rear))
+    if not (flush == kept) then seen.Flushed (ahead front rear)
+    else if nat_lt size (ahead front rear) then seen.Shut front rear
+    else if rear == front then seen.Empty
+    else seen.Frames (min asked (ahead front rear))
 
 -- what a look drops: all frames up to the rear that it saw, where it saw a new flush
-abbrev pub drops_of : Sight → ℕ → List ServerEvent
-drops_of (flushed dropped) rear = server.Drop rear ∷ []
+abbrev pub drops_of : Seen → ℕ → List ServerEvent
+drops_of (seen.Flushed dropped) rear = server.Drop rear ∷ []
 drops_of _ rear = []
 
 -- the events of a look
-abbrev pub look_events : Sight → (flush rear front : ℕ) → List ServerEvent
-look_events sight flush rear front = server.SawFlush flush ∷ server.SawRear rear ∷ server.SawFront front ∷ drops_of sight rear
+abbrev pub look_events : Seen → (flush rear front : ℕ) → List ServerEvent
+look_events shown flush rear front = server.SawFlush flush ∷ server.SawRear rear ∷ server.SawFront front ∷ drops_of shown rear
 
 -- how many frames a look showed, where it showed some
-abbrev pub shown_by : Sight → Option ℕ
-shown_by (frames count) = Some count
+abbrev pub shown_by : Seen → Option ℕ
+shown_by (seen.Frames count) = Some count
 shown_by _ = None
 
 -- A server's list is what calls and meetings add, one after the other. `shown` is how many frames may be taken: those that the last call showed, where it was a look that showed some.
