@@ -6,6 +6,7 @@ ghost use Rattle.af_base.specs.declared.event.HandEvent.{HandEvent};
 ghost use Rattle.af_model.specs.History.{is_lawful, HasHistory};
 ghost use Rattle.af_cblk.specs.Parts.{client_met, server_did, hand_met};
 ghost use Rattle.af_cblk.specs.Rule.{StartsWith, new_hand};
+ghost use Rattle.af_cblk.specs.Unshut.{NeitherShut};
 ghost use Rattle.af_cblk.specs.Sides.{client_made, server_made, hand_made, ServerIs};
 
 use crate::block::Block;
@@ -28,7 +29,7 @@ impl Block {
 
     /// The client and the server learn what the other has done so far: all of it stands before their own next events. It appends Learn to each list, in five steps.
     ///
-    /// Where the client has not poked, these two lists have a history, with some hand's list, which is empty where the hand is with the server.
+    /// Where the client has not poked, these two lists have a history, with some hand's list, which is empty where the hand is with the server. Where its list is moreover what its calls spell, neither proxy was shut.
     pub fn meet<L: Ledger>(
         &self,
         client: &mut ClientPass,
@@ -43,6 +44,7 @@ impl Block {
         ensures history { is_lawful client.old.part.events ≡ true
             → (hand : List HandEvent) × (server.old.has_hand ≡ true → hand ≡ [])
             × HasHistory self.now.shape.base client.new.part.events client.new.part.frames server.new.part.events server.new.part.frames hand }
+        ensures unshut { is_lawful client.old.part.events ≡ true → NeitherShut self.now.shape client.old.part.events server.old.part.events }
         ensures steps { steps.new ≡ steps.old + 5 }
     {
         self.bring_client(&mut client.seat, &mut server.seat, steps);
@@ -92,6 +94,7 @@ impl Block {
         ensures hand { hand.new.part ≡ hand_met hand.old.part (length client.old.part.events + 1) }
         ensures history { is_lawful client.old.part.events ≡ true
             → HasHistory self.now.shape.base client.new.part.events client.new.part.frames server.new.part.events server.new.part.frames hand.new.part.events }
+        ensures unshut { is_lawful client.old.part.events ≡ true → NeitherShut self.now.shape client.old.part.events server.old.part.events }
         ensures steps { steps.new ≡ steps.old + 9 }
     {
         self.bring_client(&mut client.seat, &mut server.seat, steps);

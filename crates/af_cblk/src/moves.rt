@@ -6,6 +6,7 @@ ghost use Rattle.af_model.specs.History.{is_lawful, HasHistory};
 ghost use Rattle.af_cblk.specs.Parts.{hand_met};
 ghost use Rattle.af_cblk.specs.Rule.{StartsWith, with_client, client_alone, without_client, with_hand, hand_alone, without_hand};
 ghost use Rattle.af_cblk.specs.Plays.{Meeting, both_met};
+ghost use Rattle.af_cblk.specs.Unshut.{NeitherShut};
 
 use crate::block::Block;
 use crate::plays::{ClientLearns, ClientMoves, HandMeets, HandMoves, ServerLearns};
@@ -103,6 +104,7 @@ impl Block {
         ensures history { is_lawful seat.old.me.0.client.events ≡ true
             → (hand : List HandEvent) × (seat.old.me.0.is_hand ≡ true → hand ≡ seat.old.me.0.hand.events)
             × Meeting (both_met seat.old.me.0) hand }
+        ensures unshut { is_lawful seat.old.me.0.client.events ≡ true → NeitherShut self.now.shape seat.old.me.0.client.events seat.old.me.0.server.events }
         ensures steps { steps.new ≡ steps.old + 2 }
     {
         self.table.shared.load::<ClientLearns>(seat, FRONT);

@@ -1,4 +1,4 @@
-use Rattle.std.proofs.Common.{rules, ◌≡◌, ◌-◌, sym, ap, ◌∙◌, refl, subst, true, length}
+use Rattle.std.proofs.Common.{rules, ◌≤◌, ◌≡◌, ◌-◌, sym, ap, ◌∙◌, refl, subst, true, length}
 use Rattle.af_base.specs.declared.event.ClientEvent.TheVariants as client
 use Rattle.af_base.specs.declared.event.ServerEvent.TheVariants as server
 use Rattle.af_model.specs.History.{is_lawful}
@@ -8,6 +8,9 @@ use Rattle.af_cblk.specs.Plays.{Meeting}
 use Rattle.af_cblk.specs.Sides.{Made}
 use Rattle.af_cblk.proofs.Calls.{learns_by_client, learns_by_server}
 use Rattle.af_cblk.proofs.Parting.{one_less}
+use Rattle.af_cblk.specs.declared.view.Shape.{Shape}
+use Rattle.af_cblk.specs.Unshut.{NeitherShut}
+use Rattle.af_cblk.proofs.NoneShut.{neither_shut}
 use Rattle.af_cblk.proofs.block.Block.learn_both.Goals as goal
 
 pub load-requires : goal.load-requires
@@ -34,3 +37,10 @@ returns-clause-history g c = λ ok.
     ∙ ap (λ x. (record x.0 { server = server_did x.0.server (server.Learn (length x.0.client.events - 1)) }, x.1)) first.2
     ∙ ap (λ n. (record m.0 { client = client_met m.0.client m.0.server.events; server = server_did m.0.server (server.Learn n) }, m.1)) (one_less m.0.client.events (client.Learn (length m.0.server.events))) in
     (told.0, (λ has. told.1 (ap (λ x. x.0.is_hand) first.2 ∙ has) ∙ ap (λ x. x.0.hand.events) first.2), subst (λ x. Meeting x.0 told.0) both told.2)
+
+pub returns-clause-unshut : goal.returns-clause-unshut
+returns-clause-unshut g c = λ ok.
+    let m = c.args.seat.now.me in
+    let few = subst (λ (k : Shape). k.frames ≤ 65536) (sym (c.requires.shape ∙ ap (λ (x : Made). x.shape) (sym c.self.view_is))) c.self.invariant.2.few in
+    subst (λ (k : Shape). NeitherShut k m.0.client.events m.0.server.events) c.requires.shape
+    (neither_shut m.0.client.shape few m.0.client.events m.0.client.frames m.0.server.events m.0.server.frames _ _ _ (returns-clause-history g c ok).2)
