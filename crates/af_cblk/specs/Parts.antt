@@ -39,7 +39,7 @@ abbrev pub word_at : List (ℕ × ℕ) → ℕ → ℕ
 word_at [] x = 0
 word_at (e ∷ es) x = if x == e.0 then e.1 else word_at es x
 
--- the words of `count` frames
+-- the words stored for `count` frames, from a number on
 abbrev pub run_of : List (ℕ × ℕ) → ℕ → ℕ → List ℕ
 run_of stored x zero = []
 run_of stored x (suc count) = word_at stored x ∷ run_of stored (suc x) count
@@ -48,9 +48,11 @@ run_of stored x (suc count) = word_at stored x ∷ run_of stored (suc x) count
 abbrev pub client_did : ClientPart → ClientEvent → ClientPart
 client_did c e = record c { events = c.events ++ e ∷ [] }
 
+-- the client has seen this front
 abbrev pub client_saw_front : ClientPart → ℕ → ClientPart
 client_saw_front c front = record c { events = c.events ++ client.SawFront front ∷ []; front = front }
 
+-- the client has stored this word in this cell
 abbrev pub cell_stored : ClientPart → ℕ → ℕ → ClientPart
 cell_stored c j word = record c { stored = (number_at c j, word) ∷ c.stored }
 
@@ -62,6 +64,7 @@ stored_at c position word = record c { stored = (length c.frames + ahead (releas
 abbrev pub AreStored : ClientPart → ℕ → Type 0
 AreStored c count = (i : ℕ) → i < count → Has c.stored (length c.frames + i)
 
+-- the client has released the next `count` frames, with the words that were stored for them
 abbrev pub rear_stored : ClientPart → ℕ → ClientPart
 rear_stored c count =
     record c {
@@ -83,6 +86,7 @@ client_met c events = record c { events = c.events ++ client.Learn (length event
 abbrev pub server_did : ServerPart → ServerEvent → ServerPart
 server_did s e = record s { events = s.events ++ e ∷ [] }
 
+-- The server has seen this flush count. One that differs from the last is a new flush, after which no rear was seen yet
 abbrev pub saw_flush : ServerPart → ℕ → ServerPart
 saw_flush s flush =
     record s {
@@ -92,20 +96,24 @@ saw_flush s flush =
       rear_after = s.rear_after && (flush == s.flush);
     }
 
+-- the server has seen this rear, and front not since
 abbrev pub saw_rear : ServerPart → ℕ → ServerPart
 saw_rear s rear =
     record s { events = s.events ++ server.SawRear rear ∷ []; rear = rear; rear_after = true; fresh = false; loaded = [] }
 
+-- the server has seen this front, and no cells from it on
 abbrev pub server_saw_front : ServerPart → ℕ → ServerPart
 server_saw_front s front =
     record s { events = s.events ++ server.SawFront front ∷ []; front = front; fresh = true; loaded = [] }
 
+-- the server has loaded this cell, which counts where it is the next one from the front on
 abbrev pub saw_cell : ServerPart → ℕ → ℕ → ServerPart
 saw_cell s j word =
     record s {
       loaded = if j == wrapped (s.front + length s.loaded) % s.shape.cells then s.loaded ++ word ∷ [] else s.loaded;
     }
 
+-- the server has taken the frames up to this front
 abbrev pub took : ServerPart → ℕ → ServerPart
 took s front =
     record s {
@@ -116,6 +124,7 @@ took s front =
       loaded = [];
     }
 
+-- the server has dropped the frames up to this front
 abbrev pub dropped : ServerPart → ℕ → ServerPart
 dropped s front =
     record s {
@@ -127,6 +136,7 @@ dropped s front =
       loaded = [];
     }
 
+-- the server has stored this front: after a new flush it dropped, and else it took
 abbrev pub front_stored : ServerPart → ℕ → ServerPart
 front_stored s front = if s.noticed then dropped s front else took s front
 
@@ -144,8 +154,10 @@ MayStoreFront s front = (s.noticed ≡ true → MayDrop s front) × (s.noticed �
 
 -- ## The hand
 
+-- the hand has set DISABLED
 abbrev pub hand_set : HandPart → HandPart
 hand_set h = record h { events = h.events ++ hand.SetFlags 8 ∷ [] }
 
+-- the hand has met the client, which had done so many events
 abbrev pub hand_met : HandPart → ℕ → HandPart
 hand_met h count = record h { events = h.events ++ hand.Met count ∷ [] }

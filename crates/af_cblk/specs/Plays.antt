@@ -13,14 +13,17 @@ use Rattle.af_cblk.specs.declared.view.View.{View}
 use Rattle.af_cblk.specs.Parts.{ahead, released, filled, client_did, client_saw_front, cell_stored, rear_stored, recorded, client_met, server_did, saw_flush, saw_rear, server_saw_front, saw_cell, front_stored, hand_set, hand_met}
 use Rattle.af_cblk.specs.Rule.{StartsWith}
 
+-- a seat with its view
 abbrev Mine : Type 0
 Mine = Me (Unit {0}) View
 
+-- what a step tells: the step, the seat before, the number found or stored, and the seat after
 abbrev Told : Type 1
 Told = Step (Unit {0}) → Mine → ℕ → Mine → Type 0
 
 -- ## The client
 
+-- the seat goes on with this client's part
 abbrev pub WithClient : ClientPart → Mine → Mine → Type 0
 WithClient c m m' = m' ≡ (record m.0 { client = c }, m.1)
 
@@ -56,6 +59,7 @@ Pokes st m n m' = WithClient (client_did m.0.client (client.Poke st.word st.firs
 
 -- ## The server
 
+-- the seat goes on with this server's part
 abbrev pub WithServer : ServerPart → Mine → Mine → Type 0
 WithServer s m m' = m' ≡ (record m.0 { server = s }, m.1)
 

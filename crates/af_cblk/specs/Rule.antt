@@ -19,18 +19,21 @@ abbrev pub words_of : TrackPoint → ℕ → List ℕ → List ℕ
 words_of p tally cells =
     wrapped p.consumed ∷ wrapped p.released ∷ p.flushes ∷ tally ∷ p.flags ∷ p.gains ∷ p.status ∷ cells
 
+-- the numbers that a word holds whole fit it
 pub record Small (flushes flags gains status : ℕ) : Type 0 where
   pub flushes_fit : flushes < 2 ^ 32
   pub flags_fit : flags < 2 ^ 32
   pub gains_fit : gains < 2 ^ 32
   pub status_fit : status < 2 ^ 32
 
+-- positions never pass one another
 pub record InTurn (base consumed rear_seen released : ℕ) : Type 0 where
   pub from_base : base ≤ consumed
   pub to_seen : consumed ≤ rear_seen
   pub to_released : rear_seen ≤ released
 
--- `known` is the position of the front that the client last saw
+-- What the client knows. `known` is the position of the front that it last saw, and all that it released or stored has room from there on.
+-- A cell that it stored past the released frames holds the word of its frame, and the cell of each position that waits holds the frame released there
 pub record ClientKnows (k : Shape) (consumed released : ℕ) (frames cells : List ℕ) (stored : List (ℕ × ℕ)) (front : ℕ) : Type 0 where
   pub known : ℕ
   pub known_is : wrapped known ≡ front
@@ -42,6 +45,7 @@ pub record ClientKnows (k : Shape) (consumed released : ℕ) (frames cells : Lis
   pub pending : (x : ℕ) → length frames ≤ x → Has stored x → slice_index cells ((k.base + x) % k.cells) ≡ word_at stored x
   pub live : (q : ℕ) → consumed ≤ q → q < released → slice_index cells (q % k.cells) ≡ slice_index frames (q - k.base)
 
+-- what the server knows: the words of the rear and front that it saw, and that the cells it loaded have the frames released at their positions
 pub record ServerKnows (base consumed rear_seen : ℕ) (frames : List ℕ) (rear front : ℕ) (loaded : List ℕ) : Type 0 where
   pub rear_is : rear ≡ wrapped rear_seen
   pub front_is : front ≡ wrapped consumed
@@ -51,6 +55,7 @@ pub record ServerKnows (base consumed rear_seen : ℕ) (frames : List ℕ) (rear
 abbrev pub StartsWith : List ServerEvent → List ServerEvent → Type 0
 StartsWith events first = (rest : List ServerEvent) × (first ++ rest ≡ events)
 
+-- the three lists have a history, and the words stand for its last point
 pub record Stands (k : Shape) (words : List ℕ) (c : ClientPart) (s : ServerPart) (h : HandPart) : Type 0 where
   pub history : HasHistory k.base c.events c.frames s.events s.frames h.events
   pub settled : (more : List ℕ) → taken_of (c.frames ++ more) k.base history.order ≡ taken_of c.frames k.base history.order
@@ -80,6 +85,7 @@ pub record Sits (a : Parties) (by : ℕ) (v : View) : Type 0 where
   pub server : v.is_server ≡ true → (by ≡ a.server_seat) × (v.server ≡ a.server)
   pub hand : v.is_hand ≡ true → (by ≡ a.hand_seat) × (v.hand ≡ a.hand)
 
+-- the rule: each seat has the parts that it says it has, and where the client has not poked the words stand for a history of the three lists
 pub record Holds (k : Shape) (t : State (Unit {0}) View) : Type 0 where
   pub parties : Parties
   pub seats : (by : ℕ) (v : View) → get_elem? t.views by ≡ some v → Sits parties by v
@@ -87,6 +93,7 @@ pub record Holds (k : Shape) (t : State (Unit {0}) View) : Type 0 where
 
 -- ## Views
 
+-- a party that has done nothing
 abbrev pub new_client : Shape → ClientPart
 new_client k = record { shape = k; events = []; frames = []; stored = []; front = k.base; learnt = [] }
 
@@ -108,6 +115,7 @@ new_server k =
 abbrev pub new_hand : Shape → HandPart
 new_hand k = record { shape = k; events = [] }
 
+-- the first seat has every part
 abbrev pub newcomer : Shape → View
 newcomer k =
     record {

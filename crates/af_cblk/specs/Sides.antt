@@ -13,21 +13,23 @@ pub record Made : Type 0 where
   pub id : TableId
   pub shape : Shape
 
+-- which block the client steps on, and what it has done and knows there
 pub record ClientSide : Type 0 where
   pub id : TableId
   pub part : ClientPart
 
--- the hand is with the server until it is split off
+-- the same of the server, with which the hand is until it is split off
 pub record ServerSide : Type 0 where
   pub id : TableId
   pub part : ServerPart
   pub has_hand : Bool
 
+-- the same of the hand
 pub record HandSide : Type 0 where
   pub id : TableId
   pub part : HandPart
 
--- the block that a pass was made with
+-- the block that a pass was made with, and its sizes
 abbrev pub client_made : ClientSide → Made
 client_made p = record { id = p.id; shape = p.part.shape }
 
@@ -46,5 +48,6 @@ abbrev pub ClientSawFront : ClientSide → ℕ → ClientSide → Type 0
 ClientSawFront p front q =
     (q.part ≡ client_saw_front p.part front) × (is_lawful p.part.events ≡ true → filled q.part ≤ q.part.shape.frames)
 
+-- the server saw this front
 abbrev pub ServerSawFront : ServerSide → ℕ → ServerSide → Type 0
 ServerSawFront p front q = ServerIs (server_saw_front p.part front) p q
