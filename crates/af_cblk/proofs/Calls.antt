@@ -27,8 +27,8 @@ seven_off : (j : ℕ) → 7 + j - 7 ≡ j
 seven_off j = omega arith
 
 -- the cell of a position is one of the words
-pub cell_within : (shape : Shape) → IsShape shape → (position words : ℕ) → words ≡ 7 + shape.cells → 7 + position % shape.cells < words
-cell_within shape is position words wide = let m : position % shape.cells < shape.cells = mod-lt position (let a = is.some in let b = is.cells.1 in omega arith) in omega arith
+pub cell_within : (shape : Shape) → IsShape shape → (position index words : ℕ) → index ≡ 7 + position % shape.cells → words ≡ 7 + shape.cells → index < words
+cell_within shape is position index words is_index wide = let m : position % shape.cells < shape.cells = mod-lt position (let a = is.some in let b = is.cells.1 in omega arith) in omega arith
 
 abbrev Mine : Type 0
 Mine = Me (Unit {0}) View
@@ -53,9 +53,9 @@ module _ (key shape : Shape) (keyed : key ≡ shape) (slots id : ℕ) (me : Mine
           (refl, (λ ok. let now = client_loads_front words c s h (stands ok) in filled_fits _ (client_saw_front c (wrapped (get_or words 0 0))) s h now old)),
         )))
 
-    pub cell_by_client : IsShape shape → (position word : ℕ) → position < 2 ^ 32 → word < 2 ^ 32 → ahead (released c) position < room c
+    cell_stored_there : IsShape shape → (position word : ℕ) → position < 2 ^ 32 → word < 2 ^ 32 → ahead (released c) position < room c
         → Allows (Holds key) slots id me (7 + position % shape.cells) (λ _. word) (λ _. CellIsStored (step slots (7 + position % shape.cells) word 0 none) me word)
-    cell_by_client ok position word small fits inside =
+    cell_stored_there ok position word small fits inside =
         let old : IsSized c.shape = sized c.shape (subst IsShape (sym same) ok) in
         let j : ℕ = position % c.shape.cells in
         let told : Shape → ℕ → Mine → Type 0 = λ k _. CellIsStored (step slots (7 + position % k.cells) word 0 none) me word in
@@ -65,6 +65,11 @@ module _ (key shape : Shape) (keyed : key ≡ shape) (slots id : ℕ) (me : Mine
           (λ ok. client_stores_cell words c s h (stands ok) old position word small fits inside),
           ap (λ (n : ℕ). (record me.0 { client = cell_stored c n word }, me.1)) (sym (seven_off j)),
         ))))
+
+    pub cell_by_client : IsShape shape → (position word index : ℕ) → index ≡ 7 + position % shape.cells → position < 2 ^ 32 → word < 2 ^ 32 → ahead (released c) position < room c
+        → Allows (Holds key) slots id me index (λ _. word) (λ _. CellIsStored (step slots index word 0 none) me word)
+    cell_by_client ok position word index is_index small fits inside =
+        subst (λ (i : ℕ). Allows (Holds key) slots id me i (λ _. word) (λ _. CellIsStored (step slots i word 0 none) me word)) (sym is_index) (cell_stored_there ok position word small fits inside)
 
     pub rear_by_client : (count new : ℕ) → count < 2 ^ 32 → new ≡ wrapped (released c + count) → ((j : ℕ) → j < count → Has c.stored (length c.frames + j))
         → Allows (Holds key) slots id me 1 (λ _. new) (λ _. RearIsStored (step slots 1 new 0 none) me new)
@@ -151,8 +156,8 @@ module _ (key shape : Shape) (keyed : key ≡ shape) (slots id : ℕ) (me : Mine
         let told = ServerSeesFront (step slots 0 0 0 none) me in
         moved s.shape same 0 (λ n. n) told (server_steps s.shape slots id 0 me (λ n. n) told (λ n. server_saw_front s (wrapped n)) is (λ words c h stands. ((λ ok. server_loads_front words c s h (stands ok)), refl)))
 
-    pub cell_by_server : IsShape shape → (position : ℕ) → Allows (Holds key) slots id me (7 + position % shape.cells) (λ n. n) (SeesCell (step slots (7 + position % shape.cells) 0 0 none) me)
-    cell_by_server ok position =
+    cell_seen_there : IsShape shape → (position : ℕ) → Allows (Holds key) slots id me (7 + position % shape.cells) (λ n. n) (SeesCell (step slots (7 + position % shape.cells) 0 0 none) me)
+    cell_seen_there ok position =
         let old : IsSized s.shape = sized s.shape (subst IsShape (sym same) ok) in
         let j : ℕ = position % s.shape.cells in
         let told : Shape → ℕ → Mine → Type 0 = λ k. SeesCell (step slots (7 + position % k.cells) 0 0 none) me in
@@ -162,6 +167,10 @@ module _ (key shape : Shape) (keyed : key ≡ shape) (slots id : ℕ) (me : Mine
           (λ ok. server_loads_cell words c s h (stands ok) old position),
           ap (λ (n : ℕ). (record me.0 { server = saw_cell s n (wrapped (get_or words (7 + j) 0)) }, me.1)) (sym (seven_off j)),
         ))))
+
+    pub cell_by_server : IsShape shape → (position index : ℕ) → index ≡ 7 + position % shape.cells → Allows (Holds key) slots id me index (λ n. n) (SeesCell (step slots index 0 0 none) me)
+    cell_by_server ok position index is_index =
+        subst (λ (i : ℕ). Allows (Holds key) slots id me i (λ n. n) (SeesCell (step slots i 0 0 none) me)) (sym is_index) (cell_seen_there ok position)
 
     pub front_stored_by_server : IsShape shape → (front : ℕ) → front < 2 ^ 32 → MayStoreFront s front
         → Allows (Holds key) slots id me 0 (λ _. front) (λ _. FrontIsStored (step slots 0 front 0 none) me front)
@@ -234,12 +243,12 @@ module _ (key shape : Shape) (keyed : key ≡ shape) (slots id : ℕ) (me : Mine
       )))
 
 -- the cell that a step wrote is that of the position
-pub cell_is : (c : ClientPart) (shape : Shape) → c.shape ≡ shape → IsShape shape → (position word : ℕ) → position < 2 ^ 32 → ahead (released c) position < room c
-    → cell_stored c (7 + position % shape.cells - 7) word ≡ stored_at c position word
-cell_is c shape same ok position word small inside =
+pub cell_is : (c : ClientPart) (shape : Shape) → c.shape ≡ shape → IsShape shape → (position word index : ℕ) → index ≡ 7 + position % shape.cells → position < 2 ^ 32 → ahead (released c) position < room c
+    → cell_stored c (index - 7) word ≡ stored_at c position word
+cell_is c shape same ok position word index is_index small inside =
     let old : IsSized c.shape = sized c.shape (subst IsShape (sym same) ok) in
     let j : ℕ = position % c.shape.cells in
-    ap (λ (k : Shape). cell_stored c (7 + position % k.cells - 7) word) (sym same) ∙ ap (λ (n : ℕ). cell_stored c n word) (seven_off j)
+    ap (λ (i : ℕ). cell_stored c (i - 7) word) is_index ∙ ap (λ (k : Shape). cell_stored c (7 + position % k.cells - 7) word) (sym same) ∙ ap (λ (n : ℕ). cell_stored c n word) (seven_off j)
     ∙ ap (λ (n : ℕ). record c { stored = (n, word) ∷ c.stored }) (number_is c old position small inside)
 
 -- the word of the position after a release

@@ -1,5 +1,6 @@
 -- What the sizes of a block come to.
-use Rattle.std.proofs.Common.{◌≡◌, ℕ, ◌+◌, ◌-◌, ◌*◌, ◌/◌, ◌^◌, ◌<◌, ◌≤◌, max, sym, ap, ◌∙◌, subst, arith, pow-add, pow_mono, lt_of_not-le}
+use Rattle.std.proofs.Common.{◌≡◌, ℕ, ◌+◌, ◌%◌, bit_and, ◌-◌, ◌*◌, ◌/◌, ◌^◌, ◌<◌, ◌≤◌, max, sym, ap, ◌∙◌, subst, arith, pow-add, pow_mono, lt_of_not-le}
+use Rattle.std.proofs.lemmas.Nat.{and_mask}
 use mathlib.Core.Logic.{dite}
 use native.Mathlib.Decide.{dec_le}
 use Rattle.af_cblk.specs.declared.view.Shape.{Shape}
@@ -26,3 +27,10 @@ sized k shape =
   where
     max_one : (n : ℕ) → 1 ≤ n → max 1 n ≡ n
     max_one n h = omega arith
+
+-- the low bits of a position name its cell
+pub mask_is : (k : Shape) → IsShape k → (position : ℕ) → bit_and position (k.cells - 1) ≡ position % k.cells
+mask_is k shape position =
+    let j : ℕ = shape.cells.0.0 in
+    let is : k.cells ≡ 2 ^ j = shape.cells.0.1 in
+    ap (λ (z : ℕ). bit_and position (z - 1)) is ∙ and_mask position j ∙ ap (λ (z : ℕ). position % z) (sym is)

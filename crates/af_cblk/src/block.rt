@@ -1,5 +1,5 @@
 //! A block, how it is made, and its sizes.
-ghost use Rattle.std.specs.Prelude.{◌≡◌, ◌+◌, ◌≤◌, true, IfOk, [], ◌∷◌, replicate};
+ghost use Rattle.std.specs.Prelude.{◌≡◌, ◌+◌, ◌%◌, ◌≤◌, true, IfOk, [], ◌∷◌, replicate};
 ghost use Rattle.af_cblk.specs.Shape.{IsShape};
 ghost use Rattle.af_cblk.specs.Rule.{new_client, new_server};
 ghost use Rattle.af_cblk.specs.Sides.{client_made, server_made};
@@ -118,6 +118,13 @@ impl Block {
         ensures { result ≡ self.now.shape.base }
     {
         self.shape.base
+    }
+
+    // The place of the cell of a position. The number of cells is a power of two, so that the position's low bits name it.
+    pub(crate) fn cell_of(&self, position: u32) -> usize
+        ensures { result ≡ 7 + position % self.now.shape.cells }
+    {
+        CELLS + (position & (self.shape.cells - 1)) as usize
     }
 
     /// Loads front, by either pass. It appends SawFront.

@@ -11,7 +11,7 @@ use crate::plays::{
     CellIsStored, ClientSeesFlags, ClientSeesFront, ClientSeesStatus, FlagsAreCleared, Flushes,
     GainIsStored, Pokes, RearIsStored,
 };
-use crate::words::{CELLS, FLAGS, FLUSHES, FRONT, GAINS, REAR, STATUS};
+use crate::words::{FLAGS, FLUSHES, FRONT, GAINS, REAR, STATUS};
 use af_base::Steps;
 use std::sync::ledger::Ledger;
 
@@ -47,7 +47,7 @@ impl Block {
         ensures stored { pass.new.part ≡ stored_at pass.old.part position word }
         ensures steps { steps.new ≡ steps.old + 1 }
     {
-        let index = CELLS + (position % self.shape.cells) as usize;
+        let index = self.cell_of(position);
         self.table
             .shared
             .store::<CellIsStored>(&mut pass.seat, index, word as u64);

@@ -10,7 +10,7 @@ use crate::plays::{
     FlagsAreSet, FrontIsStored, HandSets, SeesCell, SeesFlush, SeesGain, SeesRear, ServerSeesFront,
     StatusIsStored, Tallies,
 };
-use crate::words::{CELLS, DISABLED, FLAGS, FLUSHES, FRONT, GAINS, REAR, STATUS, UNDERRUNS};
+use crate::words::{DISABLED, FLAGS, FLUSHES, FRONT, GAINS, REAR, STATUS, UNDERRUNS};
 use af_base::Steps;
 use std::sync::ledger::Ledger;
 
@@ -78,7 +78,7 @@ impl Block {
         ensures saw { ServerIs (saw_cell pass.old.part (position % self.now.shape.cells) result) pass.old pass.new }
         ensures steps { steps.new ≡ steps.old + 1 }
     {
-        let index = CELLS + (position % self.shape.cells) as usize;
+        let index = self.cell_of(position);
         let found = self.table.shared.load::<SeesCell>(&mut pass.seat, index);
         steps.tick();
         (found & 0xffff_ffff) as u32
