@@ -47,7 +47,7 @@ covers base p others (server.SetFlags bits) may turn = refl
 covers base p others (server.SetStatus word) may turn = refl
 covers base p others (server.Learn count) may turn = refl
 
-spans_follow : (base : ℕ) (order : List Moment) → IsLegal (start base) order → Follow base (spans_of base order) (after (start base) order).consumed
+pub spans_follow : (base : ℕ) (order : List Moment) → IsLegal (start base) order → Follow base (spans_of base order) (after (start base) order).consumed
 spans_follow base [] h = refl
 spans_follow base (by_client e ∷ order) h = subst (λ (z : ℕ). Follow base (spans_of base order) z) (sym (same_consumed (after (start base) order) e)) (spans_follow base order h.1)
 spans_follow base (by_server e ∷ order) h =

@@ -68,3 +68,15 @@ mixed_in released base s = frames_by s.fate (take (s.to - s.from) (drop (s.from 
 
 abbrev pub mixed_by : List ℕ → ℕ → List Span → List ℕ
 mixed_by released base spans = flat_map (mixed_in released base) spans
+
+-- that many frames, where the two fates are one
+abbrev pub count_if : Fate → Fate → ℕ → ℕ
+count_if mixed mixed count = count
+count_if discarded discarded count = count
+count_if queued queued count = count
+count_if _ _ count = 0
+
+-- how many frames of the spans have this fate
+abbrev pub count_with : Fate → List Span → ℕ
+count_with fate [] = 0
+count_with fate (s ∷ spans) = count_if fate s.fate (s.to - s.from) + count_with fate spans
