@@ -16,7 +16,7 @@ pub record ServerKept : Type 0 where
   pub consumed : ℕ
   pub shut : Option (ℕ × ℕ)
 
--- a front outside the room shuts the server, unless a new flush was seen
+-- what is known after one event more: a front outside the room shuts the server, unless a new flush was seen
 abbrev pub server_keeps : ℕ → ServerKept → ServerEvent → ServerKept
 server_keeps frames kept (server.SawFlush flush) = record kept { flush = flush; is_new = not (flush == kept.flush) }
 server_keeps frames kept (server.SawRear rear) = record kept { rear = rear }
@@ -25,9 +25,11 @@ server_keeps frames kept (server.Drop to) = record kept { consumed = kept.consum
 server_keeps frames kept (server.Take count) = record kept { consumed = kept.consumed + count }
 server_keeps frames kept _ = kept
 
+-- before its first event
 abbrev pub server_begins : ℕ → ServerKept
 server_begins base = record { flush = 0; is_new = false; rear = wrapped base; front = wrapped base; consumed = 0; shut = None }
 
+-- what these events tell of the server
 abbrev pub server_kept : ℕ → ℕ → List ServerEvent → ServerKept
 server_kept frames base events = fold (server_keeps frames) (server_begins base) events
 

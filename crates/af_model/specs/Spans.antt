@@ -46,6 +46,7 @@ abbrev pub Follow : ℕ → List Span → ℕ → Type 0
 Follow from [] to = from ≡ to
 Follow from (s ∷ spans) to = (s.from ≡ from) × (s.from ≤ s.to) × Follow s.to spans to
 
+-- the position is one of the span's
 abbrev pub LiesIn : Span → ℕ → Type 0
 LiesIn s position = (s.from ≤ position) × (position < s.to)
 
@@ -57,15 +58,17 @@ pub record HasOneFate (spans : List Span) (position : ℕ) : Type 0 where
   pub lies : LiesIn span position
   pub only : (other : ℕ) (s : Span) → slice_get spans other ≡ Some s → LiesIn s position → other ≡ place
 
--- the frames that are mixed by a span, of those released
+-- these frames, where they are mixed
 abbrev pub frames_by : Fate → List ℕ → List ℕ
 frames_by mixed frames = frames
 frames_by discarded frames = []
 frames_by queued frames = []
 
+-- those released at the positions of the span
 abbrev pub mixed_in : List ℕ → ℕ → Span → List ℕ
 mixed_in released base s = frames_by s.fate (take (s.to - s.from) (drop (s.from - base) released))
 
+-- those of all spans, in order
 abbrev pub mixed_by : List ℕ → ℕ → List Span → List ℕ
 mixed_by released base spans = flat_map (mixed_in released base) spans
 
