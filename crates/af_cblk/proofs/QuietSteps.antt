@@ -1,0 +1,114 @@
+-- Steps that change no position, where the client has not poked.
+use Rattle.std.proofs.Common.{max, ◌≡◌, ℕ, ◌+◌, ◌≤◌, List, [], ◌∷◌, ◌++◌, length, get_or, set, sym, ap, ◌∙◌, subst, arith, length-append, append_assoc}
+use Rattle.af_base.specs.declared.event.ClientEvent.{ClientEvent}
+use Rattle.af_base.specs.declared.event.ServerEvent.{ServerEvent}
+use Rattle.af_model.specs.declared.point.TrackPoint.{TrackPoint}
+use Rattle.af_base.specs.declared.event.HandEvent.{HandEvent}
+use Rattle.af_model.specs.Point.{wrapped, ClientMay, ServerMay, HandMay, after_client, after_server, after_hand}
+use Rattle.af_model.specs.History.{Moment, client_of, server_of, met_by, met_in, clients_at, with_taken, taken_of, point}
+use Rattle.af_model.proofs.Grows.{client_adds, server_adds, hand_adds}
+use Rattle.af_cblk.specs.declared.view.Shape.{Shape}
+use Rattle.af_cblk.specs.declared.view.ClientPart.{ClientPart}
+use Rattle.af_cblk.specs.declared.view.ServerPart.{ServerPart}
+use Rattle.af_cblk.specs.declared.view.HandPart.{HandPart}
+use Rattle.af_cblk.specs.Parts.{client_did, server_did}
+use Rattle.af_cblk.specs.Rule.{words_of, Small, InTurn, ClientKnows, ServerKnows, StartsWith, Stands}
+use Rattle.af_cblk.proofs.Rows.{set_back}
+
+abbrev pub at : List ℕ → ℕ → ℕ
+at ws i = get_or ws i 0
+
+-- what was met stays behind
+pub longer : (order : List Moment) (e : ClientEvent) → met_in order ≤ length (client_of order) → met_in order ≤ length (client_of order ++ e ∷ [])
+longer order e h = let l : length (client_of order ++ e ∷ []) ≡ length (client_of order) + 1 = length-append (client_of order) (e ∷ []) in omega arith
+
+pub both_fit : (a b n : ℕ) → a ≤ n → b ≤ n → max a b ≤ n
+both_fit a b n x y = omega arith
+
+-- ## Steps that change no position
+
+module _ (k : Shape) (words words' : List ℕ) (c : ClientPart) (s : ServerPart) (h : HandPart) (i : Stands k words c s h) where
+  abbrev pub Same : TrackPoint → Type 0
+  Same p = let o = point i.history in (p.released ≡ o.released) × (p.consumed ≡ o.consumed) × (p.rear_seen ≡ o.rear_seen)
+
+  abbrev pub StandFor : TrackPoint → Type 0
+  StandFor p = (tally : ℕ) × (words' ≡ words_of p tally i.cells) × (wrapped tally ≡ p.underruns) × Small p.flushes p.flags p.gains p.status
+
+  -- where the positions are as before, the parties know as much
+  pub turn_at : (p : TrackPoint) → Same p → InTurn k.base p.consumed p.rear_seen p.released
+  turn_at p same = subst (λ (x : ℕ × ℕ × ℕ). InTurn k.base x.0 x.1 x.2) (λ n. (sym same.1 n, sym same.2 n, sym same.0 n)) i.in_turn
+
+  pub client_at : (p : TrackPoint) → Same p → ClientKnows k p.consumed p.released c.frames i.cells c.stored c.front
+  client_at p same = subst (λ (x : ℕ × ℕ). ClientKnows k x.0 x.1 c.frames i.cells c.stored c.front) (λ n. (sym same.1 n, sym same.0 n)) i.client_knows
+
+  pub server_at : (p : TrackPoint) → Same p → ServerKnows k.base p.consumed p.rear_seen c.frames s.rear s.front s.loaded
+  server_at p same = subst (λ (x : ℕ × ℕ). ServerKnows k.base x.0 x.1 c.frames s.rear s.front s.loaded) (λ n. (sym same.1 n, sym same.2 n)) i.server_knows
+
+  pub more_events : (e : ServerEvent) → StartsWith (s.events ++ e ∷ []) c.learnt
+  more_events e = (i.learnt.0 ++ e ∷ [], sym (append_assoc c.learnt i.learnt.0 (e ∷ [])) ∙ ap (λ es. es ++ e ∷ []) i.learnt.1)
+
+  pub quiet_client : (e : ClientEvent) → ClientMay (point i.history) (length (server_of i.history.order)) e → Same (after_client (point i.history) e)
+      → StandFor (after_client (point i.history) e) → Stands k words' (client_did c e) s h
+  quiet_client e may same now =
+      let p = after_client (point i.history) e in
+      record {
+        history = client_adds i.history e may same.0;
+        settled = i.settled;
+        tally = now.0;
+        cells = i.cells;
+        words_are = now.1;
+        tally_is = now.2;
+        small = now.3;
+        mets = longer i.history.order e i.mets;
+        learnt = i.learnt;
+        in_turn = turn_at p same;
+        client_knows = client_at p same;
+        server_knows = server_at p same;
+      }
+
+  -- an event that is neither a take nor a drop
+  pub quiet_server : (e : ServerEvent) → ServerMay (point i.history) (length (client_of i.history.order)) e → Same (after_server (point i.history) e)
+      → ((frames : List ℕ) (base : ℕ) (p : TrackPoint) (taken : List ℕ) → with_taken frames base p taken e ≡ taken)
+      → StandFor (after_server (point i.history) e) → Stands k words' c (server_did s e) h
+  quiet_server e may same none now =
+      let p = after_server (point i.history) e in
+      record {
+        history = server_adds i.history e s.frames may same.0 (none c.frames k.base (point i.history) s.frames);
+        settled = (λ more. none (c.frames ++ more) k.base (point i.history) (taken_of (c.frames ++ more) k.base i.history.order) ∙ i.settled more ∙ sym (none c.frames k.base (point i.history) (taken_of c.frames k.base i.history.order)));
+        tally = now.0;
+        cells = i.cells;
+        words_are = now.1;
+        tally_is = now.2;
+        small = now.3;
+        mets = i.mets;
+        learnt = more_events e;
+        in_turn = turn_at p same;
+        client_knows = client_at p same;
+        server_knows = server_at p same;
+      }
+
+  abbrev hand_did : HandEvent → HandPart
+  hand_did e = record h { events = h.events ++ e ∷ [] }
+
+  pub quiet_hand : (e : HandEvent) → HandMay (length (client_of i.history.order)) (met_in i.history.order) (clients_at i.history.order) e → met_by e ≤ length (client_of i.history.order) → Same (after_hand (point i.history) e)
+      → StandFor (after_hand (point i.history) e) → Stands k words' c s (hand_did e)
+  quiet_hand e may few same now =
+      let p = after_hand (point i.history) e in
+      record {
+        history = hand_adds i.history e may same.0;
+        settled = i.settled;
+        tally = now.0;
+        cells = i.cells;
+        words_are = now.1;
+        tally_is = now.2;
+        small = now.3;
+        mets = both_fit (met_by e) (met_in i.history.order) (length (client_of i.history.order)) few i.mets;
+        learnt = i.learnt;
+        in_turn = turn_at p same;
+        client_knows = client_at p same;
+        server_knows = server_at p same;
+      }
+
+-- a load of one of the first words leaves the words
+pub same_word : (n : ℕ) (words : List ℕ) → set words n (at words n) ≡ words
+same_word n words = set_back words n

@@ -1,0 +1,247 @@
+-- What each word step of the server makes of the history, the words and the parts, where the client has not poked.
+use Rattle.std.proofs.Common.{◌≡◌, ℕ, ◌+◌, ◌-◌, ◌%◌, ◌^◌, ◌<◌, ◌≤◌, if◌then◌else◌, ◌==◌, Bool, true, false, bit_or, List, [], ◌∷◌, ◌++◌, length, set, take, drop, sym, refl, ap, ◌∙◌, arith, length-append, eqb-true, mod-eq_of_lt, lt_of_not-le}
+use Rattle.std.proofs.lemmas.List.{take-append-le}
+use Rattle.std.proofs.lemmas.Nat.{or_of_32}
+use mathlib.Core.Logic.{dite}
+use native.Mathlib.Decide.{dec_le}
+use Rattle.af_base.specs.declared.event.ServerEvent.{ServerEvent}
+use Rattle.af_base.specs.declared.event.ServerEvent.TheVariants as server
+use Rattle.af_model.specs.Point.{wrapped}
+use Rattle.af_model.specs.History.{taken_of, point}
+use Rattle.af_model.proofs.Grows.{server_adds}
+use Rattle.af_cblk.specs.declared.view.ClientPart.{ClientPart}
+use Rattle.af_cblk.specs.declared.view.ServerPart.{ServerPart}
+use Rattle.af_cblk.specs.declared.view.HandPart.{HandPart}
+use Rattle.af_cblk.specs.Parts.{ahead, server_did, saw_flush, saw_rear, server_saw_front, saw_cell, took, dropped}
+use Rattle.af_cblk.specs.Rule.{StartsWith, Stands}
+use Rattle.af_cblk.proofs.Sized.{IsSized}
+use Rattle.af_cblk.proofs.Numbers.{twice, same_cell, ahead_is, between, past}
+use Rattle.af_cblk.proofs.Rows.{get_cell, part_front, take_none, read_on}
+use Rattle.af_cblk.proofs.QuietSteps.{at, more_events, quiet_server, same_word}
+
+module _ (words : List ℕ) (c : ClientPart) (s : ServerPart) (h : HandPart) (i : Stands s.shape words c s h) where
+  server_goes_on : (e : ServerEvent) → StartsWith (s.events ++ e ∷ []) c.learnt
+  server_goes_on e = more_events s.shape words words c s h i e
+
+  pub server_loads_flush : Stands s.shape (set words 2 (at words 2)) c (saw_flush s (wrapped (at words 2))) h
+  server_loads_flush =
+      let p = point i.history in
+      let held : at words 2 ≡ p.flushes = ap (λ (ws : List ℕ). at ws 2) i.words_are in
+      let is : wrapped (at words 2) ≡ p.flushes = ap wrapped held ∙ mod-eq_of_lt i.small.flushes_fit in
+      record {
+        history = server_adds i.history (server.SawFlush (wrapped (at words 2))) s.frames is refl refl;
+        settled = i.settled;
+        tally = i.tally;
+        cells = i.cells;
+        words_are = same_word 2 words ∙ i.words_are;
+        tally_is = i.tally_is;
+        small = i.small;
+        mets = i.mets;
+        learnt = server_goes_on (server.SawFlush (wrapped (at words 2)));
+        in_turn = i.in_turn;
+        client_knows = i.client_knows;
+        server_knows = i.server_knows;
+      }
+
+  pub server_loads_rear : Stands s.shape (set words 1 (at words 1)) c (saw_rear s (wrapped (at words 1))) h
+  server_loads_rear =
+      let n = at words 1 in
+      let p = point i.history in
+      let is : wrapped n ≡ wrapped p.released = twice n p.released (ap (λ (ws : List ℕ). at ws 1) i.words_are) in
+      let t = i.in_turn in
+      record {
+        history = server_adds i.history (server.SawRear (wrapped n)) s.frames is refl refl;
+        settled = i.settled;
+        tally = i.tally;
+        cells = i.cells;
+        words_are = same_word 1 words ∙ i.words_are;
+        tally_is = i.tally_is;
+        small = i.small;
+        mets = i.mets;
+        learnt = server_goes_on (server.SawRear (wrapped n));
+        in_turn = record { from_base = t.from_base; to_seen = (let a = t.to_seen in let b = t.to_released in omega arith); to_released = omega arith };
+        client_knows = i.client_knows;
+        server_knows = record { rear_is = is; front_is = i.server_knows.front_is; loaded_is = (λ n few seen. take_none n few (drop (p.consumed - s.shape.base) c.frames)) };
+      }
+
+  pub server_loads_front : Stands s.shape (set words 0 (at words 0)) c (server_saw_front s (wrapped (at words 0))) h
+  server_loads_front =
+      let n = at words 0 in
+      let p = point i.history in
+      let is : wrapped n ≡ wrapped p.consumed = twice n p.consumed (ap (λ (ws : List ℕ). at ws 0) i.words_are) in
+      record {
+        history = server_adds i.history (server.SawFront (wrapped n)) s.frames is refl refl;
+        settled = i.settled;
+        tally = i.tally;
+        cells = i.cells;
+        words_are = same_word 0 words ∙ i.words_are;
+        tally_is = i.tally_is;
+        small = i.small;
+        mets = i.mets;
+        learnt = server_goes_on (server.SawFront (wrapped n));
+        in_turn = i.in_turn;
+        client_knows = i.client_knows;
+        server_knows = record { rear_is = i.server_knows.rear_is; front_is = is; loaded_is = (λ n few seen. take_none n few (drop (p.consumed - s.shape.base) c.frames)) };
+      }
+
+  pub server_drops : (front : ℕ) → front ≡ s.rear → Stands s.shape (set words 0 front) c (dropped s front) h
+  server_drops front last =
+      let p = point i.history in
+      let y = i.client_knows in
+      let t = i.in_turn in
+      let is : front ≡ wrapped p.rear_seen = last ∙ i.server_knows.rear_is in
+      record {
+        history = server_adds i.history (server.Drop front) s.frames is refl refl;
+        settled = i.settled;
+        tally = i.tally;
+        cells = i.cells;
+        words_are = ap (λ (z : ℕ). set words 0 z) is ∙ ap (λ (ws : List ℕ). set ws 0 (wrapped p.rear_seen)) i.words_are;
+        tally_is = i.tally_is;
+        small = i.small;
+        mets = i.mets;
+        learnt = server_goes_on (server.Drop front);
+        in_turn = record { from_base = (let a = t.from_base in let b = t.to_seen in omega arith); to_seen = omega arith; to_released = t.to_released };
+        client_knows = record {
+          known = y.known;
+          known_is = y.known_is;
+          known_low = (let a = y.known_low in let b = t.to_seen in omega arith);
+          known_room = y.known_room;
+          stored_room = y.stored_room;
+          cells_are = y.cells_are;
+          small = y.small;
+          pending = y.pending;
+          live = (λ q low high. y.live q (let b = t.to_seen in omega arith) high);
+        };
+        server_knows = record { rear_is = i.server_knows.rear_is; front_is = is; loaded_is = (λ n few seen. take_none n few (drop (p.rear_seen - s.shape.base) c.frames)) };
+      }
+
+  pub server_loads_gain : Stands s.shape (set words 5 (at words 5)) c (server_did s (server.SawGain (wrapped (at words 5)))) h
+  server_loads_gain =
+      let held : at words 5 ≡ (point i.history).gains = ap (λ (ws : List ℕ). at ws 5) i.words_are in
+      quiet_server s.shape words (set words 5 (at words 5)) c s h i (server.SawGain (wrapped (at words 5))) (ap wrapped held ∙ mod-eq_of_lt i.small.gains_fit) (refl, refl, refl) (λ _ _ _ _. refl)
+      (i.tally, same_word 5 words ∙ i.words_are, i.tally_is, i.small)
+
+  pub server_tallies : (missing : ℕ) → Stands s.shape (set words 3 ((at words 3 + missing) % 2 ^ 64)) c (server_did s (server.Tally missing)) h
+  server_tallies missing =
+      let held : at words 3 ≡ i.tally = ap (λ (ws : List ℕ). at ws 3) i.words_are in
+      let low : wrapped ((i.tally + missing) % 2 ^ 64) ≡ wrapped (wrapped i.tally + missing) = carried i.tally missing in
+      quiet_server s.shape words (set words 3 ((at words 3 + missing) % 2 ^ 64)) c s h i (server.Tally missing) tt (refl, refl, refl) (λ _ _ _ _. refl) (
+        (i.tally + missing) % 2 ^ 64,
+        ap (λ (ws : List ℕ). set ws 3 ((at ws 3 + missing) % 2 ^ 64)) i.words_are,
+        low ∙ ap (λ (z : ℕ). wrapped (z + missing)) i.tally_is,
+        i.small,
+      )
+    where
+      carried : (a b : ℕ) → wrapped ((a + b) % 2 ^ 64) ≡ wrapped (wrapped a + b)
+      carried a b = omega arith
+
+  pub server_sets_flags : (bits : ℕ) → bits < 2 ^ 32 → Stands s.shape (set words 4 (bit_or (at words 4) bits)) c (server_did s (server.SetFlags bits)) h
+  server_sets_flags bits fits =
+      let p = point i.history in
+      quiet_server s.shape words (set words 4 (bit_or (at words 4) bits)) c s h i (server.SetFlags bits) tt (refl, refl, refl) (λ _ _ _ _. refl) (
+        i.tally,
+        ap (λ (ws : List ℕ). set ws 4 (bit_or (at ws 4) bits)) i.words_are,
+        i.tally_is,
+        record { flushes_fit = i.small.flushes_fit; flags_fit = or_of_32 p.flags bits i.small.flags_fit fits; gains_fit = i.small.gains_fit; status_fit = i.small.status_fit },
+      )
+
+  pub server_stores_status : (word : ℕ) → word < 2 ^ 32 → Stands s.shape (set words 6 word) c (server_did s (server.SetStatus word)) h
+  server_stores_status word fits =
+      quiet_server s.shape words (set words 6 word) c s h i (server.SetStatus word) tt (refl, refl, refl) (λ _ _ _ _. refl) (
+        i.tally,
+        ap (λ (ws : List ℕ). set ws 6 word) i.words_are,
+        i.tally_is,
+        record { flushes_fit = i.small.flushes_fit; flags_fit = i.small.flags_fit; gains_fit = i.small.gains_fit; status_fit = fits },
+      )
+
+  module _ (shape : IsSized s.shape) where
+    -- what was loaded in order is what was released there
+    loads : (j w : ℕ) → wrapped (at words (7 + j)) ≡ w → (b : Bool) → (j == wrapped (s.front + length s.loaded) % s.shape.cells) ≡ b
+        → (n : ℕ) → n ≤ length (if b then s.loaded ++ w ∷ [] else s.loaded) → (point i.history).consumed + n ≤ (point i.history).rear_seen
+        → take n (if b then s.loaded ++ w ∷ [] else s.loaded) ≡ take n (drop ((point i.history).consumed - s.shape.base) c.frames)
+    loads j w is false miss n few seen = i.server_knows.loaded_is n few seen
+    loads j w is true hit n few seen =
+        let k = s.shape in
+        let p = point i.history in
+        let y = i.client_knows in
+        let t = i.in_turn in
+        let v = i.server_knows in
+        let m : ℕ = length s.loaded in
+        let most : n ≤ m + 1 = (let l = length-append s.loaded (w ∷ []) in omega arith) in
+        dite (dec_le n m)
+        (λ old. take-append-le n s.loaded (w ∷ []) old ∙ v.loaded_is n old seen)
+        (λ not.
+        let new : m + 1 ≡ n = (let a = lt_of_not-le not in omega arith) in
+        let turn : j ≡ (p.consumed + m) % k.cells = eqb-true _ _ hit ∙ ap (λ (z : ℕ). wrapped (z + m) % k.cells) v.front_is ∙ ap (λ (z : ℕ). z % k.cells) (past p.consumed m) ∙ same_cell (p.consumed + m) shape.3.0 k.cells shape.3.1 in
+        let held : at words (7 + j) ≡ at i.cells j = ap (λ (ws : List ℕ). at ws (7 + j)) i.words_are ∙ get_cell p i.tally i.cells j in
+        let word : w ≡ at i.cells j = sym is ∙ ap wrapped held ∙ mod-eq_of_lt (y.small j) in
+        let r = i.history.released_is in
+        let frame : w ≡ at c.frames (p.consumed - k.base + m) = word ∙ ap (λ (z : ℕ). at i.cells z) turn
+        ∙ y.live (p.consumed + m) (omega arith) (let a = t.to_released in omega arith)
+        ∙ ap (λ (z : ℕ). at c.frames z) (let a = t.from_base in omega arith) in
+        read_on s.loaded c.frames (p.consumed - k.base) n w new (let a = t.from_base in let b = t.to_released in omega arith) frame (v.loaded_is m (omega arith) (omega arith)))
+
+    pub server_loads_cell : (position : ℕ)
+        → Stands s.shape (set words (7 + position % s.shape.cells) (at words (7 + position % s.shape.cells))) c (saw_cell s (position % s.shape.cells) (wrapped (at words (7 + position % s.shape.cells)))) h
+    server_loads_cell position =
+        record {
+          history = i.history;
+          settled = i.settled;
+          tally = i.tally;
+          cells = i.cells;
+          words_are = same_word (7 + position % s.shape.cells) words ∙ i.words_are;
+          tally_is = i.tally_is;
+          small = i.small;
+          mets = i.mets;
+          learnt = i.learnt;
+          in_turn = i.in_turn;
+          client_knows = i.client_knows;
+          server_knows = record {
+            rear_is = i.server_knows.rear_is;
+            front_is = i.server_knows.front_is;
+            loaded_is = loads (position % s.shape.cells) _ refl ((position % s.shape.cells) == wrapped (s.front + length s.loaded) % s.shape.cells) refl;
+          };
+        }
+
+    pub server_takes : (front : ℕ) → front < 2 ^ 32 → ahead s.front front ≤ ahead s.front s.rear → ahead s.front front ≤ length s.loaded
+        → Stands s.shape (set words 0 front) c (took s front) h
+    server_takes front small within read =
+        let k = s.shape in
+        let p = point i.history in
+        let y = i.client_knows in
+        let t = i.in_turn in
+        let v = i.server_knows in
+        let count : ℕ = ahead s.front front in
+        let d : ℕ = p.consumed - k.base in
+        let few : k.frames ≤ 65536 = (let a = shape.1 in let b = shape.2 in omega arith) in
+        let gap : p.rear_seen ≤ p.consumed + 65536 = (let a = t.to_released in let b = y.known_room in let e = y.known_low in omega arith) in
+        let left : ahead s.front s.rear ≡ p.rear_seen - p.consumed = ap (λ (z : ℕ). ahead z s.rear) v.front_is ∙ ap (λ (z : ℕ). ahead (wrapped p.consumed) z) v.rear_is ∙ between p.consumed p.rear_seen t.to_seen gap in
+        let seen : p.consumed + count ≤ p.rear_seen = (let a = t.to_seen in omega arith) in
+        let frames : take count (drop d c.frames) ≡ take count s.loaded = sym (v.loaded_is count read seen) in
+        let new : front ≡ wrapped (p.consumed + count) = sym (ahead_is s.front front small) ∙ ap (λ (z : ℕ). wrapped (z + count)) v.front_is ∙ past p.consumed count in
+        let r = i.history.released_is in
+        record {
+          history = server_adds i.history (server.Take count) (s.frames ++ take count s.loaded) seen refl (ap (λ (l : List ℕ). s.frames ++ l) frames);
+          settled = (λ more. ap (λ (l : List ℕ). l ++ take count (drop d (c.frames ++ more))) (i.settled more)
+              ∙ ap (λ (l : List ℕ). taken_of c.frames k.base i.history.order ++ l) (part_front d count c.frames more (let a = t.from_base in let b = t.to_released in omega arith)));
+          tally = i.tally;
+          cells = i.cells;
+          words_are = ap (λ (z : ℕ). set words 0 z) new ∙ ap (λ (ws : List ℕ). set ws 0 (wrapped (p.consumed + count))) i.words_are;
+          tally_is = i.tally_is;
+          small = i.small;
+          mets = i.mets;
+          learnt = server_goes_on (server.Take count);
+          in_turn = record { from_base = (let a = t.from_base in omega arith); to_seen = seen; to_released = t.to_released };
+          client_knows = record {
+            known = y.known;
+            known_is = y.known_is;
+            known_low = (let a = y.known_low in omega arith);
+            known_room = y.known_room;
+            stored_room = y.stored_room;
+            cells_are = y.cells_are;
+            small = y.small;
+            pending = y.pending;
+            live = (λ q low high. y.live q (omega arith) high);
+          };
+          server_knows = record { rear_is = v.rear_is; front_is = new; loaded_is = (λ n none _. take_none n none (drop (p.consumed + count - k.base) c.frames)) };
+        }

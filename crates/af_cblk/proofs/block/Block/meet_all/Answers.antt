@@ -1,0 +1,25 @@
+use Rattle.std.proofs.Common.{◌≡◌, sym, ap, ◌∙◌, refl, subst, true, length}
+use Rattle.af_base.specs.declared.event.ClientEvent.TheVariants as client
+use Rattle.af_model.specs.History.{is_lawful}
+use Rattle.af_model.proofs.Counts.{lawful_more}
+use Rattle.af_cblk.specs.Sides.{Made, client_made}
+use Rattle.af_cblk.proofs.Parting.{met}
+use Rattle.af_cblk.proofs.block.Block.meet_all.Goals as goal
+
+pub returns-clause-history : goal.returns-clause-history
+returns-clause-history g c = λ ok.
+    let two = c.bring_client.ensures.both in
+    let all = c.bring_hand.ensures.both in
+    let learnt = c.learn_both.ensures.learnt in
+    let last = c.learn_hand.ensures.met in
+    let hand = c.part_hand.ensures in
+    let out = c.part_client.ensures in
+    let before = ap (λ m. m.0.client.events) all ∙ ap (λ m. m.0.client.events) two ∙ ap (λ z. z.part.events) c.client.view_is in
+    let v = c.bring_hand.new.to.me.0 in
+    let after = subst (λ m. is_lawful m.0.client.events ≡ true) (sym learnt) (lawful_more v.client.events (client.Learn (length v.server.events)) refl (subst (λ es. is_lawful es ≡ true) (sym before) ok)) in
+    let told = c.learn_hand.ensures.history after in
+    let his = told.3 (ap (λ m. m.0.is_server) learnt ∙ ap (λ m. m.0.is_server) all ∙ ap (λ m. m.0.is_server) two ∙ c.server.invariant.0) in
+    let base = ap (λ m. m.0.client.shape.base) learnt ∙ ap (λ m. m.0.client.shape.base) all ∙ ap (λ m. m.0.client.shape.base) two ∙ ap (λ (m : Made). m.shape.base) (ap client_made c.client.view_is ∙ c.requires.client) in
+    let client_out = ap (λ m. m.0.client) out.alone ∙ ap (λ m. m.0.client) hand.rest ∙ ap (λ m. m.0.client) last in
+    let server_out = ap (λ m. m.0.server) out.rest ∙ ap (λ m. m.0.server) hand.rest ∙ ap (λ m. m.0.server) last in
+    met _ _ _ _ c.learn_both.new.seat.me.0.client c.learn_both.new.seat.me.0.server c.learn_hand.new.seat.me.0.hand _ _ _ base his.0 his.1 (sym client_out) (sym server_out) (sym (ap (λ m. m.0.hand) hand.alone)) told.4

@@ -1,0 +1,27 @@
+use Rattle.std.proofs.Common.{rules, ◌+◌, ◌%◌, ◌^◌, ℕ, sym, ap, ◌∙◌, subst}
+use Rattle.af_cblk.specs.declared.view.ClientPart.{ClientPart}
+use Rattle.af_model.specs.Point.{wrapped}
+use Rattle.af_cblk.specs.Parts.{AreStored, released}
+use Rattle.af_cblk.specs.Sides.{Made, client_made}
+use Rattle.af_cblk.proofs.Calls.{rear_by_client, rear_is}
+use Rattle.af_cblk.proofs.Numbers.{past}
+use Rattle.af_cblk.proofs.block.Block.store_rear.Goals as goal
+
+pub store-requires : goal.store-requires
+store-requires g c =
+    let same = ap client_made c.pass.view_is ∙ c.requires.made ∙ sym c.self.view_is in
+    let part = ap (λ z. z.part) c.pass.view_is in
+    let b = c.self.invariant in
+    let me = c.pass.inside.seat.me in (
+      ap (λ (m : Made). m.id) same,
+      search rules,
+      rear_by_client _ _ b.0 _ _ me c.pass.invariant.0 (ap (λ (m : Made). m.shape) same) c.args.count _ (search rules)
+          (ap (λ (n : ℕ). (n + c.args.count) % 2 ^ 32) c.pass.invariant.2 ∙ past (released me.0.client) c.args.count)
+          (subst (λ (p : ClientPart). AreStored p c.args.count) (sym part) c.requires.stored),
+    )
+
+pub invariant_of-pass : goal.invariant_of-pass
+invariant_of-pass g c =
+    let now = c.store.ensures.2 in
+    let p = c.pass.invariant in
+    (ap (λ m. m.0.is_client) now ∙ p.0, ap (λ m. m.1) now ∙ p.1, rear_is c.pass.inside.seat.me.0.client _ (search rules) ∙ ap (λ m. wrapped (released m.0.client)) (sym now))

@@ -1,0 +1,69 @@
+//! What a seat at the table knows. Contracts alone see values of these types, but for `Shape`.
+use af_base::{ClientEvent, HandEvent, ServerEvent};
+use std::collections::LinkedList;
+
+/// The sizes of a block.
+#[derive(Clone, Copy, Drop)]
+pub struct Shape {
+    /// How many frames may lie in it.
+    pub frames: u32,
+    /// How many cells it has.
+    pub cells: u32,
+    /// The position of the first frame.
+    pub base: u32,
+}
+
+/// What a client has done, and what it knows. No value of it is made.
+pub struct ClientPart {
+    pub shape: Shape,
+    /// Its events, oldest first.
+    pub events: LinkedList<ClientEvent>,
+    /// The words of the frames that were released, oldest first.
+    pub frames: LinkedList<u32>,
+    /// The frames whose cells were stored: the number of each, counted from the base on, and its word, newest first.
+    pub stored: LinkedList<(u64, u32)>,
+    /// The front last seen.
+    pub front: u32,
+    /// The server's events at the last meeting with it.
+    pub learnt: LinkedList<ServerEvent>,
+}
+
+/// What a server has done, and what it knows. No value of it is made.
+pub struct ServerPart {
+    pub shape: Shape,
+    /// Its events, oldest first.
+    pub events: LinkedList<ServerEvent>,
+    /// The words of the frames that were taken, oldest first.
+    pub frames: LinkedList<u32>,
+    /// The flush count last seen.
+    pub flush: u32,
+    /// A new flush count was seen, and nothing was dropped since.
+    pub noticed: bool,
+    /// The rear last seen.
+    pub rear: u32,
+    /// It was seen after that flush count.
+    pub rear_after: bool,
+    /// The front last seen or stored.
+    pub front: u32,
+    /// Front was loaded after that rear, and not stored since.
+    pub fresh: bool,
+    /// The words of the cells from that front on that were loaded since, in order.
+    pub loaded: LinkedList<u32>,
+}
+
+/// What a hand has done. No value of it is made.
+pub struct HandPart {
+    pub shape: Shape,
+    /// Its events, oldest first.
+    pub events: LinkedList<HandEvent>,
+}
+
+/// The parts that a seat has. No value of it is made.
+pub struct View {
+    pub is_client: bool,
+    pub client: ClientPart,
+    pub is_server: bool,
+    pub server: ServerPart,
+    pub is_hand: bool,
+    pub hand: HandPart,
+}

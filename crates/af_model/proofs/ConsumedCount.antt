@@ -1,0 +1,114 @@
+-- In a history the count that a server's list gives is that of the frames from the base up to what was consumed.
+use Rattle.std.proofs.Common.{◌≡◌, ℕ, ◌+◌, ◌-◌, ◌≤◌, Bool, true, false, fold, List, [], ◌∷◌, ◌++◌, refl, sym, ap, ◌∙◌, subst, arith, true≢false, Option, Some, None}
+use Rattle.std.proofs.lemmas.Grind.{fold-append}
+use Rattle.af_base.specs.declared.event.ClientEvent.{ClientEvent}
+use Rattle.af_base.specs.declared.event.ServerEvent.{ServerEvent}
+use Rattle.af_base.specs.declared.event.ServerEvent.TheVariants as server
+use Rattle.af_base.specs.declared.event.HandEvent.{HandEvent}
+use Rattle.af_base.specs.declared.seen.Seen.{Seen}
+use Rattle.af_base.specs.declared.seen.Seen.TheVariants as seen
+use Rattle.af_model.specs.declared.point.TrackPoint.{TrackPoint}
+use Rattle.af_model.specs.Point.{wrapped, start, ServerMay, after_server}
+use Rattle.af_model.specs.History.{Moment, by_client, by_server, by_hand, client_of, server_of, after, IsLegal, HasHistory, point}
+use Rattle.af_model.specs.Fates.{InTurn}
+use Rattle.af_model.specs.Room.{ahead}
+use Rattle.af_model.specs.ClientCalls.{client_begins, IsClientList}
+use Rattle.af_model.specs.ServerCalls.{ServerKept, server_keeps, server_begins, server_kept, look_at, drops_of, IsServerList, begins, looks, takes, reads_gains, tallies, sets_flags, sets_status, rests, meets}
+use Rattle.af_model.proofs.Fates.{in_turn}
+use Rattle.af_model.proofs.RoomKept.{AllFit, fit_split, all_fit, room_in, ahead-between}
+use Rattle.af_model.proofs.OneFate.{same_consumed, hand_consumed}
+
+-- the last event saw front
+abbrev saw_front : Bool → ServerEvent → Bool
+saw_front b (server.SawFront front) = true
+saw_front b _ = false
+
+-- frames are dropped right after a look at front
+abbrev FollowsLook : Bool → ServerEvent → Type 0
+FollowsLook b (server.Drop to) = b ≡ true
+FollowsLook b _ = Unit {0}
+
+abbrev AllFollow : Bool → List ServerEvent → Type 0
+AllFollow b [] = Unit {0}
+AllFollow b (e ∷ es) = FollowsLook b e × AllFollow (saw_front b e) es
+
+follow_split : (b : Bool) (xs ys : List ServerEvent) → AllFollow b (xs ++ ys) → AllFollow b xs × AllFollow (fold saw_front b xs) ys
+follow_split b [] ys h = (tt, h)
+follow_split b (x ∷ xs) ys h = let r = follow_split (saw_front b x) xs ys h.1 in ((h.0, r.0), r.1)
+
+follow_join : (b : Bool) (xs ys : List ServerEvent) → AllFollow b xs → AllFollow (fold saw_front b xs) ys → AllFollow b (xs ++ ys)
+follow_join b [] ys h t = t
+follow_join b (x ∷ xs) ys h t = (h.0, follow_join (saw_front b x) xs ys h.1 t)
+
+drops_follow : (sight : Seen) (rear : ℕ) → AllFollow true (drops_of sight rear)
+drops_follow seen.Absent rear = tt
+drops_follow (seen.Frames count) rear = tt
+drops_follow seen.Empty rear = tt
+drops_follow (seen.Flushed dropped) rear = (refl, tt)
+drops_follow (seen.Shut front back) rear = tt
+
+all_follow : (size base : ℕ) (shown : Option ℕ) (es : List ServerEvent) → IsServerList size base shown es → AllFollow false es
+all_follow size base _ _ begins = tt
+all_follow size base _ _ (looks es shown asked flush rear front before unshut some) =
+    follow_join false es _ (all_follow size base shown es before) (tt, (tt, (tt, drops_follow (look_at size (server_kept size base es).flush asked flush rear front) rear)))
+all_follow size base _ _ (takes es count before) = follow_join false es _ (all_follow size base (Some count) es before) (tt, tt)
+all_follow size base _ _ (reads_gains es shown word before) = follow_join false es _ (all_follow size base shown es before) (tt, tt)
+all_follow size base _ _ (tallies es shown missing before some) = follow_join false es _ (all_follow size base shown es before) (tt, (tt, tt))
+all_follow size base _ _ (sets_flags es shown bits before) = follow_join false es _ (all_follow size base shown es before) (tt, tt)
+all_follow size base _ _ (sets_status es shown word before) = follow_join false es _ (all_follow size base shown es before) (tt, tt)
+all_follow size base _ _ (rests es shown before) = all_follow size base shown es before
+all_follow size base _ _ (meets es shown count before) = follow_join false es _ (all_follow size base shown es before) (tt, tt)
+
+module _ (size base : ℕ) (few : size ≤ 65536) where
+  record Counts (k : ServerKept) (b : Bool) (p : TrackPoint) : Type 0 where
+    count : base + k.consumed ≡ p.consumed
+    front_is : b ≡ true → k.front ≡ wrapped p.consumed
+
+  drop_counts : (front to consumed base_consumed rear_seen : ℕ) → front ≡ wrapped consumed → to ≡ wrapped rear_seen → consumed ≤ rear_seen → rear_seen ≤ consumed + size → base + base_consumed ≡ consumed
+      → base + (base_consumed + ahead front to) ≡ rear_seen
+  drop_counts front to consumed sofar rear_seen f t low high is =
+      let far : ahead front to ≡ rear_seen - consumed = ap (λ (x : ℕ × ℕ). ahead x.0 x.1) (λ i. (f i, t i)) ∙ ahead-between consumed rear_seen low (omega arith) in
+      omega arith
+
+  no : (k : ServerKept) (p : TrackPoint) → false ≡ true → k.front ≡ wrapped p.consumed
+  no k p e = absurd (true≢false (sym e))
+
+  server_counts : (k : ServerKept) (b : Bool) (p : TrackPoint) (others : ℕ) (e : ServerEvent) → ServerMay p others e → FollowsLook b e → InTurn base p → p.released ≤ p.consumed + size → Counts k b p
+      → Counts (server_keeps size k e) (saw_front b e) (after_server p e)
+  server_counts k b p others (server.SawGain word) may fit turn room c = record { count = c.count; front_is = no k p }
+  server_counts k b p others (server.SawFlush flush) may fit turn room c = record { count = c.count; front_is = no k p }
+  server_counts k b p others (server.SawRear rear) may fit turn room c = record { count = c.count; front_is = no k p }
+  server_counts k b p others (server.SawFront front) may fit turn room c = record { count = c.count; front_is = (λ _. may) }
+  server_counts k b p others (server.Drop to) may fit turn room c =
+      record {
+        count = drop_counts k.front to p.consumed k.consumed p.rear_seen (c.front_is fit) may turn.to_seen (let a = turn.to_released in omega arith) c.count;
+        front_is = (λ e. absurd (true≢false (sym e)));
+      }
+  server_counts k b p others (server.Take count) may fit turn room c = record { count = (let a = c.count in omega arith); front_is = (λ e. absurd (true≢false (sym e))) }
+  server_counts k b p others (server.Tally missing) may fit turn room c = record { count = c.count; front_is = no k p }
+  server_counts k b p others (server.SetFlags bits) may fit turn room c = record { count = c.count; front_is = no k p }
+  server_counts k b p others (server.SetStatus word) may fit turn room c = record { count = c.count; front_is = no k p }
+  server_counts k b p others (server.Learn count) may fit turn room c = record { count = c.count; front_is = no k p }
+
+  kept_counts : (k : ServerKept) (b : Bool) (p q : TrackPoint) → q.consumed ≡ p.consumed → Counts k b p → Counts k b q
+  kept_counts k b p q same c = record { count = c.count ∙ sym same; front_is = (λ e. c.front_is e ∙ ap wrapped (sym same)) }
+
+  counts_in : (order : List Moment) → IsLegal (start base) order → AllFit size (client_begins base) None (client_of order) → AllFollow false (server_of order)
+      → Counts (server_kept size base (server_of order)) (fold saw_front false (server_of order)) (after (start base) order)
+  counts_in [] h fit f = record { count = (let e : base + 0 ≡ base = omega arith in e); front_is = (λ e. absurd (true≢false (sym e))) }
+  counts_in (by_client e ∷ order) h fit f =
+      kept_counts _ _ (after (start base) order) _ (same_consumed (after (start base) order) e) (counts_in order h.1 (fit_split size (client_begins base) None (client_of order) (e ∷ []) fit).0 f)
+  counts_in (by_server e ∷ order) h fit f =
+      let g = follow_split false (server_of order) (e ∷ []) f in
+      let now = server_counts _ _ (after (start base) order) _ e h.0 g.1.0 (in_turn base order h.1) (room_in size few base order h.1 fit).fits (counts_in order h.1 fit g.0) in
+      subst (λ (x : ServerKept × Bool). Counts x.0 x.1 (after (start base) (by_server e ∷ order)))
+      (λ i. (sym (fold-append (server_keeps size) (server_begins base) (server_of order) (e ∷ [])) i, sym (fold-append saw_front false (server_of order) (e ∷ [])) i)) now
+  counts_in (by_hand e ∷ order) h fit f = kept_counts _ _ (after (start base) order) _ (hand_consumed (after (start base) order) e) (counts_in order h.1 fit f)
+
+-- what the server counts as consumed lies between the base and the position that it consumed up to
+pub consumed-counted : (size cells : ℕ) → size ≤ 65536 → {base : ℕ} {ce : List ClientEvent} {cf : List ℕ} {se : List ServerEvent} {sf : List ℕ} {he : List HandEvent} (h : HasHistory base ce cf se sf he)
+    (shown : Option ℕ) → IsClientList size cells base ce → IsServerList size base shown se → base + (server_kept size base se).consumed ≡ (point h).consumed
+consumed-counted size cells few {base} {ce} {cf} {se} {sf} {he} h shown hers his =
+    let fit : AllFit size (client_begins base) None (client_of h.order) = subst (λ (es : List ClientEvent). AllFit size (client_begins base) None es) (sym h.client_is) (all_fit size cells base ce hers) in
+    let follow : AllFollow false (server_of h.order) = subst (λ (es : List ServerEvent). AllFollow false es) (sym h.server_is) (all_follow size base shown se his) in
+    subst (λ (es : List ServerEvent). base + (server_kept size base es).consumed ≡ (point h).consumed) h.server_is (counts_in size base few h.order h.legal fit follow).count

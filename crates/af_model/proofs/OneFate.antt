@@ -1,0 +1,137 @@
+-- Each frame that was released is mixed once, discarded once, or still queued.
+use Rattle.std.proofs.Common.{◌≡◌, ℕ, zero, suc, ◌+◌, ◌-◌, ◌<◌, ◌≤◌, Some, List, [], ◌∷◌, ◌++◌, take, drop, slice_get, refl, sym, ap, ◌∙◌, subst, arith, append_assoc, append-nil, lt_of_not-le}
+use Rattle.std.proofs.lemmas.Option.{none-some, same_Some}
+use mathlib.Core.Logic.{dite}
+use native.Mathlib.Decide.{dec_le}
+use Rattle.af_base.specs.declared.event.ClientEvent.{ClientEvent}
+use Rattle.af_base.specs.declared.event.ClientEvent.TheVariants as client
+use Rattle.af_base.specs.declared.event.ServerEvent.{ServerEvent}
+use Rattle.af_base.specs.declared.event.ServerEvent.TheVariants as server
+use Rattle.af_base.specs.declared.event.HandEvent.{HandEvent}
+use Rattle.af_base.specs.declared.event.HandEvent.TheVariants as hand
+use Rattle.af_model.specs.declared.point.TrackPoint.{TrackPoint}
+use Rattle.af_model.specs.Point.{start, ServerMay, after_client, after_server, after_hand}
+use Rattle.af_model.specs.History.{Moment, by_client, by_server, by_hand, after, IsLegal, with_taken, taken_of, HasHistory, point}
+use Rattle.af_model.specs.Fates.{InTurn}
+use Rattle.af_model.specs.Spans.{Span, covered_by, spans_of, waiting_at, fates_of, Follow, LiesIn, HasOneFate, mixed_in, mixed_by}
+use Rattle.af_model.proofs.Fates.{in_turn}
+
+follow_join : (from mid to : ℕ) (xs ys : List Span) → Follow from xs mid → Follow mid ys to → Follow from (xs ++ ys) to
+follow_join from mid to [] ys f g = subst (λ (z : ℕ). Follow z ys to) (sym f) g
+follow_join from mid to (x ∷ xs) ys f g = (f.0, f.1, follow_join x.to mid to xs ys f.2 g)
+
+pub same_consumed : (p : TrackPoint) (e : ClientEvent) → (after_client p e).consumed ≡ p.consumed
+same_consumed p (client.Release count) = refl
+same_consumed p client.Flush = refl
+same_consumed p (client.SetGain word) = refl
+same_consumed p (client.ClearFlags old) = refl
+same_consumed p (client.SawFlags flags) = refl
+same_consumed p (client.SawFront front) = refl
+same_consumed p (client.SawStatus word) = refl
+same_consumed p (client.Poke word value) = refl
+same_consumed p (client.Learn count) = refl
+
+pub hand_consumed : (p : TrackPoint) (e : HandEvent) → (after_hand p e).consumed ≡ p.consumed
+hand_consumed p (hand.SetFlags bits) = refl
+hand_consumed p (hand.Met count) = refl
+
+covers : (base : ℕ) (p : TrackPoint) (others : ℕ) (e : ServerEvent) → ServerMay p others e → InTurn base p → Follow p.consumed (covered_by p e) (after_server p e).consumed
+covers base p others (server.SawGain word) may turn = refl
+covers base p others (server.SawFlush flush) may turn = refl
+covers base p others (server.SawRear rear) may turn = refl
+covers base p others (server.SawFront front) may turn = refl
+covers base p others (server.Drop to) may turn = (refl, turn.to_seen, refl)
+covers base p others (server.Take count) may turn = (refl, omega arith, refl)
+covers base p others (server.Tally missing) may turn = refl
+covers base p others (server.SetFlags bits) may turn = refl
+covers base p others (server.SetStatus word) may turn = refl
+covers base p others (server.Learn count) may turn = refl
+
+pub spans_follow : (base : ℕ) (order : List Moment) → IsLegal (start base) order → Follow base (spans_of base order) (after (start base) order).consumed
+spans_follow base [] h = refl
+spans_follow base (by_client e ∷ order) h = subst (λ (z : ℕ). Follow base (spans_of base order) z) (sym (same_consumed (after (start base) order) e)) (spans_follow base order h.1)
+spans_follow base (by_server e ∷ order) h =
+    follow_join base _ _ (spans_of base order) _ (spans_follow base order h.1) (covers base (after (start base) order) _ e h.0 (in_turn base order h.1))
+spans_follow base (by_hand e ∷ order) h = subst (λ (z : ℕ). Follow base (spans_of base order) z) (sym (hand_consumed (after (start base) order) e)) (spans_follow base order h.1)
+
+-- spans that follow one another lie past where they begin
+past : (from to : ℕ) (spans : List Span) → Follow from spans to → (place : ℕ) (s : Span) → slice_get spans place ≡ Some s → from ≤ s.from
+past from to [] f place s is = absurd (none-some s is)
+past from to (x ∷ spans) f zero s is = let e : x.from ≡ s.from = ap (λ (z : Span). z.from) (same_Some x s is) in let a = f.0 in omega arith
+past from to (x ∷ spans) f (suc place) s is = let r : x.to ≤ s.from = past x.to to spans f.2 place s is in let a = f.0 in let b = f.1 in omega arith
+
+one_place : (from to : ℕ) (spans : List Span) → Follow from spans to → (position : ℕ) → from ≤ position → position < to → HasOneFate spans position
+one_place from to [] f position low high = absurd (let e : from ≡ to = f in omega arith)
+one_place from to (x ∷ spans) f position low high =
+    dite (dec_le x.to position)
+    (λ (past_it : x.to ≤ position). later past_it (one_place x.to to spans f.2 position past_it high))
+    (λ not. let inside : position < x.to = lt_of_not-le not in record {
+      place = 0;
+      span = x;
+      is_there = refl;
+      lies = ((let a = f.0 in omega arith), inside);
+      only = first inside;
+    })
+  where
+    first : position < x.to → (other : ℕ) (s : Span) → slice_get (x ∷ spans) other ≡ Some s → LiesIn s position → other ≡ 0
+    first inside zero s is lies = refl
+    first inside (suc other) s is lies = absurd (let r : x.to ≤ s.from = past x.to to spans f.2 other s is in let a = lies.0 in omega arith)
+
+    later : x.to ≤ position → HasOneFate spans position → HasOneFate (x ∷ spans) position
+    later past_it r =
+        record {
+          place = suc r.place;
+          span = r.span;
+          is_there = r.is_there;
+          lies = r.lies;
+          only = others;
+        }
+      where
+        others : (other : ℕ) (s : Span) → slice_get (x ∷ spans) other ≡ Some s → LiesIn s position → other ≡ suc r.place
+        others zero s is lies = absurd (let e : x.to ≡ s.to = ap (λ (z : Span). z.to) (same_Some x s is) in let a = lies.1 in omega arith)
+        others (suc other) s is lies = ap suc (r.only other s is lies)
+
+mixed_by-append : (released : List ℕ) (base : ℕ) (xs ys : List Span) → mixed_by released base (xs ++ ys) ≡ mixed_by released base xs ++ mixed_by released base ys
+mixed_by-append released base [] ys = refl
+mixed_by-append released base (x ∷ xs) ys =
+    ap (λ (l : List ℕ). mixed_in released base x ++ l) (mixed_by-append released base xs ys) ∙ sym (append_assoc (mixed_in released base x) (mixed_by released base xs) (mixed_by released base ys))
+
+mixes : (released : List ℕ) (base : ℕ) (p : TrackPoint) (taken : List ℕ) (e : ServerEvent) → with_taken released base p taken e ≡ taken ++ mixed_by released base (covered_by p e)
+mixes released base p taken (server.SawGain word) = sym (append-nil taken)
+mixes released base p taken (server.SawFlush flush) = sym (append-nil taken)
+mixes released base p taken (server.SawRear rear) = sym (append-nil taken)
+mixes released base p taken (server.SawFront front) = sym (append-nil taken)
+mixes released base p taken (server.Drop to) = sym (append-nil taken)
+mixes released base p taken (server.Take count) =
+    let same : count ≡ p.consumed + count - p.consumed = omega arith in
+    ap (λ (n : ℕ). taken ++ take n (drop (p.consumed - base) released)) same ∙ ap (λ (l : List ℕ). taken ++ l) (sym (append-nil (take (p.consumed + count - p.consumed) (drop (p.consumed - base) released))))
+mixes released base p taken (server.Tally missing) = sym (append-nil taken)
+mixes released base p taken (server.SetFlags bits) = sym (append-nil taken)
+mixes released base p taken (server.SetStatus word) = sym (append-nil taken)
+mixes released base p taken (server.Learn count) = sym (append-nil taken)
+
+taken_of-spans : (released : List ℕ) (base : ℕ) (order : List Moment) → taken_of released base order ≡ mixed_by released base (spans_of base order)
+taken_of-spans released base [] = refl
+taken_of-spans released base (by_client e ∷ order) = taken_of-spans released base order
+taken_of-spans released base (by_server e ∷ order) =
+    let p = after (start base) order in
+    mixes released base p (taken_of released base order) e
+    ∙ ap (λ (l : List ℕ). l ++ mixed_by released base (covered_by p e)) (taken_of-spans released base order)
+    ∙ sym (mixed_by-append released base (spans_of base order) (covered_by p e))
+taken_of-spans released base (by_hand e ∷ order) = taken_of-spans released base order
+
+module _ {base : ℕ} {ce : List ClientEvent} {cf : List ℕ} {se : List ServerEvent} {sf : List ℕ} {he : List HandEvent} (h : HasHistory base ce cf se sf he) where
+  -- takes, drops and what waits follow one another from the base on up to what was released
+  pub fates_follow : Follow base (fates_of h) (point h).released
+  fates_follow =
+      let turn : InTurn base (point h) = in_turn base h.order h.legal in
+      follow_join base (point h).consumed (point h).released (spans_of base h.order) (waiting_at (point h) ∷ []) (spans_follow base h.order h.legal)
+      (refl, (let a = turn.to_seen in let b = turn.to_released in omega arith), refl)
+
+  -- each frame that was released has one fate
+  pub one_fate : (position : ℕ) → base ≤ position → position < (point h).released → HasOneFate (fates_of h) position
+  one_fate position low high = one_place base (point h).released (fates_of h) fates_follow position low high
+
+  -- the frames that the server took are those at the positions of its takes
+  pub taken-mixed : sf ≡ mixed_by cf base (spans_of base h.order)
+  taken-mixed = sym h.taken_is ∙ taken_of-spans cf base h.order

@@ -1,0 +1,72 @@
+-- How the calls of a server's proxy spell its list, on a block of so many frames whose first position is the base.
+use Rattle.std.specs.Prelude.{◌≡◌, ℕ, ◌+◌, ◌≤◌, ◌==◌, nat_lt, min, Bool, false, not, if◌then◌else◌, fold, List, [], ◌∷◌, ◌++◌, Option, Some, None}
+use Rattle.af_base.specs.declared.event.ServerEvent.{ServerEvent}
+use Rattle.af_base.specs.declared.event.ServerEvent.TheVariants as server
+use Rattle.af_base.specs.declared.seen.Seen.{Seen}
+use Rattle.af_base.specs.declared.seen.Seen.TheVariants as seen
+use Rattle.af_model.specs.Point.{wrapped}
+use Rattle.af_model.specs.Room.{ahead, outside}
+
+-- What a list tells of its server: the flush count, rear and front last seen, whether that flush count was new, how many frames were taken and dropped, and the front and rear that shut it
+pub record ServerKept : Type 0 where
+  pub flush : ℕ
+  pub is_new : Bool
+  pub rear : ℕ
+  pub front : ℕ
+  pub consumed : ℕ
+  pub shut : Option (ℕ × ℕ)
+
+-- what is known after one event more: a front outside the room shuts the server, unless a new flush was seen
+abbrev pub server_keeps : ℕ → ServerKept → ServerEvent → ServerKept
+server_keeps frames kept (server.SawFlush flush) = record kept { flush = flush; is_new = not (flush == kept.flush) }
+server_keeps frames kept (server.SawRear rear) = record kept { rear = rear }
+server_keeps frames kept (server.SawFront front) = record kept { front = front; shut = if kept.is_new then None else outside frames front kept.rear }
+server_keeps frames kept (server.Drop to) = record kept { consumed = kept.consumed + ahead kept.front to }
+server_keeps frames kept (server.Take count) = record kept { consumed = kept.consumed + count }
+server_keeps frames kept _ = kept
+
+-- before its first event
+abbrev pub server_begins : ℕ → ServerKept
+server_begins base = record { flush = 0; is_new = false; rear = wrapped base; front = wrapped base; consumed = 0; shut = None }
+
+-- what these events tell of the server
+abbrev pub server_kept : ℕ → ℕ → List ServerEvent → ServerKept
+server_kept frames base events = fold (server_keeps frames) (server_begins base) events
+
+-- What a look for `asked` frames shows, by the three words seen and the flush count kept before: a new flush first, then whether the words fit the block
+abbrev pub look_at : (size kept asked flush rear front : ℕ) → Seen
+look_at size kept asked flush rear front =
+    if not (flush == kept) then seen.Flushed (ahead front rear)
+    else if nat_lt size (ahead front rear) then seen.Shut front rear
+    else if rear == front then seen.Empty
+    else seen.Frames (min asked (ahead front rear))
+
+-- what a look drops: all frames up to the rear that it saw, where it saw a new flush
+abbrev pub drops_of : Seen → ℕ → List ServerEvent
+drops_of (seen.Flushed dropped) rear = server.Drop rear ∷ []
+drops_of _ rear = []
+
+-- the events of a look
+abbrev pub look_events : Seen → (flush rear front : ℕ) → List ServerEvent
+look_events shown flush rear front = server.SawFlush flush ∷ server.SawRear rear ∷ server.SawFront front ∷ drops_of shown rear
+
+-- how many frames a look showed, where it showed some
+abbrev pub shown_by : Seen → Option ℕ
+shown_by (seen.Frames count) = Some count
+shown_by _ = None
+
+-- A server's list is what calls and meetings add, one after the other. `shown` is how many frames may be taken: those that the last call showed, where it was a look that showed some.
+-- A server that was shut looks no more
+pub data IsServerList (size base : ℕ) : (shown : Option ℕ) → List ServerEvent → Type 0 where
+  begins : IsServerList size base None []
+  looks : (events : List ServerEvent) (shown : Option ℕ) (asked flush rear front : ℕ) → IsServerList size base shown events → (server_kept size base events).shut ≡ None → 1 ≤ asked
+      → IsServerList size base (shown_by (look_at size (server_kept size base events).flush asked flush rear front))
+      (events ++ look_events (look_at size (server_kept size base events).flush asked flush rear front) flush rear front)
+  takes : (events : List ServerEvent) (count : ℕ) → IsServerList size base (Some count) events → IsServerList size base None (events ++ server.Take count ∷ [])
+  reads_gains : (events : List ServerEvent) (shown : Option ℕ) (word : ℕ) → IsServerList size base shown events → IsServerList size base None (events ++ server.SawGain word ∷ [])
+  tallies : (events : List ServerEvent) (shown : Option ℕ) (missing : ℕ) → IsServerList size base shown events → 1 ≤ missing
+      → IsServerList size base None (events ++ server.Tally missing ∷ server.SetFlags 1 ∷ [])
+  sets_flags : (events : List ServerEvent) (shown : Option ℕ) (bits : ℕ) → IsServerList size base shown events → IsServerList size base None (events ++ server.SetFlags bits ∷ [])
+  sets_status : (events : List ServerEvent) (shown : Option ℕ) (word : ℕ) → IsServerList size base shown events → IsServerList size base None (events ++ server.SetStatus word ∷ [])
+  rests : (events : List ServerEvent) (shown : Option ℕ) → IsServerList size base shown events → IsServerList size base None events
+  meets : (events : List ServerEvent) (shown : Option ℕ) (count : ℕ) → IsServerList size base shown events → IsServerList size base shown (events ++ server.Learn count ∷ [])

@@ -1,0 +1,85 @@
+-- What becomes of the frames of a block in a history: mixed, discarded or still queued.
+use Rattle.std.specs.Prelude.{◌≡◌, ℕ, ◌+◌, ◌-◌, ◌<◌, ◌≤◌, List, [], ◌∷◌, ◌++◌, take, drop, flat_map, slice_get, Some}
+use Rattle.af_base.specs.declared.event.ClientEvent.{ClientEvent}
+use Rattle.af_base.specs.declared.event.ServerEvent.{ServerEvent}
+use Rattle.af_base.specs.declared.event.ServerEvent.TheVariants as server
+use Rattle.af_base.specs.declared.event.HandEvent.{HandEvent}
+use Rattle.af_model.specs.declared.point.TrackPoint.{TrackPoint}
+use Rattle.af_model.specs.Point.{start}
+use Rattle.af_model.specs.History.{Moment, by_client, by_server, by_hand, after, HasHistory, point}
+
+-- a frame that was taken is mixed, and one that was dropped is discarded
+pub data Fate : Type 0 where
+  mixed : Fate
+  discarded : Fate
+  queued : Fate
+
+-- the positions from one up to another, and what becomes of the frames there
+pub record Span : Type 0 where
+  pub fate : Fate
+  pub from : ℕ
+  pub to : ℕ
+
+-- a take and a drop cover the positions from what was consumed before it to what was consumed after it
+abbrev pub covered_by : TrackPoint → ServerEvent → List Span
+covered_by p (server.Take count) = record { fate = mixed; from = p.consumed; to = p.consumed + count } ∷ []
+covered_by p (server.Drop to) = record { fate = discarded; from = p.consumed; to = p.rear_seen } ∷ []
+covered_by p _ = []
+
+-- the takes and drops of an order, oldest first
+abbrev pub spans_of : ℕ → List Moment → List Span
+spans_of base [] = []
+spans_of base (by_client e ∷ order) = spans_of base order
+spans_of base (by_server e ∷ order) = spans_of base order ++ covered_by (after (start base) order) e
+spans_of base (by_hand e ∷ order) = spans_of base order
+
+-- the frames from what was consumed last up to what was released are queued
+abbrev pub waiting_at : TrackPoint → Span
+waiting_at p = record { fate = queued; from = p.consumed; to = p.released }
+
+-- what becomes of all frames that were released
+abbrev pub fates_of : {base : ℕ} {client : List ClientEvent} {released : List ℕ} {server : List ServerEvent} {taken : List ℕ} {hand : List HandEvent} → HasHistory base client released server taken hand → List Span
+fates_of {base} h = spans_of base h.order ++ waiting_at (point h) ∷ []
+
+-- the spans follow one another from one position to another, without gap or overlap
+abbrev pub Follow : ℕ → List Span → ℕ → Type 0
+Follow from [] to = from ≡ to
+Follow from (s ∷ spans) to = (s.from ≡ from) × (s.from ≤ s.to) × Follow s.to spans to
+
+-- the position is one of the span's
+abbrev pub LiesIn : Span → ℕ → Type 0
+LiesIn s position = (s.from ≤ position) × (position < s.to)
+
+-- the position lies in one span, and in no other
+pub record HasOneFate (spans : List Span) (position : ℕ) : Type 0 where
+  pub place : ℕ
+  pub span : Span
+  pub is_there : slice_get spans place ≡ Some span
+  pub lies : LiesIn span position
+  pub only : (other : ℕ) (s : Span) → slice_get spans other ≡ Some s → LiesIn s position → other ≡ place
+
+-- these frames, where they are mixed
+abbrev pub frames_by : Fate → List ℕ → List ℕ
+frames_by mixed frames = frames
+frames_by discarded frames = []
+frames_by queued frames = []
+
+-- those released at the positions of the span
+abbrev pub mixed_in : List ℕ → ℕ → Span → List ℕ
+mixed_in released base s = frames_by s.fate (take (s.to - s.from) (drop (s.from - base) released))
+
+-- those of all spans, in order
+abbrev pub mixed_by : List ℕ → ℕ → List Span → List ℕ
+mixed_by released base spans = flat_map (mixed_in released base) spans
+
+-- that many frames, where the two fates are one
+abbrev pub count_if : Fate → Fate → ℕ → ℕ
+count_if mixed mixed count = count
+count_if discarded discarded count = count
+count_if queued queued count = count
+count_if _ _ count = 0
+
+-- how many frames of the spans have this fate
+abbrev pub count_with : Fate → List Span → ℕ
+count_with fate [] = 0
+count_with fate (s ∷ spans) = count_if fate s.fate (s.to - s.from) + count_with fate spans
