@@ -1,6 +1,8 @@
 //! The plain machines: what a block is after some events, and which orders of events are legal.
 #![tactic(auto)]
 
+mod newest;
 mod point;
 
+pub use newest::{ReaderEvent, WriterEvent};
 pub use point::TrackPoint;
