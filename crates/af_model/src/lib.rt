@@ -3,6 +3,8 @@
 
 mod newest;
 mod point;
+mod states;
 
 pub use newest::{ReaderEvent, WriterEvent};
 pub use point::TrackPoint;
+pub use states::{MutatorEvent, ObserverEvent};
