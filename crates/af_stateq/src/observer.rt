@@ -76,20 +76,25 @@ impl<P: Drop, N: Fits<P>> Observer<P, N> {
         ensures order { InOrder N.fits self.new }
         ensures bound { steps.new ≤ steps.old + 9 }
     {
-        let Some(state) = self.end.look(queue, &mut self.rack, steps) else {
-            return if self.end.number == 0 {
+        let Observer {
+            end,
+            current,
+            previous,
+            items,
+            rack,
+        } = self;
+        let Some(state) = end.look(queue, rack, steps) else {
+            return if end.number == 0 {
                 Poll::Nothing
             } else {
                 Poll::Same
             };
         };
-        settle(&state, &mut self.items, &mut self.rack);
-        self.end.acknowledge(queue, &mut self.rack, steps);
-        self.previous = self.current;
-        self.current = Some(state);
-        Poll::New {
-            number: self.end.number,
-        }
+        settle(&state, items, rack);
+        end.acknowledge(queue, rack, steps);
+        *previous = *current;
+        *current = Some(state);
+        Poll::New { number: end.number }
     }
 
     /// The state that the last New took, and None exactly before the first. It stays until the next poll.
