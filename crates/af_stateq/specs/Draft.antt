@@ -1,9 +1,10 @@
 -- What the edits of a draft do to it.
-use Rattle.std.specs.Prelude.{ℕ, ◌+◌, ◌-◌, ◌^◌, ◌&&◌, not, if◌then◌else◌, Bool, true, false, ◌∷◌, replicate, slice_set, bit_and, bit_or}
+use Rattle.std.specs.Prelude.{ℕ, ◌+◌, ◌-◌, ◌^◌, ◌==◌, ◌&&◌, not, if◌then◌else◌, Bool, true, false, ◌∷◌, replicate, slice_set, bit_and, bit_or}
 use Rattle.af_base.specs.declared.state.FastState.{FastState}
 use Rattle.af_base.specs.declared.state.FastTrack.{FastTrack}
 use Rattle.af_base.specs.declared.state.Command.{Command}
-use Rattle.af_base.specs.declared.state.Command.TheVariants.{Initial, HotIdle, ColdIdle, Idle, Exit, Mix, Write, MixWrite}
+use Rattle.af_base.specs.declared.state.Command.TheVariants.{ColdIdle}
+use Rattle.af_base.specs.Command.{code_of}
 use Rattle.af_model.specs.StateQueue.{slots, no_track, slot_of}
 
 -- the state before any edit: the submix alone is active, at the scale 1
@@ -24,8 +25,7 @@ abbrev pub detached : ℕ → FastState → FastState
 detached slot x = record x { mask = bit_and x.mask (2 ^ 32 - 1 - 2 ^ slot); tracks_gen = x.tracks_gen + 1 }
 
 abbrev pub is_cold : Command → Bool
-is_cold ColdIdle = true
-is_cold _ = false
+is_cold c = code_of c == code_of ColdIdle
 
 -- a command is set: a change to ColdIdle counts
 abbrev pub commanded : Command → FastState → FastState
