@@ -4,3 +4,4 @@ pub mod Draft
 pub mod Mutates
 pub mod Observes
 pub mod Answers
+pub mod Lends

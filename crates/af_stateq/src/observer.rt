@@ -2,7 +2,10 @@
 ghost use Rattle.std.specs.Prelude.{◌≡◌, ℕ, ◌+◌, ◌^◌, ◌<◌, ◌≤◌, length, false, Some, None, MatchOption, is_some};
 ghost use Rattle.af_model.specs.StateQueue.{slots, carries, has};
 ghost use Rattle.af_stateq.specs.Shelved.{nothing};
+ghost use Rattle.std.specs.Borrow.{sem};
+ghost use Rattle.af_stateq.specs.Mutates.{at};
 ghost use Rattle.af_stateq.specs.Observes.{Observes, InOrder, IsSettled};
+ghost use Rattle.af_stateq.specs.Lends.{lends_item};
 ghost use Rattle.af_stateq.specs.Answers.{WasPolled};
 
 use crate::ends::ObserverEnd;
@@ -116,5 +119,15 @@ impl<P: Drop, N: Fits<P>> Observer<P, N> {
         ensures { result ≡ self.now.past.number }
     {
         self.end.number
+    }
+
+    /// The item of a slot, where the observer holds one.
+    pub fn item(&mut self, slot: u32) -> Option<&mut P>
+        requires slot { slot < slots }
+        requires whole { length self.old.items ≡ slots }
+        ensures* writes_back { sem 𝓛 (lends_item P.row N.row N.Key.row N.Fits self.entry slot result) }
+        ensures value { MatchOption result (has self.old.items slot ≡ false) (λ p. at self.old.items slot ≡ Some p.now) }
+    {
+        self.items[slot as usize].as_mut()
     }
 }
