@@ -37,6 +37,16 @@ module _ {P K : Type 0} where
   WasAcked m true m' = SeesIt m m'
   WasAcked m false m' = (a : ℕ) × SeesOlder m m' a
 
+  -- what the edits made stays while the mutator looks and pushes
+  abbrev pub SameDraft : Mutates P K → Mutates P K → Type 0
+  SameDraft m m' = (m'.past.queue ≡ m.past.queue) × (m'.past.key ≡ m.past.key) × (m'.past.first ≡ m.past.first) × (m'.draft ≡ m.draft) × (m'.editing ≡ m.editing) × (m'.out ≡ m.out)
+
+  -- a push that is never Busy: Clean where nothing was to be pushed, else the draft is the next state
+  abbrev pub UntilPushed : Mutates P K → Push → Mutates P K → Type 0
+  UntilPushed m Clean m' = (m.dirty ≡ false) × (m'.dirty ≡ false) × (m'.past.number ≡ m.past.number) × SameDraft m m'
+  UntilPushed m (Busy seen expected) m' = ⊥
+  UntilPushed m (Pushed number) m' = (m.dirty ≡ true) × (m'.dirty ≡ false) × (number ≡ m.past.number + 1) × (m'.past.number ≡ number) × (m'.past.last ≡ m.draft) × SameDraft m m'
+
   -- a look that found nothing new
   abbrev pub sees_same : Observes P K → Observes P K
   sees_same o = record o { past = looked o.past }

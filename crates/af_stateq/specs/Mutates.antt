@@ -1,8 +1,9 @@
 -- What contracts see of the mutator, and what always holds of it.
-use Rattle.std.specs.Prelude.{◌≡◌, ℕ, ◌<◌, ◌≤◌, ◌&&◌, not, if◌then◌else◌, Bool, true, false, List, length, Option, Some, None, is_some, slice_index_or}
+use Rattle.std.specs.Prelude.{◌≡◌, ℕ, ◌<◌, ◌≤◌, ◌&&◌, not, if◌then◌else◌, Bool, true, false, List, [], length, Option, Some, None, is_some, slice_index_or, replicate}
 use Rattle.af_base.specs.declared.state.FastState.{FastState}
 use Rattle.af_base.specs.declared.state.FastTrack.{FastTrack}
 use Rattle.af_model.specs.StateQueue.{slots, slot_of, carries, IsState, FitAt}
+use Rattle.af_stateq.specs.Shelved.{nothing}
 use Rattle.af_stateq.specs.Ends.{Pushes}
 
 -- what it pushed and saw, the draft, whether it differs from the last push, whether a mutation is in progress and made an edit,
@@ -52,3 +53,11 @@ pub record InDraft {P K : Type 0} (fits : K → ℕ → P → Type 0) (m : Mutat
 -- items came into hand: each stands at its slot, and the others stay
 abbrev pub IsJoined : {P : Type 0} → List (Option P) → List (Option P) → List (Option P) → Type 0
 IsJoined items before after = (i : ℕ) → i < slots → at after i ≡ (if is_some (at items i) then at items i else at before i)
+
+-- nothing was pushed or seen, the draft is the first state, and no slot has an item
+pub record IsNewMutator {P K : Type 0} (key : K) (first : FastState) (m : Mutates P K) : Type 0 where
+  pub has_key : m.past.key ≡ Some key
+  pub begins : (m.past.first ≡ first) × (m.past.last ≡ first) × (m.draft ≡ first)
+  pub silent : (m.past.number ≡ 0) × (m.past.clear ≡ true) × (m.past.events ≡ [])
+  pub idle : (m.dirty ≡ false) × (m.editing ≡ false)
+  pub empty : (m.pending ≡ nothing) × (m.returned ≡ nothing) × (m.out ≡ replicate slots false)

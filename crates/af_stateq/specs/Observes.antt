@@ -1,7 +1,8 @@
 -- What contracts see of the observer, and when it is in order.
-use Rattle.std.specs.Prelude.{◌≡◌, ℕ, ◌<◌, ◌||◌, not, if◌then◌else◌, Bool, List, length, Option, None}
+use Rattle.std.specs.Prelude.{◌≡◌, ℕ, ◌<◌, ◌||◌, not, if◌then◌else◌, Bool, List, [], length, Option, Some, None}
 use Rattle.af_base.specs.declared.state.FastState.{FastState}
 use Rattle.af_model.specs.StateQueue.{slots, carries, has, IsState, FitAt}
+use Rattle.af_stateq.specs.Shelved.{nothing}
 use Rattle.af_stateq.specs.Ends.{Polls}
 use Rattle.af_stateq.specs.Mutates.{at}
 
@@ -25,3 +26,10 @@ changes x rack i = has rack i || not (carries x i)
 
 abbrev pub IsSettled : {P : Type 0} → FastState → List (Option P) → List (Option P) → List (Option P) → List (Option P) → ℕ → Type 0
 IsSettled x items rack items' rack' i = (at items' i ≡ (if changes x rack i then at rack i else at items i)) × (at rack' i ≡ (if changes x rack i then at items i else at rack i))
+
+-- nothing was seen, and nothing is held
+pub record IsNewObserver {P K : Type 0} (key : K) (first : FastState) (o : Observes P K) : Type 0 where
+  pub has_key : o.past.key ≡ Some key
+  pub begins : o.past.state ≡ first
+  pub silent : (o.past.number ≡ 0) × (o.past.events ≡ [])
+  pub empty : (o.current ≡ None) × (o.previous ≡ None) × (o.items ≡ nothing)

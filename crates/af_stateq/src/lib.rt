@@ -12,8 +12,10 @@ mod observer;
 mod plays;
 mod rule;
 mod view;
+mod waits;
 
 
+pub use make::{meet, queue};
 pub use mutator::Mutator;
 pub use observer::{Observer, Poll};
 pub use rule::{Fits, Queue};

@@ -2,12 +2,16 @@
 ghost use Rattle.std.specs.Prelude.{◌≡◌, [], ◌∷◌, ◌++◌, ◌+◌, length, true, false, None, Some, IfOk};
 ghost use Rattle.af_model.specs.StateQueue.{HasHistory};
 ghost use Rattle.af_stateq.specs.Draft.{initial};
+ghost use Rattle.af_stateq.specs.Mutates.{IsNewMutator};
+ghost use Rattle.af_stateq.specs.Observes.{IsNewObserver, InOrder};
 ghost use Rattle.af_stateq.specs.Shelved.{nothing};
 ghost use Rattle.af_model.specs.declared.states.MutatorEvent.TheVariants as mutates;
 ghost use Rattle.af_model.specs.declared.states.ObserverEvent.TheVariants as observes;
 
 use crate::cell::Slot;
 use crate::ends::{MutatorEnd, ObserverEnd};
+use crate::mutator::Mutator;
+use crate::observer::Observer;
 use crate::plays::{Meet, Part, SitMutator, SitObserver};
 use crate::rule::{Basis, Fits, Queue};
 use af_base::{Command, FastState, FastTrack, Memory, SLOTS, Steps};
@@ -124,4 +128,58 @@ pub(crate) fn meet_ends<P: Drop, N: Fits<P>, L: Ledger>(
     let part = shared.split_seat::<Part>(&mut mutator.seat);
     steps.tick();
     shared.join_seat::<Part>(&mut observer.seat, part);
+}
+
+/// A queue with its two ends, for states of `frames` frames and items that fit by `key`. Nothing is pushed. In the draft the submix alone is active, with the command ColdIdle, and no slot has an item. The one error is want of memory.
+pub fn queue<P: Drop, N: Fits<P>>(
+    alloc: Global,
+    frames: u32,
+    key: N::Key,
+) -> Result<(Queue<P, N>, Mutator<P, N>, Observer<P, N>), Memory>
+    ensures together { IfOk result (λ l. (l.1.past.queue ≡ l.0) × (l.2.past.queue ≡ l.0)) }
+    ensures mutator { IfOk result (λ l. IsNewMutator key (initial frames) l.1) }
+    ensures observer { IfOk result (λ l. IsNewObserver key (initial frames) l.2 × InOrder N.fits l.2) }
+{
+    let first = first_state(frames);
+    let pending = shelves(alloc)?;
+    let returned = shelves(alloc)?;
+    let spare = shelves(alloc)?;
+    let items = shelves(alloc)?;
+    let rack = shelves(alloc)?;
+    let (queue, pushes, polls) = ends_of(alloc, first, key)?;
+    let mutator = Mutator {
+        end: pushes,
+        draft: first,
+        dirty: false,
+        editing: false,
+        edited: false,
+        pending,
+        returned,
+        out: [false; SLOTS],
+        spare,
+    };
+    let observer = Observer {
+        end: polls,
+        current: None,
+        previous: None,
+        items,
+        rack,
+    };
+    Ok((queue, mutator, observer))
+}
+
+/// Each end learns that the other's list so far stands in the history before its own next event. It takes five steps.
+pub fn meet<P: Drop, N: Fits<P>, L: Ledger>(
+    queue: &Queue<P, N>,
+    mutator: &mut Mutator<P, N>,
+    observer: &mut Observer<P, N>,
+    steps: &mut Steps<L>,
+)
+    requires together { (mutator.old.past.queue ≡ queue.now) × (observer.old.past.queue ≡ queue.now) }
+    ensures history { HasHistory mutator.old.past.first mutator.old.past.events observer.old.past.events }
+    ensures mutator { mutator.new ≡ record mutator.old { past = record mutator.old.past { events = mutator.old.past.events ++ mutates.Learn (length observer.old.past.events) ∷ [] } } }
+    ensures observer { observer.new ≡ record observer.old { past = record observer.old.past { events = observer.old.past.events ++ observes.Learn (length mutator.old.past.events) ∷ [] } } }
+    ensures steps { steps.new ≡ steps.old + 5 }
+{
+    meet_ends(queue, &mut mutator.end, &mut observer.end, steps);
 }

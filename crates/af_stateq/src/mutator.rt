@@ -19,14 +19,14 @@ use std::sync::ledger::Ledger;
 #[derive(Drop)]
 pub struct Mutator<P: Drop, N: Fits<P>> {
     pub(crate) end: MutatorEnd<P, N>,
-    draft: FastState,
-    dirty: bool,
-    editing: bool,
-    edited: bool,
-    pending: Vec<Option<P>>,
-    returned: Vec<Option<P>>,
-    out: [bool; 8],
-    spare: Vec<Option<P>>,
+    pub(crate) draft: FastState,
+    pub(crate) dirty: bool,
+    pub(crate) editing: bool,
+    pub(crate) edited: bool,
+    pub(crate) pending: Vec<Option<P>>,
+    pub(crate) returned: Vec<Option<P>>,
+    pub(crate) out: [bool; 8],
+    pub(crate) spare: Vec<Option<P>>,
 }
 
 impl<P: Drop, N: Fits<P>> Model for Mutator<P, N> {

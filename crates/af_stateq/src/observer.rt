@@ -30,10 +30,10 @@ pub enum Poll {
 #[derive(Drop)]
 pub struct Observer<P: Drop, N: Fits<P>> {
     pub(crate) end: ObserverEnd<P, N>,
-    current: Option<FastState>,
-    previous: Option<FastState>,
-    items: Vec<Option<P>>,
-    rack: Vec<Option<P>>,
+    pub(crate) current: Option<FastState>,
+    pub(crate) previous: Option<FastState>,
+    pub(crate) items: Vec<Option<P>>,
+    pub(crate) rack: Vec<Option<P>>,
 }
 
 impl<P: Drop, N: Fits<P>> Model for Observer<P, N> {
