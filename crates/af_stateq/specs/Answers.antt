@@ -41,6 +41,10 @@ module _ {P K : Type 0} where
   abbrev pub SameDraft : Mutates P K → Mutates P K → Type 0
   SameDraft m m' = (m'.past.queue ≡ m.past.queue) × (m'.past.key ≡ m.past.key) × (m'.past.first ≡ m.past.first) × (m'.draft ≡ m.draft) × (m'.editing ≡ m.editing) × (m'.out ≡ m.out)
 
+  -- looks that found the last state not acknowledged change no more than this
+  abbrev pub Waited : Mutates P K → Mutates P K → Type 0
+  Waited m m' = (m'.dirty ≡ m.dirty) × (m'.past.number ≡ m.past.number) × SameDraft m m'
+
   -- a push that is never Busy: Clean where nothing was to be pushed, else the draft is the next state
   abbrev pub UntilPushed : Mutates P K → Push → Mutates P K → Type 0
   UntilPushed m Clean m' = (m.dirty ≡ false) × (m'.dirty ≡ false) × (m'.past.number ≡ m.past.number) × SameDraft m m'

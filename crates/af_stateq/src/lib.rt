@@ -11,6 +11,8 @@ mod mutator;
 mod observer;
 mod plays;
 mod rule;
+#[cfg(test)]
+mod tests;
 mod view;
 mod waits;
 

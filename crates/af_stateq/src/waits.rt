@@ -23,11 +23,10 @@ impl<P: Drop, N: Fits<P>> Mutator<P, N> {
         ensures answer { UntilPushed self.old result self.new }
     {
         for _ in rt.forever() {
-            let answer = self.push(queue, steps);
-            if !matches!(answer, Push::Busy { .. }) {
-                return answer;
+            match self.push(queue, steps) {
+                Push::Busy { .. } => thread::yield_now(),
+                answer => return answer,
             }
-            thread::yield_now();
         }
         unreachable!()
     }
