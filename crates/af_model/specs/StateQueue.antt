@@ -72,14 +72,14 @@ module _ {P : Type 0} where
   abbrev pub brought : QueuePoint P → List (Option P)
   brought p = if not p.clear && (p.acked == p.pushed) then p.given else []
 
-  -- a state follows the last one pushed, once that was acknowledged and seen so; a look sees the last number, and takes what the other end gave; an acknowledgement follows the look that took its state
+  -- a state follows the last one pushed, once that was acknowledged and seen so; a look sees the last number, and takes what the other end gave; an acknowledgement follows the look that took its state, with no look and no meeting of the observer between
   abbrev pub legal : QueuePoint P → Event (MutatorEvent P) (ObserverEvent P) → Type 0
   legal p (one (Push k x items)) = (k ≡ p.pushed + 1) × (p.acked ≡ p.pushed) × (p.clear ≡ true) × AreOf x p.last items
   legal p (one (SawAck a items)) = (a ≡ p.acked) × (items ≡ brought p)
   legal p (one (mutator.Learn c)) = c ≤ p.observer
-  legal p (two (SawNext k x items)) = (k ≡ p.pushed) × (x ≡ (if k == p.acked then None else Some p.last)) × (items ≡ (if k == p.acked then [] else p.items))
+  legal p (two (SawNext k x items)) = (k ≡ p.pushed) × (x ≡ (if k == p.acked then None else Some p.last)) × (items ≡ (if k == p.acked then [] else p.items)) × (p.due ≡ 0)
   legal p (two (Ack k items)) = (k ≡ p.due) × (k ≢ 0) × AreOf p.before p.last items
-  legal p (two (observer.Learn c)) = c ≤ p.mutator
+  legal p (two (observer.Learn c)) = (c ≤ p.mutator) × (p.due ≡ 0)
 
   abbrev pub next : QueuePoint P → Event (MutatorEvent P) (ObserverEvent P) → QueuePoint P
   next p (one (Push k x items)) = record { pushed = k; acked = p.acked; last = x; before = p.last; items = items; due = p.due; given = p.given; clear = false; mutator = p.mutator + 1; observer = p.observer }

@@ -44,8 +44,8 @@ module _ (slot : ℕ) (mono : Bool) (scale track : ℕ) (x : FastState) (low : 1
     whole = length-set x.slots slot _ ∙ state.whole;
     submix = set_other x.mask slot 0 (λ e. omega arith) ∙ state.submix;
     scaled = λ i li. dite (ℕ_discrete i slot)
-      (λ e. subst (λ k. (slot_of y k).scale ≤ 4096) (sym e) (subst (λ (t : FastTrack). t.scale ≤ 4096) (sym slot_here) fine))
-      (λ ne. subst (λ (t : FastTrack). t.scale ≤ 4096) (sym (slot_else i ne)) (state.scaled i li));
+        (λ e. subst (λ k. (slot_of y k).scale ≤ 4096) (sym e) (subst (λ (t : FastTrack). t.scale ≤ 4096) (sym slot_here) fine))
+        (λ ne. subst (λ (t : FastTrack). t.scale ≤ 4096) (sym (slot_else i ne)) (state.scaled i li));
   }
 
 module _ (slot : ℕ) (x : FastState) (low : 1 ≤ slot) (lt : slot < slots) where

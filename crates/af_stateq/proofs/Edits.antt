@@ -54,20 +54,20 @@ module _ {P K : Type 0} (fits : K → ℕ → P → Type 0) (m : Mutates P K) (d
         state = attached_state slot mono scale track m.draft low lt d.state fine;
         lengths = (length-set m.pending slot (Some item) ∙ d.lengths.0, d.lengths.1, length-set m.out slot true ∙ d.lengths.2);
         each = λ i li. dite (ℕ_discrete i slot)
-          (λ e. subst (SlotIn m.past.clear attaches.draft m.past.last m.past.before attaches.pending m.returned attaches.out) (sym e)
+            (λ e. subst (SlotIn m.past.clear attaches.draft m.past.last m.past.before attaches.pending m.returned attaches.out) (sym e)
             (subst (λ (q : Bool × Option P × Bool). InSlot m.past.clear q.0 (carries m.past.last slot) (carries m.past.before slot) (slot_of attaches.draft slot) (slot_of m.past.last slot) (slot_of m.past.before slot) q.1 (at m.returned slot) q.2)
-              (λ j. (sym (attached_here slot mono scale track m.draft low lt d.state) j, sym pending_here j, sym (get_or-set_same m.out slot true false (let l = d.lengths.2 in omega arith)) j))
-              (attach_one m.past.clear (carries m.draft slot) (carries m.past.last slot) (carries m.past.before slot) (slot_of m.draft slot) (slot_of m.past.last slot) (slot_of m.past.before slot) (at m.pending slot) (at m.returned slot) (is_out m.out slot) (d.each slot lt) free (slot_of attaches.draft slot) item)))
-          (λ ne. kept m.past.clear (carries m.draft i) (carries m.past.last i) (carries m.past.before i) (slot_of m.draft i) (slot_of m.past.last i) (slot_of m.past.before i) (at m.pending i) (at m.returned i) (is_out m.out i)
+            (λ j. (sym (attached_here slot mono scale track m.draft low lt d.state) j, sym pending_here j, sym (get_or-set_same m.out slot true false (let l = d.lengths.2 in omega arith)) j))
+            (attach_one m.past.clear (carries m.draft slot) (carries m.past.last slot) (carries m.past.before slot) (slot_of m.draft slot) (slot_of m.past.last slot) (slot_of m.past.before slot) (at m.pending slot) (at m.returned slot) (is_out m.out slot) (d.each slot lt) free (slot_of attaches.draft slot) item)))
+            (λ ne. kept m.past.clear (carries m.draft i) (carries m.past.last i) (carries m.past.before i) (slot_of m.draft i) (slot_of m.past.last i) (slot_of m.past.before i) (at m.pending i) (at m.returned i) (is_out m.out i)
             (carries attaches.draft i) (slot_of attaches.draft i) (at attaches.pending i) (at m.returned i) (is_out attaches.out i)
             (attached_else slot mono scale track m.draft low lt d.state i ne) (else_ i ne) (get_or-set_other m.pending slot i (Some item) None ne) refl (get_or-set_other m.out slot i true false ne) (d.each i li));
         fit_pending = λ key k i p li is. dite (ℕ_discrete i slot)
-          (λ e. let same : item ≡ p = (let a = sym pending_here ∙ ap (at attaches.pending) (sym e) ∙ is in cc) in
+            (λ e. let same : item ≡ p = (let a = sym pending_here ∙ ap (at attaches.pending) (sym e) ∙ is in cc) in
             subst (λ (q : ℕ × P). fits key (slot_of attaches.draft q.0).track q.1) (λ j. (sym e j, same j)) (subst (λ (t : FastTrack). fits key t.track item) (sym here) (fit key k)))
-          (λ ne. subst (λ (t : FastTrack). fits key t.track p) (sym (else_ i ne)) (d.fit_pending key k i p li (sym (get_or-set_other m.pending slot i (Some item) None ne) ∙ is)));
+            (λ ne. subst (λ (t : FastTrack). fits key t.track p) (sym (else_ i ne)) (d.fit_pending key k i p li (sym (get_or-set_other m.pending slot i (Some item) None ne) ∙ is)));
         fit_returned = λ key k i p li is. dite (ℕ_discrete i slot)
-          (λ e. absurd (not_both (is_some (at m.returned slot)) (ap (λ j. is_some (at m.returned j)) (sym e) ∙ ap is_some is) ((d.each slot lt).clean free).1))
-          (λ ne. subst (λ (t : FastTrack). fits key t.track p) (sym (else_ i ne)) (d.fit_returned key k i p li is));
+            (λ e. absurd (not_both (is_some (at m.returned slot)) (ap (λ j. is_some (at m.returned j)) (sym e) ∙ ap is_some is) ((d.each slot lt).clean free).1))
+            (λ ne. subst (λ (t : FastTrack). fits key t.track p) (sym (else_ i ne)) (d.fit_returned key k i p li is));
         begins = d.begins;
       }
 
@@ -90,19 +90,19 @@ module _ {P K : Type 0} (fits : K → ℕ → P → Type 0) (m : Mutates P K) (d
         state = detached_state slot m.draft low lt d.state;
         lengths = (length-set m.pending slot None ∙ d.lengths.0, length-set m.returned slot (at m.pending slot) ∙ d.lengths.1, d.lengths.2);
         each = λ i li. dite (ℕ_discrete i slot)
-          (λ e. subst (SlotIn m.past.clear detaches.draft m.past.last m.past.before detaches.pending detaches.returned m.out) (sym e)
+            (λ e. subst (SlotIn m.past.clear detaches.draft m.past.last m.past.before detaches.pending detaches.returned m.out) (sym e)
             (subst (λ (q : Bool × Option P × Option P). InSlot m.past.clear q.0 (carries m.past.last slot) (carries m.past.before slot) (slot_of m.draft slot) (slot_of m.past.last slot) (slot_of m.past.before slot) q.1 q.2 (is_out m.out slot))
-              (λ j. (sym (detached_here slot m.draft low lt) j, sym cleared_here j, sym returned_here j))
-              (detach_one m.past.clear (carries m.draft slot) (carries m.past.last slot) (carries m.past.before slot) (slot_of m.draft slot) (slot_of m.past.last slot) (slot_of m.past.before slot) (at m.pending slot) (at m.returned slot) (is_out m.out slot) (d.each slot lt) on)))
-          (λ ne. kept m.past.clear (carries m.draft i) (carries m.past.last i) (carries m.past.before i) (slot_of m.draft i) (slot_of m.past.last i) (slot_of m.past.before i) (at m.pending i) (at m.returned i) (is_out m.out i)
+            (λ j. (sym (detached_here slot m.draft low lt) j, sym cleared_here j, sym returned_here j))
+            (detach_one m.past.clear (carries m.draft slot) (carries m.past.last slot) (carries m.past.before slot) (slot_of m.draft slot) (slot_of m.past.last slot) (slot_of m.past.before slot) (at m.pending slot) (at m.returned slot) (is_out m.out slot) (d.each slot lt) on)))
+            (λ ne. kept m.past.clear (carries m.draft i) (carries m.past.last i) (carries m.past.before i) (slot_of m.draft i) (slot_of m.past.last i) (slot_of m.past.before i) (at m.pending i) (at m.returned i) (is_out m.out i)
             (carries detaches.draft i) (slot_of m.draft i) (at detaches.pending i) (at detaches.returned i) (is_out m.out i)
             (detached_else slot m.draft low lt i li ne) refl (get_or-set_other m.pending slot i None None ne) (get_or-set_other m.returned slot i (at m.pending slot) None ne) refl (d.each i li));
         fit_pending = λ key k i p li is. dite (ℕ_discrete i slot)
-          (λ e. absurd (true≢false (sym (ap is_some (sym (ap (at detaches.pending) e ∙ cleared_here) ∙ is)))))
-          (λ ne. d.fit_pending key k i p li (sym (get_or-set_other m.pending slot i None None ne) ∙ is));
+            (λ e. absurd (true≢false (sym (ap is_some (sym (ap (at detaches.pending) e ∙ cleared_here) ∙ is)))))
+            (λ ne. d.fit_pending key k i p li (sym (get_or-set_other m.pending slot i None None ne) ∙ is));
         fit_returned = λ key k i p li is. dite (ℕ_discrete i slot)
-          (λ e. d.fit_pending key k i p li (ap (at m.pending) e ∙ sym returned_here ∙ ap (at detaches.returned) (sym e) ∙ is))
-          (λ ne. d.fit_returned key k i p li (sym (get_or-set_other m.returned slot i (at m.pending slot) None ne) ∙ is));
+            (λ e. d.fit_pending key k i p li (ap (at m.pending) e ∙ sym returned_here ∙ ap (at detaches.returned) (sym e) ∙ is))
+            (λ ne. d.fit_returned key k i p li (sym (get_or-set_other m.returned slot i (at m.pending slot) None ne) ∙ is));
         begins = d.begins;
       }
 
@@ -126,17 +126,17 @@ module _ {P K : Type 0} (fits : K → ℕ → P → Type 0) (m : Mutates P K) (d
       state = d.state;
       lengths = (d.lengths.0, length-set m.returned slot None ∙ d.lengths.1, length-set m.out slot still ∙ d.lengths.2);
       each = λ i li. dite (ℕ_discrete i slot)
-        (λ e. subst (SlotIn m.past.clear m.draft m.past.last m.past.before m.pending takes_back.returned takes_back.out) (sym e)
+          (λ e. subst (SlotIn m.past.clear m.draft m.past.last m.past.before m.pending takes_back.returned takes_back.out) (sym e)
           (subst (λ (q : Option P × Bool). InSlot m.past.clear (carries m.draft slot) (carries m.past.last slot) (carries m.past.before slot) (slot_of m.draft slot) (slot_of m.past.last slot) (slot_of m.past.before slot) (at m.pending slot) q.0 q.1)
-            (λ j. (sym taken_here j, sym (get_or-set_same m.out slot still false (let l = d.lengths.2 in omega arith)) j))
-            (take_one m.past.clear (carries m.draft slot) (carries m.past.last slot) (carries m.past.before slot) (slot_of m.draft slot) (slot_of m.past.last slot) (slot_of m.past.before slot) (at m.pending slot) (at m.returned slot) (is_out m.out slot) (d.each slot lt))))
-        (λ ne. kept m.past.clear (carries m.draft i) (carries m.past.last i) (carries m.past.before i) (slot_of m.draft i) (slot_of m.past.last i) (slot_of m.past.before i) (at m.pending i) (at m.returned i) (is_out m.out i)
+          (λ j. (sym taken_here j, sym (get_or-set_same m.out slot still false (let l = d.lengths.2 in omega arith)) j))
+          (take_one m.past.clear (carries m.draft slot) (carries m.past.last slot) (carries m.past.before slot) (slot_of m.draft slot) (slot_of m.past.last slot) (slot_of m.past.before slot) (at m.pending slot) (at m.returned slot) (is_out m.out slot) (d.each slot lt))))
+          (λ ne. kept m.past.clear (carries m.draft i) (carries m.past.last i) (carries m.past.before i) (slot_of m.draft i) (slot_of m.past.last i) (slot_of m.past.before i) (at m.pending i) (at m.returned i) (is_out m.out i)
           (carries m.draft i) (slot_of m.draft i) (at m.pending i) (at takes_back.returned i) (is_out takes_back.out i)
           refl refl refl (get_or-set_other m.returned slot i None None ne) (get_or-set_other m.out slot i still false ne) (d.each i li));
       fit_pending = d.fit_pending;
       fit_returned = λ key k i p li is. dite (ℕ_discrete i slot)
-        (λ e. absurd (true≢false (sym (ap is_some (sym (ap (at takes_back.returned) e ∙ taken_here) ∙ is)))))
-        (λ ne. d.fit_returned key k i p li (sym (get_or-set_other m.returned slot i None None ne) ∙ is));
+          (λ e. absurd (true≢false (sym (ap is_some (sym (ap (at takes_back.returned) e ∙ taken_here) ∙ is)))))
+          (λ ne. d.fit_returned key k i p li (sym (get_or-set_other m.returned slot i None None ne) ∙ is));
       begins = d.begins;
     }
 
@@ -166,18 +166,19 @@ module _ {P K : Type 0} (fits : K → ℕ → P → Type 0) (m : Mutates P K) (d
     state = d.state;
     lengths = (d.lengths.0, long, d.lengths.2);
     each = λ i li. subst (λ (c : Bool). SlotIn c m.draft m.past.last m.past.before m.pending after m.out i) (sym t)
-      (join_one m.past.clear (carries m.draft i) (carries m.past.last i) (carries m.past.before i) (slot_of m.draft i) (slot_of m.past.last i) (slot_of m.past.before i) (at m.pending i) (at m.returned i) (is_out m.out i) (d.each i li) f (at came i) (at after i) (are.1 i li) (joined i li));
+        (join_one m.past.clear (carries m.draft i) (carries m.past.last i) (carries m.past.before i) (slot_of m.draft i) (slot_of m.past.last i) (slot_of m.past.before i) (at m.pending i) (at m.returned i) (is_out m.out i) (d.each i li) f (at came i) (at after i) (are.1 i li) (joined i li));
     fit_pending = d.fit_pending;
     fit_returned = λ key k i p li is. fit_after came after f are fit joined key k i p li is (is_some (at came i)) refl;
     begins = λ _. t;
   }
+
   -- the draft is the last state
   pub push_keeps : m.past.clear ≡ true → InDraft fits (shows m)
   push_keeps t = record {
     state = d.state;
     lengths = (length-replicate {A = Option P} slots None, d.lengths.1, d.lengths.2);
     each = λ i li. subst (λ (p : Option P). InSlot false (carries m.draft i) (carries m.draft i) (carries m.past.last i) (slot_of m.draft i) (slot_of m.draft i) (slot_of m.past.last i) p (at m.returned i) (is_out m.out i)) (sym (get_or-replicate slots i None None li))
-      (push_one m.past.clear (carries m.draft i) (carries m.past.last i) (carries m.past.before i) (slot_of m.draft i) (slot_of m.past.last i) (slot_of m.past.before i) (at m.pending i) (at m.returned i) (is_out m.out i) (d.each i li) t);
+        (push_one m.past.clear (carries m.draft i) (carries m.past.last i) (carries m.past.before i) (slot_of m.draft i) (slot_of m.past.last i) (slot_of m.past.before i) (at m.pending i) (at m.returned i) (is_out m.out i) (d.each i li) t);
     fit_pending = λ key k i p li is. absurd (true≢false (sym (ap is_some (sym (get_or-replicate slots i None None li) ∙ is))));
     fit_returned = d.fit_returned;
     begins = λ e. absurd (omega arith);

@@ -43,8 +43,8 @@ module _ (frames : ℕ) where
       state = initial_state;
       lengths = (length-replicate {A = Option P} slots None, length-replicate {A = Option P} slots None, length-replicate slots false);
       each = λ i lt. subst (λ (q : Bool × FastState × Bool × Bool × Option P × Bool). InSlot q.0 q.2 q.3 (carries past.before i) (slot_of (initial frames) i) (slot_of q.1 i) (slot_of past.before i) q.4 q.4 q.5)
-        (λ j. (sym clear j, sym last j, sym (initial_none i) j, sym (ap (λ (x : FastState). carries x i) last ∙ initial_none i) j, sym (get_or-replicate {A = Option P} slots i None None lt) j, sym (get_or-replicate slots i false false lt) j))
-        (empty_slot (slot_of (initial frames) i) (slot_of past.before i) (carries past.before i));
+          (λ j. (sym clear j, sym last j, sym (initial_none i) j, sym (ap (λ (x : FastState). carries x i) last ∙ initial_none i) j, sym (get_or-replicate {A = Option P} slots i None None lt) j, sym (get_or-replicate slots i false false lt) j))
+          (empty_slot (slot_of (initial frames) i) (slot_of past.before i) (carries past.before i));
       fit_pending = λ key k i p lt is. absurd (no_item i lt p is);
       fit_returned = λ key k i p lt is. absurd (no_item i lt p is);
       begins = λ _. clear;

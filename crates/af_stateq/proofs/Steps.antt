@@ -211,7 +211,7 @@ module _ {P K : Type 0} (fits : K → ℕ → P → Type 0) (basis : Basis K) wh
             one_mutator = same has_mutating mutating s.views k.m_at id k.m v same_view k.one_mutator here refl refl;
             one_observer = mine has_observing observing s.views k.o_at id k.o same_o v same_view k.one_observer here ok refl;
             keys = k.keys;
-            history = add_two legal next (start basis.first) k.m.events k.o.events saw_same k.history (at_point (two saw_same) (q.0 ∙ sym k.numbers.0, sym (ap (λ (b : Bool). if b then None else Some k.point.last) eq), sym (ap (λ (b : Bool). if b then [] else k.point.items) eq)));
+            history = add_two legal next (start basis.first) k.m.events k.o.events saw_same k.history (at_point (two saw_same) (q.0 ∙ sym k.numbers.0, sym (ap (λ (b : Bool). if b then None else Some k.point.last) eq), sym (ap (λ (b : Bool). if b then [] else k.point.items) eq), k.numbers.2 ∙ ap (λ (b : Bool). if b then k.m.pushed else 0) q.1));
             point = next k.point (two saw_same);
             point_is = point_one k.history.order k.point (two saw_same) k.point_is;
             counts = (k.counts.0, ap (λ (z : ℕ). z + 1) k.counts.1 ∙ sym (length-append k.o.events (saw_same ∷ [])));
@@ -247,7 +247,7 @@ module _ {P K : Type 0} (fits : K → ℕ → P → Type 0) (basis : Basis K) wh
               one_mutator = same has_mutating mutating s.views k.m_at id k.m v new_view k.one_mutator here refl refl;
               one_observer = mine has_observing observing s.views k.o_at id k.o new_o v new_view k.one_observer here ok refl;
               keys = k.keys;
-              history = add_two legal next (start basis.first) k.m.events k.o.events saw_new k.history (at_point (two saw_new) (sym q.0 ∙ sym k.numbers.0, ap Some q.4.2 ∙ sym (ap (λ (b : Bool). if b then None else Some k.point.last) ne), q.5.2 ∙ sym (ap (λ (b : Bool). if b then [] else k.point.items) ne)));
+              history = add_two legal next (start basis.first) k.m.events k.o.events saw_new k.history (at_point (two saw_new) (sym q.0 ∙ sym k.numbers.0, ap Some q.4.2 ∙ sym (ap (λ (b : Bool). if b then None else Some k.point.last) ne), q.5.2 ∙ sym (ap (λ (b : Bool). if b then [] else k.point.items) ne), k.numbers.2 ∙ ap (λ (b : Bool). if b then k.m.pushed else 0) q.1));
               point = next k.point (two saw_new);
               point_is = point_one k.history.order k.point (two saw_new) k.point_is;
               counts = (k.counts.0, ap (λ (z : ℕ). z + 1) k.counts.1 ∙ sym (length-append k.o.events (saw_new ∷ [])));
@@ -337,7 +337,7 @@ module _ {P K : Type 0} (fits : K → ℕ → P → Type 0) (basis : Basis K) wh
             one_mutator = mine has_mutating mutating s.views k.m_at id k.m met_m v met_view k.one_mutator here m_ok refl;
             one_observer = mine has_observing observing s.views k.o_at id k.o met_o v met_view k.one_observer here o_ok refl;
             keys = k.keys;
-            history = add_two legal next (start basis.first) met_m.events k.o.events (observer.Learn (length k.m.events)) (add_one legal next (start basis.first) k.m.events k.o.events (mutator.Learn (length k.o.events)) k.history (at_point (one (mutator.Learn (length k.o.events))) (let c = k.counts.1 in omega arith))) (subst (λ (p : QueuePoint P). length k.m.events ≤ p.mutator) (sym once_is) (let c = k.counts.0 in omega arith));
+            history = add_two legal next (start basis.first) met_m.events k.o.events (observer.Learn (length k.m.events)) (add_one legal next (start basis.first) k.m.events k.o.events (mutator.Learn (length k.o.events)) k.history (at_point (one (mutator.Learn (length k.o.events))) (let c = k.counts.1 in omega arith))) (subst (λ (p : QueuePoint P). (length k.m.events ≤ p.mutator) × (p.due ≡ 0)) (sym once_is) ((let c = k.counts.0 in omega arith), k.numbers.2 ∙ ap (λ (b : Bool). if b then k.m.pushed else 0) rested));
             point = both;
             point_is = point_one (k.history.order ++ one (mutator.Learn (length k.o.events)) ∷ []) once (two (observer.Learn (length k.m.events))) once_is;
             counts = (ap (λ (z : ℕ). z + 1) k.counts.0 ∙ sym (length-append k.m.events (mutator.Learn (length k.o.events) ∷ [])), ap (λ (z : ℕ). z + 1) k.counts.1 ∙ sym (length-append k.o.events (observer.Learn (length k.m.events) ∷ [])));

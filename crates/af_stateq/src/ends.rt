@@ -4,9 +4,9 @@ ghost use Rattle.af_model.specs.StateQueue.{AreOf, FitAt};
 ghost use Rattle.af_stateq.specs.Shelved.{word, nothing, IsMutator, IsObserver};
 ghost use Rattle.af_stateq.specs.Ends.{Pushes, Polls, SawAcked, pushes, acknowledged, Looked};
 
+use crate::cell::Slot;
 use crate::plays::{Acknowledge, Push, SeeAck, SeeNext};
 use crate::rule::{Fits, Queue};
-use crate::cell::Slot;
 use crate::view::View;
 use af_base::{FastState, Steps};
 use atomic_table::Seat;

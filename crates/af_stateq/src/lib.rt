@@ -16,7 +16,6 @@ mod tests;
 mod view;
 mod waits;
 
-
 pub use make::{meet, queue};
 pub use mutator::Mutator;
 pub use observer::{Observer, Poll};

@@ -6,7 +6,7 @@ ghost use Rattle.af_model.specs.StateQueue.{slots, slot_of, carries, has};
 ghost use Rattle.af_stateq.specs.Draft.{attached, detached, commanded};
 ghost use Rattle.af_stateq.specs.Shelved.{word, nothing};
 ghost use Rattle.af_stateq.specs.Mutates.{Mutates, InDraft, IsJoined, at, is_out};
-ghost use Rattle.af_stateq.specs.Answers.{SeesIt, SeesOlder, shows, WasPushed, WasAcked};
+ghost use Rattle.af_stateq.specs.Answers.{SeesIt, SeesOlder, shows, WasPushed, WasAcked, SameDraft};
 
 use crate::ends::{MutatorEnd, word_of};
 use crate::rule::{Fits, Queue};
@@ -194,6 +194,7 @@ impl<P: Drop, N: Fits<P>> Mutator<P, N> {
         requires together { self.old.past.queue ≡ queue.now }
         requires room { self.old.past.number < 2 ^ 62 }
         ensures answer { WasPushed self.old result self.new steps.old steps.new }
+        ensures same { SameDraft self.old self.new × (self.new.past.number ≤ self.old.past.number + 1) }
     {
         if !self.dirty {
             return Push::Clean;
@@ -216,6 +217,7 @@ impl<P: Drop, N: Fits<P>> Mutator<P, N> {
     pub fn acked<L: Ledger>(&mut self, queue: &Queue<P, N>, steps: &mut Steps<L>) -> bool
         requires together { self.old.past.queue ≡ queue.now }
         ensures answer { WasAcked self.old result self.new }
+        ensures same { SameDraft self.old self.new × (self.new.past.number ≡ self.old.past.number) }
         ensures steps { steps.new ≡ steps.old + 1 }
     {
         let expected = word_of(self.end.number);

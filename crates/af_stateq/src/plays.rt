@@ -1,6 +1,6 @@
 //! What each step on the table tells.
-use crate::rule::Fits;
 use crate::cell::Slot;
+use crate::rule::Fits;
 use crate::view::View;
 use atomic_table::{Join, Play, Split};
 use std::marker::PhantomData;

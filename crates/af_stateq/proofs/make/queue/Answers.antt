@@ -21,7 +21,7 @@ invariant_of-mutator g c =
         returned = q.2;
         out = replicate slots false;
       }) (λ i. (sym first i, sym c.in_ok-pending.ensures i, sym c.in_ok-returned.ensures i))
-      (new_draft c.args.frames g.N.Fits.fits c.in_ok-queue.pushes (e.2 ∙ first) e.4 false false false),
+          (new_draft c.args.frames g.N.Fits.fits c.in_ok-queue.pushes (e.2 ∙ first) e.4 false false false),
     )
 
 pub returns-clause-observer : goal.returns-clause-observer
@@ -30,5 +30,5 @@ returns-clause-observer g c =
     let first = c.first_state-first.ensures in (
       record { has_key = e.0; begins = e.1 ∙ first; silent = (e.2, e.4); empty = (refl, refl, c.in_ok-items.ensures) },
       subst (λ (q : List (Option g.row.P.Denot)). InOrder g.N.Fits.fits record { past = c.in_ok-queue.polls; current = _; previous = _; items = q }) (sym c.in_ok-items.ensures)
-      (new_order c.args.frames g.N.Fits.fits c.in_ok-queue.polls _ _ (e.1 ∙ first)),
+          (new_order c.args.frames g.N.Fits.fits c.in_ok-queue.polls _ _ (e.1 ∙ first)),
     )

@@ -33,14 +33,16 @@ returns-clause-seen g c hit =
     let i = c.self.invariant in
     let is = c.word_of-expected.ensures ∙ ap (λ p. word p.number) c.end.view_is in
     let s = subst (λ (b : List (Option g.row.P.Denot)). SawAcked g.N.Fits.fits c.self.inside.end b c.see_ack-seen.result c.see_ack-seen.new.self c.see_ack-seen.new.items.items) i.0 c.see_ack-seen.ensures.seen in
-    let t = hit_all g.N.Fits.fits _ i.1 _ _ _ s (c.if-seen-expected.false ∙ is) _ c.join.ensures.lengths c.join.ensures.joined in
-    (subst (λ (m : Mutates g.row.P.Denot g.row.N-Key.Denot). SeesIt m record {
-      past = c.see_ack-seen.new.self;
-      draft = c.self.inside.draft;
-      dirty = c.self.inside.dirty;
-      editing = c.self.inside.editing;
-      edited = c.self.inside.edited;
-      pending = c.self.inside.pending.items;
-      returned = c.join.new.returned.items;
-      out = c.self.inside.out;
-    }) c.self.view_is t.1, t.2)
+    let t = hit_all g.N.Fits.fits _ i.1 _ _ _ s (c.if-seen-expected.false ∙ is) _ c.join.ensures.lengths c.join.ensures.joined in (
+      subst (λ (m : Mutates g.row.P.Denot g.row.N-Key.Denot). SeesIt m record {
+        past = c.see_ack-seen.new.self;
+        draft = c.self.inside.draft;
+        dirty = c.self.inside.dirty;
+        editing = c.self.inside.editing;
+        edited = c.self.inside.edited;
+        pending = c.self.inside.pending.items;
+        returned = c.join.new.returned.items;
+        out = c.self.inside.out;
+      }) c.self.view_is t.1,
+      t.2,
+    )

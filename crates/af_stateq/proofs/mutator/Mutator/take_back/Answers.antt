@@ -17,7 +17,7 @@ invariant_of-self g c =
     = c.take-item.ensures.value ∙ c.index_mut.ensures.value ∙ get_or_default c.self.inside.returned.items c.args.slot _ _ (let l = i.1.lengths.1 in omega arith) in (
       i.0,
       take_keeps_by g.N.Fits.fits _ i.1 c.args.slot r.slot.0 r.slot.1 _ _ (search rules)
-      (ap (λ b. is_out c.self.inside.out c.args.slot && b) (flipped _ _ c.is_none.ensures ∙ ap (λ o. not (is_some o)) s)),
+          (ap (λ b. is_out c.self.inside.out c.args.slot && b) (flipped _ _ c.is_none.ensures ∙ ap (λ o. not (is_some o)) s)),
     )
 
 pub returns-clause-fits : goal.returns-clause-fits
