@@ -18,7 +18,7 @@ and_not : (b : Bool) → false ≡ (b && not b)
 and_not true = refl
 and_not false = refl
 
-both_ways : {X : Type 0} (b : Bool) → (b ≡ true → X) → (b ≡ false → X) → X
+pub both_ways : {X : Type 0} (b : Bool) → (b ≡ true → X) → (b ≡ false → X) → X
 both_ways true y n = y refl
 both_ways false y n = n refl
 

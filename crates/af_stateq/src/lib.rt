@@ -6,6 +6,7 @@
 
 mod cell;
 mod ends;
+mod laws;
 mod make;
 mod mutator;
 mod observer;
@@ -13,9 +14,12 @@ mod plays;
 mod rule;
 #[cfg(test)]
 mod tests;
+#[cfg(test)]
+mod threads;
 mod view;
 mod waits;
 
+pub use laws::{each_item_has_one_holder, polled_are_pushed};
 pub use make::{meet, queue};
 pub use mutator::Mutator;
 pub use observer::{Observer, Poll};

@@ -12,7 +12,7 @@ use std::sync::ledger::{Blank, Ledger};
 use std::test::Fail;
 
 /// An item is the number of its track.
-struct ByNumber;
+pub(crate) struct ByNumber;
 
 impl Fits<u32> for ByNumber {
     type Key = ();
@@ -20,14 +20,14 @@ impl Fits<u32> for ByNumber {
     ghost fits = { λ key track item. item ≡ track };
 }
 
-type Line = Queue<u32, ByNumber>;
+pub(crate) type Line = Queue<u32, ByNumber>;
 
-type Pushing = Mutator<u32, ByNumber>;
+pub(crate) type Pushing = Mutator<u32, ByNumber>;
 
-type Polling = Observer<u32, ByNumber>;
+pub(crate) type Polling = Observer<u32, ByNumber>;
 
 // Attaches a track where the slot is free, and says whether it was.
-fn attach(mutator: &mut Pushing, slot: u32, track: u32) -> bool
+pub(crate) fn attach(mutator: &mut Pushing, slot: u32, track: u32) -> bool
     requires idle { mutator.old.editing ≡ false }
     requires slot { (1 ≤ slot) × (slot < slots) }
     ensures same { (mutator.new.past ≡ mutator.old.past) × (mutator.new.editing ≡ false) }
@@ -46,7 +46,7 @@ fn attach(mutator: &mut Pushing, slot: u32, track: u32) -> bool
 }
 
 // Detaches a slot where it is active, and says whether it was.
-fn detach(mutator: &mut Pushing, slot: u32) -> bool
+pub(crate) fn detach(mutator: &mut Pushing, slot: u32) -> bool
     requires idle { mutator.old.editing ≡ false }
     requires slot { (1 ≤ slot) × (slot < slots) }
     ensures same { (mutator.new.past ≡ mutator.old.past) × (mutator.new.editing ≡ false) }
@@ -62,7 +62,7 @@ fn detach(mutator: &mut Pushing, slot: u32) -> bool
 }
 
 // Sets the command, and leaves the draft dirty.
-fn command(mutator: &mut Pushing, command: Command)
+pub(crate) fn command(mutator: &mut Pushing, command: Command)
     requires idle { mutator.old.editing ≡ false }
     ensures same { (mutator.new.past ≡ mutator.old.past) × (mutator.new.editing ≡ false) }
 {
