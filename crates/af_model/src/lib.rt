@@ -9,10 +9,14 @@ mod merge_random;
 #[cfg(test)]
 mod merge_tests;
 mod merging;
+mod newest;
 mod pieces;
 mod point;
 mod search;
+mod states;
 mod step;
 
 pub use merging::{Merge, merge_check};
+pub use newest::{ReaderEvent, WriterEvent};
 pub use point::TrackPoint;
+pub use states::{MutatorEvent, ObserverEvent};

@@ -1,0 +1,58 @@
+-- After a poll the observer has the item of each slot that is on, and gives back those of slots that went off.
+use Rattle.std.proofs.Common.{◌≡◌, ℕ, ◌<◌, ◌&&◌, ◌||◌, not, if◌then◌else◌, Bool, true, false, true≢false, List, length, Option, Some, None, is_some, refl, ap, sym, ◌∙◌, subst}
+use Rattle.af_base.specs.declared.state.FastState.{FastState}
+use Rattle.af_base.specs.declared.state.FastTrack.{FastTrack}
+use Rattle.af_model.specs.StateQueue.{slots, carries, slot_of, has, AreOf, AllFit, FitAt, IsState}
+use Rattle.af_stateq.specs.Mutates.{at}
+use Rattle.af_stateq.specs.Observes.{changes, IsSettled}
+
+and_true : (b : Bool) → (b && true) ≡ b
+and_true true = refl
+and_true false = refl
+
+module _ {P : Type 0} where
+  held_one : (a b : Bool) (r it it' : Option P) → is_some r ≡ (a && not b) → is_some it ≡ b → it' ≡ (if ((a && not b) || not a) then r else it) → is_some it' ≡ a
+  held_one true true r it it' hr hi e = ap is_some e ∙ hi
+  held_one true false r it it' hr hi e = ap is_some e ∙ hr
+  held_one false b r it it' hr hi e = ap is_some e ∙ hr
+
+  given_one : (a b : Bool) (r it r' : Option P) → is_some r ≡ (a && not b) → is_some it ≡ b → r' ≡ (if ((a && not b) || not a) then it else r) → is_some r' ≡ (b && not a)
+  given_one true true r it r' hr hi e = ap is_some e ∙ hr
+  given_one true false r it r' hr hi e = ap is_some e ∙ hi
+  given_one false b r it r' hr hi e = ap is_some e ∙ hi ∙ sym (and_true b)
+
+  module _ (x c : FastState) (items rack items' rack' : List (Option P)) (all : (i : ℕ) → i < slots → has items i ≡ carries c i) (of : AreOf x c rack)
+      (each : (i : ℕ) → i < slots → IsSettled x items rack items' rack' i) where
+    now : (i : ℕ) (lt : i < slots) → at items' i ≡ (if ((carries x i && not (carries c i)) || not (carries x i)) then at rack i else at items i)
+    now i lt = (each i lt).0 ∙ ap (λ (b : Bool). if (b || not (carries x i)) then at rack i else at items i) (of.1 i lt)
+
+    back : (i : ℕ) (lt : i < slots) → at rack' i ≡ (if ((carries x i && not (carries c i)) || not (carries x i)) then at items i else at rack i)
+    back i lt = (each i lt).1 ∙ ap (λ (b : Bool). if (b || not (carries x i)) then at items i else at rack i) (of.1 i lt)
+
+    pub holds_all : (i : ℕ) → i < slots → has items' i ≡ carries x i
+    holds_all i lt = held_one (carries x i) (carries c i) (at rack i) (at items i) (at items' i) (of.1 i lt) (all i lt) (now i lt)
+
+    pub gives_back : length rack' ≡ slots → IsState c → AreOf c x rack'
+    gives_back long state = (
+      long,
+      (λ i lt. given_one (carries x i) (carries c i) (at rack i) (at items i) (at rack' i) (of.1 i lt) (all i lt) (back i lt)),
+      (λ i lt a b. sym (of.2 i lt b a)),
+      state,
+    )
+
+    module _ {K : Type 0} (fits : K → ℕ → P → Type 0) (o : Option K) (fit_new : FitAt fits o x rack) (fit_old : FitAt fits o c items) where
+      fit_one : (key : K) (k : o ≡ Some key) (i : ℕ) (lt : i < slots) (p : P) (a b : Bool) → carries x i ≡ a → carries c i ≡ b → at items' i ≡ (if ((a && not b) || not a) then at rack i else at items i) → at items' i ≡ Some p → fits key (slot_of x i).track p
+      fit_one key k i lt p true true oa ob e is = subst (λ (t : FastTrack). fits key t.track p) (sym (of.2 i lt oa ob)) (fit_old key k i p lt (sym e ∙ is))
+      fit_one key k i lt p true false oa ob e is = fit_new key k i p lt (sym e ∙ is)
+      fit_one key k i lt p false b oa ob e is = fit_new key k i p lt (sym e ∙ is)
+
+      pub fits_all : FitAt fits o x items'
+      fits_all key k i p lt is = fit_one key k i lt p (carries x i) (carries c i) refl refl (now i lt) is
+
+      back_one : (key : K) (k : o ≡ Some key) (i : ℕ) (lt : i < slots) (p : P) (a b : Bool) → carries x i ≡ a → carries c i ≡ b → at rack' i ≡ (if ((a && not b) || not a) then at items i else at rack i) → at rack' i ≡ Some p → fits key (slot_of c i).track p
+      back_one key k i lt p true true oa ob e is = subst (λ (t : FastTrack). fits key t.track p) (of.2 i lt oa ob) (fit_new key k i p lt (sym e ∙ is))
+      back_one key k i lt p true false oa ob e is = fit_old key k i p lt (sym e ∙ is)
+      back_one key k i lt p false b oa ob e is = fit_old key k i p lt (sym e ∙ is)
+
+      pub fits_back : FitAt fits o c rack'
+      fits_back key k i p lt is = back_one key k i lt p (carries x i) (carries c i) refl refl (back i lt) is

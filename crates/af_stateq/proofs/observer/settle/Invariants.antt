@@ -1,0 +1,11 @@
+use Rattle.std.proofs.Common.{◌≡◌, ℕ, ◌<◌, ◌≤◌, length}
+use Rattle.af_model.specs.StateQueue.{slots}
+use Rattle.af_stateq.specs.Mutates.{at}
+use Rattle.af_stateq.specs.Observes.{IsSettled}
+use Rattle.af_stateq.proofs.observer.settle.Given as goal
+
+abbrev pub invariant-loop-i : goal.invariant-loop-i
+invariant-loop-i g l =
+    (length l.items.items ≡ slots) × (length l.rack.items ≡ slots)
+    × ((k : ℕ) → k < l.i → IsSettled l.state l.fn.items.items l.fn.rack.items l.items.items l.rack.items k)
+    × ((k : ℕ) → l.i ≤ k → (at l.items.items k ≡ at l.fn.items.items k) × (at l.rack.items k ≡ at l.fn.rack.items k))

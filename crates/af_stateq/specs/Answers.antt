@@ -1,0 +1,67 @@
+-- What each answer of a push and of a poll says.
+use Rattle.std.specs.Prelude.{◌≡◌, ◌≢◌, ℕ, ◌+◌, ◌<◌, Bool, true, false, List, [], Option, Some}
+use Rattle.af_base.specs.declared.state.FastState.{FastState}
+use Rattle.af_base.specs.declared.state.Push.{Push}
+use Rattle.af_base.specs.declared.state.Push.TheVariants.{Pushed, Clean, Busy}
+use Rattle.af_model.specs.StateQueue.{slots}
+use Rattle.af_stateq.specs.declared.observer.Poll.{Poll}
+use Rattle.af_stateq.specs.declared.observer.Poll.TheVariants.{Nothing, Same, New}
+use Rattle.af_stateq.specs.Shelved.{word, nothing}
+use Rattle.af_stateq.specs.Ends.{saw, pushes, looked, took, acknowledged}
+use Rattle.af_stateq.specs.Mutates.{Mutates, IsJoined}
+use Rattle.af_stateq.specs.Observes.{Observes, IsSettled}
+
+module _ {P K : Type 0} where
+  -- the last state was seen acknowledged, and the detached items came into hand
+  abbrev pub SeesIt : Mutates P K → Mutates P K → Type 0
+  SeesIt m m' = (items : List (Option P)) × (m' ≡ record m { past = saw m.past.number items m.past; returned = m'.returned }) × IsJoined items m.returned m'.returned
+
+  -- the last state is not acknowledged yet
+  abbrev pub SeesOlder : Mutates P K → Mutates P K → ℕ → Type 0
+  SeesOlder m m' a = (0 < m.past.number) × (a + 1 ≡ m.past.number) × (m' ≡ record m { past = saw a [] m.past })
+
+  -- the draft is shown as the next state, with the pending items
+  abbrev pub shows : Mutates P K → Mutates P K
+  shows m = record m { past = pushes m.draft m.pending m.past; dirty = false; pending = nothing }
+
+  -- a push: Clean where nothing was to be pushed, Busy where the last state isn't seen acknowledged, else the draft is the next state
+  abbrev pub WasPushed : Mutates P K → Push → Mutates P K → ℕ → ℕ → Type 0
+  WasPushed m Clean m' s s' = (m.dirty ≡ false) × (m' ≡ m) × (s' ≡ s)
+  WasPushed m (Busy seen expected) m' s s' = (m.dirty ≡ true) × (expected ≡ word m.past.number) × (seen ≢ expected) × ((a : ℕ) × (seen ≡ word a) × SeesOlder m m' a) × (s' ≡ s + 1)
+  WasPushed m (Pushed number) m' s s' = (m.dirty ≡ true) × (number ≡ m.past.number + 1)
+      × (m.past.number ≡ 0 → (m' ≡ shows m) × (s' ≡ s + 1))
+      × (0 < m.past.number → (w : Mutates P K) × SeesIt m w × (m' ≡ shows w) × (s' ≡ s + 2))
+
+  -- a look at the acknowledgement: true exactly where no push stands or the last one is acknowledged
+  abbrev pub WasAcked : Mutates P K → Bool → Mutates P K → Type 0
+  WasAcked m true m' = SeesIt m m'
+  WasAcked m false m' = (a : ℕ) × SeesOlder m m' a
+
+  -- what the edits made stays while the mutator looks and pushes
+  abbrev pub SameDraft : Mutates P K → Mutates P K → Type 0
+  SameDraft m m' = (m'.past.queue ≡ m.past.queue) × (m'.past.key ≡ m.past.key) × (m'.past.first ≡ m.past.first) × (m'.draft ≡ m.draft) × (m'.editing ≡ m.editing) × (m'.out ≡ m.out)
+
+  -- looks that found the last state not acknowledged change no more than this
+  abbrev pub Waited : Mutates P K → Mutates P K → Type 0
+  Waited m m' = (m'.dirty ≡ m.dirty) × (m'.past.number ≡ m.past.number) × SameDraft m m'
+
+  -- a push that is never Busy: Clean where nothing was to be pushed, else the draft is the next state
+  abbrev pub UntilPushed : Mutates P K → Push → Mutates P K → Type 0
+  UntilPushed m Clean m' = (m.dirty ≡ false) × (m'.dirty ≡ false) × (m'.past.number ≡ m.past.number) × SameDraft m m'
+  UntilPushed m (Busy seen expected) m' = ⊥
+  UntilPushed m (Pushed number) m' = (m.dirty ≡ true) × (m'.dirty ≡ false) × (number ≡ m.past.number + 1) × (m'.past.number ≡ number) × (m'.past.last ≡ m.draft) × SameDraft m m'
+
+  -- a look that found nothing new
+  abbrev pub sees_same : Observes P K → Observes P K
+  sees_same o = record o { past = looked o.past }
+
+  -- the state x was taken with the items that came, and acknowledged with the items given back
+  abbrev pub TakesIt : Observes P K → FastState → Observes P K → Type 0
+  TakesIt o x o' = (came : List (Option P)) × (back : List (Option P)) × (o' ≡ record { past = acknowledged back (took x came o.past); current = Some x; previous = o.current; items = o'.items })
+      × ((i : ℕ) → i < slots → IsSettled x o.items came o'.items back i)
+
+  -- a poll: Nothing where nothing was pushed, Same where the last push is current, else the next state is current
+  abbrev pub WasPolled : Observes P K → Poll → Observes P K → ℕ → ℕ → Type 0
+  WasPolled o Nothing o' s s' = (o.past.number ≡ 0) × (o' ≡ sees_same o) × (s' ≡ s + 1)
+  WasPolled o Same o' s s' = (0 < o.past.number) × (o' ≡ sees_same o) × (s' ≡ s + 1)
+  WasPolled o (New number) o' s s' = (number ≡ o.past.number + 1) × ((x : FastState) × TakesIt o x o') × (s' ≡ s + 2)

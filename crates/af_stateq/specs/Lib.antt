@@ -1,0 +1,8 @@
+pub mod Shelved
+pub mod Ends
+pub mod Draft
+pub mod Mutates
+pub mod Observes
+pub mod Answers
+pub mod Lends
+pub mod Laws

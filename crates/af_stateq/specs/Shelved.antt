@@ -1,0 +1,193 @@
+-- The rule of a state queue with items, and what each step tells.
+-- The mutator holds the cell of the next state, and the rack from a look that sees the last state acknowledged to the next push. The observer holds the cells of its state and of the one before, and from the look to the acknowledgement that of the new state and the rack.
+use Rattle.std.specs.Prelude.{◌≡◌, ◌≢◌, ℕ, ◌+◌, ◌%◌, ◌==◌, ◌&&◌, not, Bool, true, false, if◌then◌else◌, List, [], ◌∷◌, ◌++◌, length, Option, Some, None, replicate}
+use mathlib.Core.Option as maybe
+use lib.ListN.{get_elem?}
+use Rattle.atomic_table.specs.Table.{State, Me, Step}
+use Rattle.af_base.specs.declared.state.FastState.{FastState}
+use Rattle.af_base.specs.declared.state.Command.TheVariants.{Initial}
+use Rattle.af_stateq.specs.declared.cell.Slot.{Slot}
+use Rattle.af_stateq.specs.declared.rule.Basis.{Basis}
+use Rattle.af_stateq.specs.declared.view.View.{View}
+use Rattle.af_stateq.specs.declared.view.Mutating.{Mutating}
+use Rattle.af_stateq.specs.declared.view.Observing.{Observing}
+use Rattle.af_model.specs.declared.states.MutatorEvent.TheVariants.{Push, SawAck}
+use Rattle.af_model.specs.declared.states.MutatorEvent.TheVariants as mutator
+use Rattle.af_model.specs.declared.states.ObserverEvent.TheVariants.{SawNext, Ack}
+use Rattle.af_model.specs.declared.states.ObserverEvent.TheVariants as observer
+use Rattle.af_model.specs.Order.{after}
+use Rattle.af_model.specs.Held.{Held}
+use Rattle.af_model.specs.StateQueue.{slots, AreOf, AllFit, FitAt, QueuePoint, start, legal, next, HasHistory}
+
+-- the cell of the state k, also of the state 0 and, for k + 3, of the state k - 1
+abbrev pub cell : ℕ → ℕ
+cell k = (k + 3) % 4
+
+-- the word of the state k
+abbrev pub word : ℕ → ℕ
+word k = if k == 0 then 0 else cell k + 1
+
+-- empty shelves, one for each slot, of which the first is never used
+abbrev pub nothing : {P : Type 0} → List (Option P)
+nothing = replicate slots None
+
+abbrev pub no_state : FastState
+no_state = record { slots = []; mask = 0; tracks_gen = 0; frames = 0; command = Initial; cold_gen = 0 }
+
+module _ {P K : Type 0} where
+  abbrev pub starting : Basis K → View P K
+  starting b = record {
+    mutates = true;
+    mutating = record { key = Some b.key; first = b.first; events = []; pushed = 0; last = b.first; before = b.first; clear = true; out = false };
+    observes = true;
+    observing = record { key = Some b.key; events = []; current = 0; state = b.first; due = false; next = b.first; out = false };
+  }
+
+  abbrev pub spent : View P K
+  spent = record {
+    mutates = false;
+    mutating = record { key = None; first = no_state; events = []; pushed = 0; last = no_state; before = no_state; clear = false; out = false };
+    observes = false;
+    observing = record { key = None; events = []; current = 0; state = no_state; due = false; next = no_state; out = false };
+  }
+
+  abbrev pub has_mutating : View P K → Bool
+  has_mutating v = v.mutates
+
+  abbrev pub mutating : View P K → Mutating P K
+  mutating v = v.mutating
+
+  abbrev pub has_observing : View P K → Bool
+  has_observing v = v.observes
+
+  abbrev pub observing : View P K → Observing P K
+  observing v = v.observing
+
+module _ {P : Type 0} where
+  abbrev pub IsHome : List (maybe.Option (Slot P)) → ℕ → Type 0
+  IsHome homes k = (x : Slot P) × (get_elem? homes k ≡ maybe.some (maybe.some x))
+
+  -- the rack lies at home with these items
+  abbrev pub OnRack : List (maybe.Option (Slot P)) → List (Option P) → Type 0
+  OnRack homes items = (r : Slot P) × (get_elem? homes 4 ≡ maybe.some (maybe.some r)) × (r.shelves.items ≡ items)
+
+-- where the states are: the last one pushed is acknowledged, or it lies in its cell, or the observer took it
+pub data Phase : Type 0 where
+  quiet : Phase
+  shown : Phase
+  taken : Phase
+
+module _ {P K : Type 0} (fits : ℕ → P → Type 0) (m : Mutating P K) (o : Observing P K) (p : QueuePoint P) (homes : List (maybe.Option (Slot P))) where
+  abbrev pub InPhase : Phase → Type 0
+  InPhase quiet = (o.current ≡ m.pushed) × (o.due ≡ false) × (o.state ≡ p.last) × IsHome homes (cell (m.pushed + 2)) × (m.clear ≡ false → OnRack homes p.given × AreOf p.before p.last p.given × AllFit fits p.before p.given)
+  InPhase shown = (m.pushed ≡ o.current + 1) × (o.due ≡ false) × (m.clear ≡ false) × (o.state ≡ p.before)
+      × ((x : Slot P) × (get_elem? homes (cell m.pushed) ≡ maybe.some (maybe.some x)) × (x.state ≡ p.last)) × OnRack homes p.items × AreOf p.last p.before p.items × AllFit fits p.last p.items
+  InPhase taken = (m.pushed ≡ o.current + 1) × (o.due ≡ true) × (m.clear ≡ false) × (o.state ≡ p.before) × (o.next ≡ p.last)
+
+pub record Kept {P K : Type 0} (fits : K → ℕ → P → Type 0) (basis : Basis K) (s : State (Slot P) (View P K)) : Type 0 where
+  pub m : Mutating P K
+  pub o : Observing P K
+  pub m_at : ℕ
+  pub o_at : ℕ
+  pub one_mutator : Held has_mutating mutating s.views m_at m
+  pub one_observer : Held has_observing observing s.views o_at o
+  pub keys : (m.key ≡ Some basis.key) × (o.key ≡ Some basis.key) × (m.first ≡ basis.first)
+  pub history : HasHistory basis.first m.events o.events
+  pub point : QueuePoint P
+  pub point_is : after legal next (start basis.first) history.order ≡ point
+  pub counts : (point.mutator ≡ length m.events) × (point.observer ≡ length o.events)
+  pub numbers : (point.pushed ≡ m.pushed) × (point.acked ≡ o.current) × (point.due ≡ (if o.due then m.pushed else 0)) × (point.clear ≡ m.clear)
+  pub states : (m.last ≡ point.last) × (m.before ≡ point.before)
+  pub words : s.words ≡ word m.pushed ∷ word o.current ∷ []
+  pub five : length s.homes ≡ 5
+  pub phase : Phase
+  pub in_phase : InPhase (fits basis.key) m o point s.homes phase
+  pub m_home : m.out ≡ false → (m.pushed ≡ 0) × (m.clear ≡ true) × IsHome s.homes 0 × OnRack s.homes nothing
+  pub o_home : o.out ≡ false → (o.current ≡ 0) × IsHome s.homes 3 × IsHome s.homes 2
+
+module _ {P : Type 0} where
+  abbrev pub HoldsNext : Bool → ℕ → List (ℕ × Slot P) → Type 0
+  HoldsNext true n cs = (y : Slot P) × (x : Slot P) × (y.shelves.items ≡ nothing) × (cs ≡ (4, y) ∷ (cell (n + 1), x) ∷ [])
+  HoldsNext false n cs = (x : Slot P) × (cs ≡ (cell (n + 1), x) ∷ [])
+
+  abbrev pub HoldsSeen : Bool → ℕ → List (ℕ × Slot P) → Type 0
+  HoldsSeen false c cs = (x : Slot P) × (y : Slot P) × (cs ≡ (cell c, x) ∷ (cell (c + 3), y) ∷ [])
+  HoldsSeen true c cs = (z : Slot P) × (x : Slot P) × (y : Slot P) × (r : Slot P) × (r.shelves.items ≡ nothing) × (cs ≡ (cell (c + 1), z) ∷ (cell c, x) ∷ (cell (c + 3), y) ∷ (4, r) ∷ [])
+
+abbrev pub Seated : Type 0 → Type 0 → Type 0
+Seated P K = Me (Slot P) (View P K)
+
+module _ {P K : Type 0} where
+  -- the mutator's first seat takes its cell and the rack
+  abbrev pub sat_mutator : Step (Slot P) → Seated P K → ℕ → Seated P K → Type 0
+  sat_mutator st me r me' = (x : Slot P) × (y : Slot P) × (x.shelves.items ≡ nothing) × (me' ≡ (record me.0 { mutating = record me.0.mutating { out = true } }, (4, x) ∷ (0, y) ∷ me.1))
+
+  abbrev pub sat_observer : Step (Slot P) → Seated P K → ℕ → Seated P K → Type 0
+  sat_observer st me r me' = (x : Slot P) × (y : Slot P) × (me' ≡ (record me.0 { observing = record me.0.observing { out = true } }, (3, x) ∷ (2, y) ∷ me.1))
+
+  abbrev pub saw_mutating : ℕ → List (Option P) → Bool → Mutating P K → Mutating P K
+  saw_mutating a items clear m = record m { events = m.events ++ SawAck a items ∷ []; clear = clear }
+
+  -- the mutator does not have the rack, and the word is that of its last state
+  abbrev pub brings : Mutating P K → ℕ → Bool
+  brings m r = not m.clear && (r == word m.pushed)
+
+  -- the acknowledged number a was seen; where it is first seen that it is the last pushed, the rack was taken
+  abbrev pub saw_ack : (K → ℕ → P → Type 0) → Step (Slot P) → Seated P K → ℕ → Seated P K → Type 0
+  saw_ack fits st me r me' = let m = me.0.mutating in
+      (a : ℕ) × (r ≡ word a) × (r ≡ word m.pushed → a ≡ m.pushed) × (r ≢ word m.pushed → a + 1 ≡ m.pushed)
+      × (brings m r ≡ false → me' ≡ (record me.0 { mutating = saw_mutating a [] (r == word m.pushed) m }, me.1))
+      × (brings m r ≡ true → (x : Slot P) × AreOf m.before m.last x.shelves.items × FitAt fits m.key m.before x.shelves.items
+      × (me' ≡ (record me.0 { mutating = saw_mutating a x.shelves.items true m }, (4, x) ∷ me.1)))
+      × (m.clear ≡ true → (r == word m.pushed) ≡ true)
+
+  abbrev pub push_mutating : FastState → List (Option P) → Mutating P K → Mutating P K
+  push_mutating x items m = record m { events = m.events ++ Push (m.pushed + 1) x items ∷ []; pushed = m.pushed + 1; last = x; before = m.last; clear = false }
+
+  abbrev pub pushed : Step (Slot P) → Seated P K → ℕ → Seated P K → Type 0
+  pushed st me r me' = let m = me.0.mutating in
+      (x : Slot P) (y : Slot P) → me.1 ≡ (cell (m.pushed + 1), x) ∷ (4, y) ∷ []
+      → (z : Slot P) × (me' ≡ (record me.0 { mutating = push_mutating x.state y.shelves.items m }, (cell (m.pushed + 2), z) ∷ []))
+
+  -- nothing new, or the cell of the new state was taken with the rack
+  abbrev pub saw_next : (K → ℕ → P → Type 0) → Step (Slot P) → Seated P K → ℕ → Seated P K → Type 0
+  saw_next fits st me r me' = let o = me.0.observing in
+      (r ≡ word o.current → me' ≡ (record me.0 { observing = record o { events = o.events ++ SawNext o.current None [] ∷ [] } }, me.1))
+      × (r ≢ word o.current → (x : Slot P) × (y : Slot P) × (r ≡ word (o.current + 1)) × AreOf x.state o.state y.shelves.items × FitAt fits o.key x.state y.shelves.items
+      × (me' ≡ (record me.0 { observing = record o { events = o.events ++ SawNext (o.current + 1) (Some x.state) y.shelves.items ∷ []; due = true; next = x.state } }, (4, y) ∷ (cell (o.current + 1), x) ∷ me.1)))
+
+  abbrev pub acked : Step (Slot P) → Seated P K → ℕ → Seated P K → Type 0
+  acked st me r me' = let o = me.0.observing in
+      (x : Slot P) (y : Slot P) (cs : List (ℕ × Slot P)) → me.1 ≡ (cell (o.current + 3), x) ∷ (4, y) ∷ cs
+      → me' ≡ (record me.0 { observing = record o { events = o.events ++ Ack (o.current + 1) y.shelves.items ∷ []; current = o.current + 1; state = o.next; due = false } }, cs)
+
+  -- both parties' lists so far have a history, and each learns how many events the other has
+  abbrev pub met : Step (Slot P) → Seated P K → ℕ → Seated P K → Type 0
+  met st me r me' = let m = me.0.mutating in let o = me.0.observing in
+      ((x : FastState) → m.first ≡ x → HasHistory x m.events o.events)
+      × (me' ≡ (
+        record me.0 {
+          mutating = record m { events = m.events ++ mutator.Learn (length o.events) ∷ [] };
+          observing = record o { events = o.events ++ observer.Learn (length m.events) ∷ [] };
+        },
+        me.1,
+      ))
+
+  -- a mutator holds the cell of the next state, and the rack where the last state was seen acknowledged
+  pub record IsMutator (me : Seated P K) (n : ℕ) (clear : Bool) : Type 0 where
+    pub mutates : me.0.mutates ≡ true
+    pub alone : me.0.observes ≡ false
+    pub out : me.0.mutating.out ≡ true
+    pub number : me.0.mutating.pushed ≡ n
+    pub is_clear : me.0.mutating.clear ≡ clear
+    pub begins : n ≡ 0 → clear ≡ true
+    pub holds : HoldsNext clear n me.1
+
+  -- an observer holds the cells of its state and of the one before, and where it took the next one that cell and the rack
+  pub record IsObserver (me : Seated P K) (c : ℕ) (due : Bool) : Type 0 where
+    pub observes : me.0.observes ≡ true
+    pub alone : me.0.mutates ≡ false
+    pub out : me.0.observing.out ≡ true
+    pub number : me.0.observing.current ≡ c
+    pub is_due : me.0.observing.due ≡ due
+    pub holds : HoldsSeen due c me.1

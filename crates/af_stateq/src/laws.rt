@@ -1,0 +1,17 @@
+//! What a history says of the states and of the items.
+ghost use Rattle.std.specs.Prelude.{List};
+ghost use Rattle.af_base.specs.declared.state.FastState.{FastState as State};
+ghost use Rattle.af_model.specs.declared.states.MutatorEvent.{MutatorEvent};
+ghost use Rattle.af_model.specs.declared.states.ObserverEvent.{ObserverEvent};
+ghost use Rattle.af_model.specs.StateQueue.{HasHistory};
+ghost use Rattle.af_stateq.specs.Laws.{PolledInOrder, OneHolder};
+
+/// In a history the states polled are a prefix of the states pushed, as values, and at most one pushed state isn't polled.
+pub fn polled_are_pushed<P>()
+    ensures { (first : State) (ms : List (MutatorEvent P)) (os : List (ObserverEvent P)) → HasHistory first ms os → PolledInOrder first ms os }
+{}
+
+/// In the order of a history the item of each slot is passed on only by the holder that has it: from the mutator to its shelf, to the observer, to its shelf and back. So it has one holder at each moment, and the value taken off a shelf is the value put there.
+pub fn each_item_has_one_holder<P>()
+    ensures { (first : State) (ms : List (MutatorEvent P)) (os : List (ObserverEvent P)) → OneHolder first ms os }
+{}

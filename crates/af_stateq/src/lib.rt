@@ -1,0 +1,26 @@
+//! A queue of states for one mutator and one observer, in which nobody waits (AOSP's StateQueue), and the items of the slots travel with the states.
+//!
+//! Word 0 names the last state pushed, and word 1 the last one acknowledged. State k lies in cell (k - 1) mod 4, and its word is that number and 1; 0 stands for none.
+//! Slots 0 to 3 are the cells. Slot 4 is the rack, whose shelves hold the items that are on their way.
+#![tactic(auto)]
+
+mod cell;
+mod ends;
+mod laws;
+mod make;
+mod mutator;
+mod observer;
+mod plays;
+mod rule;
+#[cfg(test)]
+mod tests;
+#[cfg(test)]
+mod threads;
+mod view;
+mod waits;
+
+pub use laws::{each_item_has_one_holder, polled_are_pushed};
+pub use make::{meet, queue};
+pub use mutator::Mutator;
+pub use observer::{Observer, Poll};
+pub use rule::{Fits, Queue};

@@ -1,0 +1,185 @@
+//! How a queue is made, and how its ends meet.
+ghost use Rattle.std.specs.Prelude.{◌≡◌, [], ◌∷◌, ◌++◌, ◌+◌, length, true, false, None, Some, IfOk};
+ghost use Rattle.af_model.specs.StateQueue.{HasHistory};
+ghost use Rattle.af_stateq.specs.Draft.{initial};
+ghost use Rattle.af_stateq.specs.Mutates.{IsNewMutator};
+ghost use Rattle.af_stateq.specs.Observes.{IsNewObserver, InOrder};
+ghost use Rattle.af_stateq.specs.Shelved.{nothing};
+ghost use Rattle.af_model.specs.declared.states.MutatorEvent.TheVariants as mutates;
+ghost use Rattle.af_model.specs.declared.states.ObserverEvent.TheVariants as observes;
+
+use crate::cell::Slot;
+use crate::ends::{MutatorEnd, ObserverEnd};
+use crate::mutator::Mutator;
+use crate::observer::Observer;
+use crate::plays::{Meet, Part, SitMutator, SitObserver};
+use crate::rule::{Basis, Fits, Queue};
+use af_base::{Command, FastState, FastTrack, Memory, SLOTS, Steps};
+use atomic_table::Table;
+use std::alloc::Global;
+use std::sync::ledger::Ledger;
+
+/// Empty shelves, one for each slot.
+pub(crate) fn shelves<P: Drop>(alloc: Global) -> Result<Vec<Option<P>>, Memory>
+    ensures { IfOk result (λ v. v.items ≡ nothing) }
+{
+    let Ok(mut shelves) = Vec::with_capacity(alloc, SLOTS) else {
+        return Err(Memory);
+    };
+    for _slot in 0..SLOTS {
+        shelves.push_reserved(None);
+    }
+    Ok(shelves)
+}
+
+fn cell<P: Drop>(alloc: Global, state: FastState) -> Slot<P>
+    ensures { result.state ≡ state }
+{
+    Slot {
+        state,
+        shelves: Vec::new(alloc),
+    }
+}
+
+pub(crate) fn first_state(frames: u32) -> FastState
+    ensures { result ≡ initial frames }
+{
+    let mut slots = [FastTrack {
+        generation: 0,
+        track: 0,
+        mono: false,
+        scale: 0,
+    }; SLOTS];
+    slots[0].scale = 0x1000;
+    FastState {
+        slots,
+        mask: 1,
+        tracks_gen: 0,
+        frames,
+        command: Command::ColdIdle,
+        cold_gen: 0,
+    }
+}
+
+/// The table of a queue with its two ends. Nothing is pushed.
+pub(crate) fn ends_of<P: Drop, N: Fits<P>>(
+    alloc: Global,
+    first: FastState,
+    key: N::Key,
+) -> Result<(Queue<P, N>, MutatorEnd<P, N>, ObserverEnd<P, N>), Memory>
+    ensures together { IfOk result (λ l. (l.1.queue ≡ l.0) × (l.2.queue ≡ l.0)) }
+    ensures mutator { IfOk result (λ l. (l.1.key ≡ Some key) × (l.1.first ≡ first) × (l.1.last ≡ first) × (l.1.number ≡ 0) × (l.1.clear ≡ true) × (l.1.events ≡ [])) }
+    ensures observer { IfOk result (λ l. (l.2.key ≡ Some key) × (l.2.state ≡ first) × (l.2.number ≡ 0) × (l.2.due ≡ false) × (l.2.events ≡ [])) }
+{
+    let rack = Slot {
+        state: first,
+        shelves: shelves(alloc)?,
+    };
+    let Ok(mut slots) = Vec::with_capacity(alloc, 5) else {
+        return Err(Memory);
+    };
+    slots.push_reserved(cell(alloc, first));
+    slots.push_reserved(cell(alloc, first));
+    slots.push_reserved(cell(alloc, first));
+    slots.push_reserved(cell(alloc, first));
+    slots.push_reserved(rack);
+    let basis = Basis { first, key };
+    let Ok((table, mut seat)) = Table::new(alloc, &[0, 0], slots, &basis) else {
+        return Err(Memory);
+    };
+    let mut other = table.shared.split_seat::<Part>(&mut seat);
+    table.shared.load::<SitMutator>(&mut seat, 0);
+    table.shared.load::<SitObserver>(&mut other, 0);
+    let mutator = MutatorEnd {
+        seat,
+        number: 0,
+        clear: true,
+    };
+    let observer = ObserverEnd {
+        seat: other,
+        number: 0,
+        due: false,
+    };
+    Ok((Queue { table }, mutator, observer))
+}
+
+/// Each end learns of the other's events. It takes five steps.
+pub(crate) fn meet_ends<P: Drop, N: Fits<P>, L: Ledger>(
+    queue: &Queue<P, N>,
+    mutator: &mut MutatorEnd<P, N>,
+    observer: &mut ObserverEnd<P, N>,
+    steps: &mut Steps<L>,
+)
+    requires together { (mutator.old.queue ≡ queue.now) × (observer.old.queue ≡ queue.now) }
+    requires due { observer.old.due ≡ false }
+    ensures history { HasHistory mutator.old.first mutator.old.events observer.old.events }
+    ensures mutator { mutator.new ≡ record mutator.old { events = mutator.old.events ++ mutates.Learn (length observer.old.events) ∷ [] } }
+    ensures observer { observer.new ≡ record observer.old { events = observer.old.events ++ observes.Learn (length mutator.old.events) ∷ [] } }
+    ensures steps { steps.new ≡ steps.old + 5 }
+{
+    let shared = &queue.table.shared;
+    steps.tick();
+    let part = shared.split_seat::<Part>(&mut observer.seat);
+    steps.tick();
+    shared.join_seat::<Part>(&mut mutator.seat, part);
+    steps.tick();
+    shared.load::<Meet>(&mut mutator.seat, 0);
+    steps.tick();
+    let part = shared.split_seat::<Part>(&mut mutator.seat);
+    steps.tick();
+    shared.join_seat::<Part>(&mut observer.seat, part);
+}
+
+/// A queue with its two ends, for states of `frames` frames and items that fit by `key`. Nothing is pushed. In the draft the submix alone is active, with the command ColdIdle, and no slot has an item. The one error is want of memory.
+pub fn queue<P: Drop, N: Fits<P>>(
+    alloc: Global,
+    frames: u32,
+    key: N::Key,
+) -> Result<(Queue<P, N>, Mutator<P, N>, Observer<P, N>), Memory>
+    ensures together { IfOk result (λ l. (l.1.past.queue ≡ l.0) × (l.2.past.queue ≡ l.0)) }
+    ensures mutator { IfOk result (λ l. IsNewMutator key (initial frames) l.1) }
+    ensures observer { IfOk result (λ l. IsNewObserver key (initial frames) l.2 × InOrder N.fits l.2) }
+{
+    let first = first_state(frames);
+    let pending = shelves(alloc)?;
+    let returned = shelves(alloc)?;
+    let spare = shelves(alloc)?;
+    let items = shelves(alloc)?;
+    let rack = shelves(alloc)?;
+    let (queue, pushes, polls) = ends_of(alloc, first, key)?;
+    let mutator = Mutator {
+        end: pushes,
+        draft: first,
+        dirty: false,
+        editing: false,
+        edited: false,
+        pending,
+        returned,
+        out: [false; SLOTS],
+        spare,
+    };
+    let observer = Observer {
+        end: polls,
+        current: None,
+        previous: None,
+        items,
+        rack,
+    };
+    Ok((queue, mutator, observer))
+}
+
+/// Each end learns that the other's list so far stands in the history before its own next event. It takes five steps.
+pub fn meet<P: Drop, N: Fits<P>, L: Ledger>(
+    queue: &Queue<P, N>,
+    mutator: &mut Mutator<P, N>,
+    observer: &mut Observer<P, N>,
+    steps: &mut Steps<L>,
+)
+    requires together { (mutator.old.past.queue ≡ queue.now) × (observer.old.past.queue ≡ queue.now) }
+    ensures history { HasHistory mutator.old.past.first mutator.old.past.events observer.old.past.events }
+    ensures mutator { mutator.new ≡ record mutator.old { past = record mutator.old.past { events = mutator.old.past.events ++ mutates.Learn (length observer.old.past.events) ∷ [] } } }
+    ensures observer { observer.new ≡ record observer.old { past = record observer.old.past { events = observer.old.past.events ++ observes.Learn (length mutator.old.past.events) ∷ [] } } }
+    ensures steps { steps.new ≡ steps.old + 5 }
+{
+    meet_ends(queue, &mut mutator.end, &mut observer.end, steps);
+}
