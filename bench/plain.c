@@ -1,0 +1,150 @@
+/* The same work as `render` of the form that can be played so far, in plain C: it reads raw PCM, mixes, and writes raw PCM.
+   plain make DIR          a session of seven stereo tracks of 100,000 frames, 1563 cycles of 64 frames, and its script
+   plain random SEED DIR   a small session drawn from a number, and its script
+   plain mix DIR OUT       mixes the session of DIR into OUT
+   plain kernel ROUNDS     four takes of 64 frames, added up and finished, ROUNDS times; prints a check */
+#include <stdint.h>
+#include <stdio.h>
+#include <stdlib.h>
+#include <string.h>
+
+enum { MOST = 7, UNITY = 0x1000 };
+
+typedef struct { int16_t left, right; } Frame;
+typedef struct { int32_t left, right; } Sum;
+typedef struct { uint32_t count, gains, scale, mono; } Track;
+typedef struct { uint32_t len, cycles, tracks; Track track[MOST]; } Session;
+
+static uint32_t drawn;
+static uint32_t draw(uint32_t below) {
+    drawn = drawn * 1103515245u + 12345u;
+    return (drawn >> 8) % below;
+}
+
+static FILE *in_folder(const char *folder, const char *name, const char *how) {
+    char path[512];
+    snprintf(path, sizeof path, "%s/%s", folder, name);
+    FILE *file = fopen(path, how);
+    if (!file) { perror(path); exit(1); }
+    return file;
+}
+
+static void write_session(const char *folder, const Session *s, uint32_t frames) {
+    FILE *plan = in_folder(folder, "plan.bin", "wb");
+    fwrite(s, sizeof *s, 1, plan);
+    fclose(plan);
+    FILE *script = in_folder(folder, "s.toml", "w");
+    fprintf(script, "version = 1\nframes = %u\nnormal = 1\ncycles = %u\nturns = [", s->len, s->cycles);
+    for (int pass = 0; pass < 2; pass++) {
+        for (uint32_t i = 0; i < s->tracks; i++) fprintf(script, "\"c %u\", ", i);
+        if (pass == 0) fprintf(script, "\"n\", ");
+    }
+    for (uint32_t left = s->cycles; left > 0; left -= left < 16 ? left : 16)
+        fprintf(script, "\"f %u\"%s", left < 16 ? left : 16, left <= 16 ? "]\n" : ", ");
+    for (uint32_t i = 0; i < s->tracks; i++) {
+        const Track *t = &s->track[i];
+        fprintf(script, "[[track]]\nkind = \"fast\"\nframes = 8192\nchannels = %u\nfile = \"t%u.pcm\"\nscale = %u\n", t->mono ? 1 : 2, i, t->scale);
+        fprintf(script, "ops = [\"open\", \"start\", \"gain %u %u\", \"write %u\"]\n", t->gains & 0xffff, t->gains >> 16, t->count);
+        char name[16];
+        snprintf(name, sizeof name, "t%u.pcm", i);
+        FILE *pcm = in_folder(folder, name, "wb");
+        for (uint32_t j = 0; j < frames * (t->mono ? 1 : 2); j++) {
+            int16_t sample = (int16_t)(draw(65536) - 32768);
+            fwrite(&sample, 2, 1, pcm);
+        }
+        fclose(pcm);
+    }
+    fclose(script);
+}
+
+static void make(const char *folder) {
+    Session s = { 64, 1563, MOST, {{0}} };
+    for (int i = 0; i < MOST; i++) s.track[i] = (Track){ 8192, 0x08000800u + 0x00100020u * i, UNITY, 0 };
+    drawn = 1;
+    write_session(folder, &s, 100000);
+}
+
+static void make_random(uint32_t seed, const char *folder) {
+    drawn = seed * 2654435761u + 1;
+    Session s = { 1 + draw(40), 1 + draw(20), 1 + draw(MOST), {{0}} };
+    for (uint32_t i = 0; i < s.tracks; i++)
+        s.track[i] = (Track){ 1 + draw(300), draw(65536) | draw(65536) << 16, draw(UNITY + 1), draw(2) };
+    write_session(folder, &s, 300 + draw(3));
+}
+
+static uint32_t used(uint32_t half, uint32_t scale) { return (half < UNITY ? half : UNITY) * scale / 4096; }
+static int16_t clamp(int32_t x) { return x < -32768 ? -32768 : x > 32767 ? 32767 : x; }
+
+static void accumulate(const Frame *frames, uint32_t n, uint32_t mono, int32_t left, int32_t right, Sum *sums) {
+    if (mono)
+        for (uint32_t i = 0; i < n; i++) { sums[i].left += frames[i].left * left; sums[i].right += frames[i].left * right; }
+    else
+        for (uint32_t i = 0; i < n; i++) { sums[i].left += frames[i].left * left; sums[i].right += frames[i].right * right; }
+}
+
+static void finish(const Sum *sums, uint32_t n, Frame *out) {
+    for (uint32_t i = 0; i < n; i++) { out[i].left = clamp(sums[i].left >> 12); out[i].right = clamp(sums[i].right >> 12); }
+}
+
+static void mix(const char *folder, const char *target) {
+    Session s;
+    FILE *plan = in_folder(folder, "plan.bin", "rb");
+    if (fread(&s, sizeof s, 1, plan) != 1) exit(1);
+    fclose(plan);
+    Frame *frames[MOST];
+    for (uint32_t i = 0; i < s.tracks; i++) {
+        char name[16];
+        snprintf(name, sizeof name, "t%u.pcm", i);
+        FILE *pcm = in_folder(folder, name, "rb");
+        fseek(pcm, 0, SEEK_END);
+        size_t bytes = ftell(pcm);
+        rewind(pcm);
+        int16_t *samples = malloc(bytes);
+        if (fread(samples, 1, bytes, pcm) != bytes) exit(1);
+        fclose(pcm);
+        if (s.track[i].mono) {
+            frames[i] = malloc(bytes * 2);
+            for (size_t j = 0; j < bytes / 2; j++) frames[i][j] = (Frame){ samples[j], samples[j] };
+            free(samples);
+        } else
+            frames[i] = (Frame *)samples;
+    }
+    FILE *out = fopen(target, "wb");
+    if (!out) { perror(target); exit(1); }
+    Sum *sums = malloc(s.len * sizeof *sums);
+    Frame *buffer = malloc(s.len * sizeof *buffer);
+    for (uint32_t cycle = 0; cycle < s.cycles; cycle++) {
+        memset(sums, 0, s.len * sizeof *sums);
+        for (uint32_t i = 0; i < s.tracks; i++) {
+            const Track *t = &s.track[i];
+            uint32_t from = cycle * s.len, n = from >= t->count ? 0 : t->count - from < s.len ? t->count - from : s.len;
+            accumulate(frames[i] + (n ? from : 0), n, t->mono, used(t->gains & 0xffff, t->scale), used(t->gains >> 16, t->scale), sums);
+        }
+        finish(sums, s.len, buffer);
+        fwrite(buffer, sizeof *buffer, s.len, out);
+    }
+    fclose(out);
+}
+
+static void kernel(uint32_t rounds) {
+    static Frame frames[64], out[64];
+    static Sum sums[64];
+    uint32_t check = 0;
+    for (int i = 0; i < 64; i++) frames[i] = (Frame){ 1234 + i, -2345 - i };
+    for (uint32_t round = 0; round < rounds; round++) {
+        memset(sums, 0, sizeof sums);
+        for (int take = 0; take < 4; take++) accumulate(frames, 64, 0, used(round & 0xffff, UNITY), used(round >> 16, UNITY), sums);
+        finish(sums, 64, out);
+        check ^= (uint16_t)out[round % 64].left;
+    }
+    printf("%u\n", check);
+}
+
+int main(int words, char **word) {
+    if (words == 3 && !strcmp(word[1], "make")) make(word[2]);
+    else if (words == 4 && !strcmp(word[1], "random")) make_random(strtoul(word[2], 0, 10), word[3]);
+    else if (words == 4 && !strcmp(word[1], "mix")) mix(word[2], word[3]);
+    else if (words == 3 && !strcmp(word[1], "kernel")) kernel(strtoul(word[2], 0, 10));
+    else return 2;
+    return 0;
+}
