@@ -1,11 +1,11 @@
 -- What the edits of a draft do to it.
-use Rattle.std.specs.Prelude.{ℕ, ◌+◌, ◌-◌, ◌^◌, ◌==◌, ◌&&◌, not, if◌then◌else◌, Bool, true, false, ◌∷◌, replicate, slice_set, bit_and, bit_or}
+use Rattle.std.specs.Prelude.{ℕ, ◌+◌, ◌-◌, ◌^◌, ◌==◌, ◌&&◌, not, if◌then◌else◌, Bool, false, ◌∷◌, replicate, slice_set, bit_and, bit_or}
 use Rattle.af_base.specs.declared.state.FastState.{FastState}
 use Rattle.af_base.specs.declared.state.FastTrack.{FastTrack}
 use Rattle.af_base.specs.declared.state.Command.{Command}
 use Rattle.af_base.specs.declared.state.Command.TheVariants.{ColdIdle}
 use Rattle.af_base.specs.Command.{code_of}
-use Rattle.af_model.specs.StateQueue.{slots, no_track, slot_of}
+use Rattle.af_model.specs.StateQueue.{no_track, slot_of}
 
 -- the state before any edit: the submix alone is active, at the scale 1
 abbrev pub initial : ℕ → FastState

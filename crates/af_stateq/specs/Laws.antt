@@ -7,7 +7,7 @@ use Rattle.af_model.specs.declared.states.MutatorEvent.TheVariants as mutator
 use Rattle.af_model.specs.declared.states.ObserverEvent.{ObserverEvent}
 use Rattle.af_model.specs.declared.states.ObserverEvent.TheVariants.{SawNext, Ack}
 use Rattle.af_model.specs.declared.states.ObserverEvent.TheVariants as observer
-use Rattle.af_model.specs.Order.{Event, one, two, Legal, HasOrder}
+use Rattle.af_model.specs.Order.{Event, one, two, Legal}
 use Rattle.af_model.specs.StateQueue.{slots, carries, HasHistory}
 use Rattle.af_stateq.specs.Mutates.{at}
 
