@@ -5,12 +5,12 @@ use Rattle.af_base.specs.declared.state.FastTrack.{FastTrack}
 use Rattle.af_base.specs.declared.state.Command.{Command}
 use Rattle.af_base.specs.declared.state.Command.TheVariants.{ColdIdle}
 use Rattle.af_base.specs.Command.{code_of}
-use Rattle.af_model.specs.StateQueue.{no_track, slot_of}
+use Rattle.af_model.specs.StateQueue.{slots, no_track, slot_of}
 
 -- the state before any edit: the submix alone is active, at the scale 1
 abbrev pub initial : ℕ → FastState
 initial frames =
-    record { slots = record { generation = 0; track = 0; mono = false; scale = 4096 } ∷ replicate 7 no_track; mask = 1; tracks_gen = 0; frames = frames; command = ColdIdle; cold_gen = 0 }
+    record { slots = record { generation = 0; track = 0; mono = false; scale = 4096 } ∷ replicate (slots - 1) no_track; mask = 1; tracks_gen = 0; frames = frames; command = ColdIdle; cold_gen = 0 }
 
 -- the slot with a new track: its generation rises
 abbrev pub renewed : Bool → ℕ → ℕ → FastTrack → FastTrack

@@ -19,6 +19,7 @@ mod threads;
 mod view;
 mod waits;
 
+pub use af_base::Push;
 pub use laws::{
     a_look_after_a_meeting_sees_the_last_push, each_item_has_one_holder, polled_are_pushed,
 };
