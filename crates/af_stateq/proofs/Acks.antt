@@ -1,5 +1,5 @@
 -- What the mutator has after a look at the acknowledgement.
-use Rattle.std.proofs.Common.{◌≡◌, ◌≢◌, ℕ, zero, suc, ◌+◌, ◌<◌, ◌≤◌, ◌==◌, ◌&&◌, not, if◌then◌else◌, true, false, true≢false, Bool, List, [], ◌∷◌, length, Option, Some, None, is_some, replicate, refl, ap, sym, ◌∙◌, subst, arith, eq-eqb, ne_eqb}
+use Rattle.std.proofs.Common.{◌≡◌, ◌≢◌, ℕ, zero, suc, ◌<◌, ◌==◌, ◌&&◌, not, if◌then◌else◌, true, false, Bool, List, [], ◌∷◌, length, Option, None, is_some, replicate, refl, ap, sym, ◌∙◌, subst, arith, eq-eqb, ne_eqb}
 use Rattle.std.proofs.lemmas.List.{get_or-replicate}
 use Rattle.af_model.specs.StateQueue.{slots, has}
 use Rattle.af_stateq.specs.Shelved.{word, nothing}

@@ -1,5 +1,5 @@
 -- The item of a slot has one holder at each moment.
-use Rattle.std.proofs.Common.{◌≡◌, ◌≢◌, ℕ, ◌+◌, ◌<◌, ◌≤◌, ◌==◌, ◌&&◌, not, if◌then◌else◌, Bool, true, false, true≢false, List, [], ◌∷◌, Option, Some, None, is_some, refl, ap, sym, ◌∙◌, subst, arith, eq-eqb, ne_eqb, eqb-true}
+use Rattle.std.proofs.Common.{◌≡◌, ◌≢◌, ℕ, ◌+◌, ◌<◌, ◌≤◌, ◌==◌, ◌&&◌, not, if◌then◌else◌, Bool, true, false, true≢false, List, [], ◌∷◌, Option, Some, None, is_some, refl, ap, sym, ◌∙◌, subst, arith, eq-eqb, ne_eqb}
 use mathlib.Core.Logic.{dite}
 use native.Mathlib.Decide.{ℕ_discrete}
 use Rattle.af_base.specs.declared.state.FastState.{FastState}
@@ -9,8 +9,8 @@ use Rattle.af_model.specs.declared.states.MutatorEvent.TheVariants as mutator
 use Rattle.af_model.specs.declared.states.ObserverEvent.{ObserverEvent}
 use Rattle.af_model.specs.declared.states.ObserverEvent.TheVariants.{SawNext, Ack}
 use Rattle.af_model.specs.declared.states.ObserverEvent.TheVariants as observer
-use Rattle.af_model.specs.Order.{Event, one, two, Legal, HasOrder}
-use Rattle.af_model.specs.StateQueue.{slots, carries, QueuePoint, start, brought, legal, next, HasHistory}
+use Rattle.af_model.specs.Order.{Event, one, two, Legal}
+use Rattle.af_model.specs.StateQueue.{slots, carries, QueuePoint, start, legal, next}
 use Rattle.af_stateq.specs.Mutates.{at}
 use Rattle.af_stateq.specs.Laws.{Holder, in_hand, going, held, coming, given_to, may_pass, passed, OneHolder}
 use Rattle.af_stateq.proofs.Slots.{not_true, not_both, both_ways}
@@ -131,63 +131,63 @@ module _ {P : Type 0} where
         } l.1)
     ring p (one (SawAck a items) ∷ es) t l = both_ways p.clear
         (λ c.
-          let q = next p (one (SawAck a items)) in
-          let same : p.acked ≡ p.pushed = t.cleared c in
-          let none : at items i ≡ None = ap (λ (z : List (Option P)). at z i) (l.0.1 ∙ ap (λ (b : Bool). if not b && (p.acked == p.pushed) then p.given else []) c) in
-          let c' : q.clear ≡ true = eq-eqb a p.pushed (l.0.0 ∙ same) in
-          moves p (one (SawAck a items)) es
-          (λ y e. absurd (true≢false (sym (ap is_some (sym none ∙ e)))))
-          (stays (λ _. in_hand) (at items i) (where_is p) (ap is_some none) ∙ where_at p true true (p.due == 0) (eq-eqb p.acked p.pushed same) c refl ∙ sym (where_at q true true (p.due == 0) (eq-eqb p.acked p.pushed same) c' refl))
-          (ring q es record { low = t.low; high = t.high; due = t.due; cleared = λ _. same; out = t.out; back = λ _ f. absurd (not_both q.clear c' f) } l.1))
+        let q = next p (one (SawAck a items)) in
+        let same : p.acked ≡ p.pushed = t.cleared c in
+        let none : at items i ≡ None = ap (λ (z : List (Option P)). at z i) (l.0.1 ∙ ap (λ (b : Bool). if not b && (p.acked == p.pushed) then p.given else []) c) in
+        let c' : q.clear ≡ true = eq-eqb a p.pushed (l.0.0 ∙ same) in
+        moves p (one (SawAck a items)) es
+        (λ y e. absurd (true≢false (sym (ap is_some (sym none ∙ e)))))
+        (stays (λ _. in_hand) (at items i) (where_is p) (ap is_some none) ∙ where_at p true true (p.due == 0) (eq-eqb p.acked p.pushed same) c refl ∙ sym (where_at q true true (p.due == 0) (eq-eqb p.acked p.pushed same) c' refl))
+        (ring q es record { low = t.low; high = t.high; due = t.due; cleared = λ _. same; out = t.out; back = λ _ f. absurd (not_both q.clear c' f) } l.1))
         (λ c. dite (ℕ_discrete p.acked p.pushed)
-          (λ same.
-            let q = next p (one (SawAck a items)) in
-            let test : (p.acked == p.pushed) ≡ true = eq-eqb p.acked p.pushed same in
-            let all : at items i ≡ at p.given i = ap (λ (z : List (Option P)). at z i) (l.0.1 ∙ ap (λ (b : Bool). if not b && (p.acked == p.pushed) then p.given else []) c ∙ ap (λ (b : Bool). if b then p.given else []) test) in
-            let c' : q.clear ≡ true = eq-eqb a p.pushed (l.0.0 ∙ same) in
-            let has = t.back same c in
-            let now = where_at p true false (p.due == 0) test c refl in
-            moves p (one (SawAck a items)) es
-            (λ y e. now ∙ back_may (carries p.last i) (carries p.before i) (p.due == 0) (at p.items i) (at p.given i) has y (sym all ∙ e))
-            ((λ j. given_to (λ _. in_hand) (all j) (now j)) ∙ back_goes (carries p.last i) (carries p.before i) (p.due == 0) (at p.items i) (at p.given i) has ∙ sym (where_at q true true (p.due == 0) test c' refl))
-            (ring q es record { low = t.low; high = t.high; due = t.due; cleared = λ _. same; out = t.out; back = λ _ f. absurd (not_both q.clear c' f) } l.1))
-          (λ ne.
-            let q = next p (one (SawAck a items)) in
-            let test : (p.acked == p.pushed) ≡ false = ne_eqb p.acked p.pushed ne in
-            let none : at items i ≡ None = ap (λ (z : List (Option P)). at z i) (l.0.1 ∙ ap (λ (b : Bool). if not b && (p.acked == p.pushed) then p.given else []) c ∙ ap (λ (b : Bool). if b then p.given else []) test) in
-            let c' : q.clear ≡ false = ne_eqb a p.pushed (λ e. ne (sym l.0.0 ∙ e)) in
-            moves p (one (SawAck a items)) es
-            (λ y e. absurd (true≢false (sym (ap is_some (sym none ∙ e)))))
-            (stays (λ _. in_hand) (at items i) (where_is p) (ap is_some none) ∙ where_at p false false (p.due == 0) test c refl ∙ sym (where_at q false false (p.due == 0) test c' refl))
-            (ring q es record { low = t.low; high = t.high; due = t.due; cleared = λ f. absurd (not_both q.clear f c'); out = t.out; back = λ e. absurd (ne e) } l.1)))
+        (λ same.
+        let q = next p (one (SawAck a items)) in
+        let test : (p.acked == p.pushed) ≡ true = eq-eqb p.acked p.pushed same in
+        let all : at items i ≡ at p.given i = ap (λ (z : List (Option P)). at z i) (l.0.1 ∙ ap (λ (b : Bool). if not b && (p.acked == p.pushed) then p.given else []) c ∙ ap (λ (b : Bool). if b then p.given else []) test) in
+        let c' : q.clear ≡ true = eq-eqb a p.pushed (l.0.0 ∙ same) in
+        let has = t.back same c in
+        let now = where_at p true false (p.due == 0) test c refl in
+        moves p (one (SawAck a items)) es
+        (λ y e. now ∙ back_may (carries p.last i) (carries p.before i) (p.due == 0) (at p.items i) (at p.given i) has y (sym all ∙ e))
+        ((λ j. given_to (λ _. in_hand) (all j) (now j)) ∙ back_goes (carries p.last i) (carries p.before i) (p.due == 0) (at p.items i) (at p.given i) has ∙ sym (where_at q true true (p.due == 0) test c' refl))
+        (ring q es record { low = t.low; high = t.high; due = t.due; cleared = λ _. same; out = t.out; back = λ _ f. absurd (not_both q.clear c' f) } l.1))
+        (λ ne.
+        let q = next p (one (SawAck a items)) in
+        let test : (p.acked == p.pushed) ≡ false = ne_eqb p.acked p.pushed ne in
+        let none : at items i ≡ None = ap (λ (z : List (Option P)). at z i) (l.0.1 ∙ ap (λ (b : Bool). if not b && (p.acked == p.pushed) then p.given else []) c ∙ ap (λ (b : Bool). if b then p.given else []) test) in
+        let c' : q.clear ≡ false = ne_eqb a p.pushed (λ e. ne (sym l.0.0 ∙ e)) in
+        moves p (one (SawAck a items)) es
+        (λ y e. absurd (true≢false (sym (ap is_some (sym none ∙ e)))))
+        (stays (λ _. in_hand) (at items i) (where_is p) (ap is_some none) ∙ where_at p false false (p.due == 0) test c refl ∙ sym (where_at q false false (p.due == 0) test c' refl))
+        (ring q es record { low = t.low; high = t.high; due = t.due; cleared = λ f. absurd (not_both q.clear f c'); out = t.out; back = λ e. absurd (ne e) } l.1)))
     ring p (one (mutator.Learn c) ∷ es) t l = let q = next p (one (mutator.Learn c)) in
         moves p (one (mutator.Learn c)) es tt (where_at p (p.acked == p.pushed) p.clear (p.due == 0) refl refl refl ∙ sym (where_at q (p.acked == p.pushed) p.clear (p.due == 0) refl refl refl))
         (ring q es record { low = t.low; high = t.high; due = t.due; cleared = t.cleared; out = t.out; back = t.back } l.1)
     ring p (two (SawNext k x items) ∷ es) t l = dite (ℕ_discrete p.acked p.pushed)
         (λ same.
-          let q = next p (two (SawNext k x items)) in
-          let hit : (k == p.acked) ≡ true = eq-eqb k p.acked (l.0.0 ∙ sym same) in
-          let none : at items i ≡ None = ap (λ (z : List (Option P)). at z i) (l.0.2 ∙ ap (λ (b : Bool). if b then [] else p.items) hit) in
-          let due_is : q.due ≡ 0 = ap (λ (b : Bool). if b then 0 else k) hit in
-          let test : (p.acked == p.pushed) ≡ true = eq-eqb p.acked p.pushed same in
-          moves p (two (SawNext k x items)) es
-          (λ y e. absurd (true≢false (sym (ap is_some (sym none ∙ e)))))
-          (stays (λ _. held) (at items i) (where_is p) (ap is_some none) ∙ where_at p true p.clear true test refl (eq-eqb p.due 0 l.0.3) ∙ sym (where_at q true p.clear true test refl (eq-eqb q.due 0 due_is)))
-          (ring q es record { low = t.low; high = t.high; due = λ d. absurd (d due_is); cleared = t.cleared; out = t.out; back = t.back } l.1))
+        let q = next p (two (SawNext k x items)) in
+        let hit : (k == p.acked) ≡ true = eq-eqb k p.acked (l.0.0 ∙ sym same) in
+        let none : at items i ≡ None = ap (λ (z : List (Option P)). at z i) (l.0.2 ∙ ap (λ (b : Bool). if b then [] else p.items) hit) in
+        let due_is : q.due ≡ 0 = ap (λ (b : Bool). if b then 0 else k) hit in
+        let test : (p.acked == p.pushed) ≡ true = eq-eqb p.acked p.pushed same in
+        moves p (two (SawNext k x items)) es
+        (λ y e. absurd (true≢false (sym (ap is_some (sym none ∙ e)))))
+        (stays (λ _. held) (at items i) (where_is p) (ap is_some none) ∙ where_at p true p.clear true test refl (eq-eqb p.due 0 l.0.3) ∙ sym (where_at q true p.clear true test refl (eq-eqb q.due 0 due_is)))
+        (ring q es record { low = t.low; high = t.high; due = λ d. absurd (d due_is); cleared = t.cleared; out = t.out; back = t.back } l.1))
         (λ ne.
-          let q = next p (two (SawNext k x items)) in
-          let miss : (k == p.acked) ≡ false = ne_eqb k p.acked (λ e. ne (sym e ∙ l.0.0)) in
-          let all : at items i ≡ at p.items i = ap (λ (z : List (Option P)). at z i) (l.0.2 ∙ ap (λ (b : Bool). if b then [] else p.items) miss) in
-          let due_is : q.due ≡ k = ap (λ (b : Bool). if b then 0 else k) miss in
-          let next_one : p.pushed ≡ p.acked + 1 = (let a = t.low in let b = t.high in omega arith) in
-          let test : (p.acked == p.pushed) ≡ false = ne_eqb p.acked p.pushed ne in
-          let has = t.out ne in
-          let now = where_at p false p.clear true test refl (eq-eqb p.due 0 l.0.3) in
-          moves p (two (SawNext k x items)) es
-          (λ y e. now ∙ take_may (carries p.last i) (carries p.before i) p.clear (at p.items i) (at p.given i) has y (sym all ∙ e))
-          ((λ j. given_to (λ _. held) (all j) (now j)) ∙ take_goes (carries p.last i) (carries p.before i) p.clear (at p.items i) (at p.given i) has
-          ∙ sym (where_at q false p.clear false test refl (ne_eqb q.due 0 (λ e. let a = l.0.0 in let b = next_one in omega arith))))
-          (ring q es record { low = t.low; high = t.high; due = λ d. (due_is ∙ l.0.0, next_one); cleared = t.cleared; out = t.out; back = t.back } l.1))
+        let q = next p (two (SawNext k x items)) in
+        let miss : (k == p.acked) ≡ false = ne_eqb k p.acked (λ e. ne (sym e ∙ l.0.0)) in
+        let all : at items i ≡ at p.items i = ap (λ (z : List (Option P)). at z i) (l.0.2 ∙ ap (λ (b : Bool). if b then [] else p.items) miss) in
+        let due_is : q.due ≡ k = ap (λ (b : Bool). if b then 0 else k) miss in
+        let next_one : p.pushed ≡ p.acked + 1 = (let a = t.low in let b = t.high in omega arith) in
+        let test : (p.acked == p.pushed) ≡ false = ne_eqb p.acked p.pushed ne in
+        let has = t.out ne in
+        let now = where_at p false p.clear true test refl (eq-eqb p.due 0 l.0.3) in
+        moves p (two (SawNext k x items)) es
+        (λ y e. now ∙ take_may (carries p.last i) (carries p.before i) p.clear (at p.items i) (at p.given i) has y (sym all ∙ e))
+        ((λ j. given_to (λ _. held) (all j) (now j)) ∙ take_goes (carries p.last i) (carries p.before i) p.clear (at p.items i) (at p.given i) has
+        ∙ sym (where_at q false p.clear false test refl (ne_eqb q.due 0 (λ e. let a = l.0.0 in let b = next_one in omega arith))))
+        (ring q es record { low = t.low; high = t.high; due = λ d. (due_is ∙ l.0.0, next_one); cleared = t.cleared; out = t.out; back = t.back } l.1))
     ring p (two (Ack k items) ∷ es) t l =
         let q = next p (two (Ack k items)) in
         let u = t.due (λ e. l.0.1 (l.0.0 ∙ e)) in

@@ -1,5 +1,5 @@
 -- The states polled are a prefix of the states pushed, and at most one is missing.
-use Rattle.std.proofs.Common.{◌≡◌, ◌≢◌, ℕ, ◌+◌, ◌≤◌, ◌==◌, if◌then◌else◌, Bool, true, false, true≢false, List, [], ◌∷◌, ◌++◌, length, Option, Some, None, is_some, unwrap_or, refl, ap, sym, ◌∙◌, subst, arith, eq-eqb, ne_eqb, eqb-true}
+use Rattle.std.proofs.Common.{◌≡◌, ◌≢◌, ◌+◌, ◌≤◌, ◌==◌, if◌then◌else◌, Bool, true≢false, List, [], ◌∷◌, ◌++◌, length, Some, None, is_some, unwrap_or, refl, ap, sym, ◌∙◌, arith, eq-eqb, ne_eqb}
 use mathlib.Core.Logic.{dite}
 use native.Mathlib.Decide.{ℕ_discrete}
 use Rattle.af_base.specs.declared.state.FastState.{FastState}
@@ -9,7 +9,7 @@ use Rattle.af_model.specs.declared.states.MutatorEvent.TheVariants as mutator
 use Rattle.af_model.specs.declared.states.ObserverEvent.{ObserverEvent}
 use Rattle.af_model.specs.declared.states.ObserverEvent.TheVariants.{SawNext, Ack}
 use Rattle.af_model.specs.declared.states.ObserverEvent.TheVariants as observer
-use Rattle.af_model.specs.Order.{Event, one, two, ones, twos, Legal, after, HasOrder}
+use Rattle.af_model.specs.Order.{Event, one, two, ones, twos, Legal, after}
 use Rattle.af_model.specs.StateQueue.{QueuePoint, start, legal, next, HasHistory}
 use Rattle.af_stateq.specs.Laws.{pushed_states, polled_states, PolledInOrder}
 

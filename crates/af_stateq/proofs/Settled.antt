@@ -1,10 +1,10 @@
 -- After a poll the observer has the item of each slot that is on, and gives back those of slots that went off.
-use Rattle.std.proofs.Common.{◌≡◌, ℕ, ◌<◌, ◌&&◌, ◌||◌, not, if◌then◌else◌, Bool, true, false, true≢false, List, length, Option, Some, None, is_some, refl, ap, sym, ◌∙◌, subst}
+use Rattle.std.proofs.Common.{◌≡◌, ℕ, ◌<◌, ◌&&◌, ◌||◌, not, if◌then◌else◌, Bool, true, false, List, length, Option, Some, is_some, refl, ap, sym, ◌∙◌, subst}
 use Rattle.af_base.specs.declared.state.FastState.{FastState}
 use Rattle.af_base.specs.declared.state.FastTrack.{FastTrack}
-use Rattle.af_model.specs.StateQueue.{slots, carries, slot_of, has, AreOf, AllFit, FitAt, IsState}
+use Rattle.af_model.specs.StateQueue.{slots, carries, slot_of, has, AreOf, FitAt, IsState}
 use Rattle.af_stateq.specs.Mutates.{at}
-use Rattle.af_stateq.specs.Observes.{changes, IsSettled}
+use Rattle.af_stateq.specs.Observes.{IsSettled}
 
 and_true : (b : Bool) → (b && true) ≡ b
 and_true true = refl

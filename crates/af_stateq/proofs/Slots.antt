@@ -1,5 +1,5 @@
 -- How the facts of one slot fare where it is attached, detached, taken back, pushed, or its item comes back.
-use Rattle.std.proofs.Common.{◌≡◌, ℕ, ◌&&◌, not, if◌then◌else◌, Bool, true, false, true≢false, Option, Some, None, is_some, refl, ap, sym, ◌∙◌, subst}
+use Rattle.std.proofs.Common.{◌≡◌, ◌&&◌, not, if◌then◌else◌, Bool, true, false, true≢false, Option, Some, None, is_some, refl, ap, sym, ◌∙◌, subst}
 use Rattle.af_base.specs.declared.state.FastTrack.{FastTrack}
 use Rattle.af_stateq.specs.Mutates.{InSlot}
 

@@ -1,16 +1,16 @@
 -- What holds of the first state, of a new mutator and of a new observer.
-use Rattle.std.proofs.Common.{◌≡◌, ℕ, zero, suc, ◌<◌, ◌≤◌, ◌==◌, ◌&&◌, not, true, false, true≢false, Bool, List, length, Option, Some, None, is_some, replicate, refl, ap, sym, ◌∙◌, subst, arith, ne_eqb}
+use Rattle.std.proofs.Common.{◌≡◌, ℕ, zero, suc, ◌-◌, ◌<◌, ◌≤◌, ◌==◌, ◌&&◌, not, true, false, true≢false, Bool, Option, Some, None, is_some, replicate, refl, ap, sym, ◌∙◌, subst, arith, ne_eqb}
 use Rattle.std.specs.Int.{bit_at}
 use Rattle.std.proofs.lemmas.List.{get_or-replicate, length-replicate}
 use Rattle.std.proofs.lemmas.Nat.Bits.{bit_at-suc, bit_at-zero}
 use Rattle.af_base.specs.declared.state.FastState.{FastState}
 use Rattle.af_base.specs.declared.state.FastTrack.{FastTrack}
-use Rattle.af_model.specs.StateQueue.{slots, no_track, slot_of, carries, has, IsState}
+use Rattle.af_model.specs.StateQueue.{slots, no_track, slot_of, carries, IsState}
 use Rattle.af_stateq.specs.Shelved.{nothing}
 use Rattle.af_stateq.specs.Draft.{initial}
 use Rattle.af_stateq.specs.Ends.{Pushes, Polls}
 use Rattle.af_stateq.specs.Mutates.{Mutates, at, InSlot, InDraft}
-use Rattle.af_stateq.specs.Observes.{Observes, InOrder}
+use Rattle.af_stateq.specs.Observes.{InOrder}
 
 module _ (frames : ℕ) where
   pub initial_none : (i : ℕ) → carries (initial frames) i ≡ false
@@ -19,7 +19,7 @@ module _ (frames : ℕ) where
 
   scaled : (i : ℕ) → i < slots → (slot_of (initial frames) i).scale ≤ 4096
   scaled zero lt = omega arith
-  scaled (suc i) lt = let e : (slot_of (initial frames) (suc i)).scale ≡ 0 = ap (λ (t : FastTrack). t.scale) (get_or-replicate 7 i no_track no_track (omega arith)) in omega arith
+  scaled (suc i) lt = let e : (slot_of (initial frames) (suc i)).scale ≡ 0 = ap (λ (t : FastTrack). t.scale) (get_or-replicate (slots - 1) i no_track no_track (omega arith)) in omega arith
 
   pub initial_state : IsState (initial frames)
   initial_state = record { whole = refl; submix = refl; scaled = scaled }

@@ -1,5 +1,5 @@
 -- What the edits of a draft do to it.
-use Rattle.std.specs.Prelude.{ℕ, ◌+◌, ◌-◌, ◌^◌, ◌==◌, ◌&&◌, not, if◌then◌else◌, Bool, true, false, ◌∷◌, replicate, slice_set, bit_and, bit_or}
+use Rattle.std.specs.Prelude.{ℕ, ◌+◌, ◌-◌, ◌^◌, ◌==◌, ◌&&◌, not, if◌then◌else◌, Bool, false, ◌∷◌, replicate, slice_set, bit_and, bit_or}
 use Rattle.af_base.specs.declared.state.FastState.{FastState}
 use Rattle.af_base.specs.declared.state.FastTrack.{FastTrack}
 use Rattle.af_base.specs.declared.state.Command.{Command}
@@ -10,7 +10,7 @@ use Rattle.af_model.specs.StateQueue.{slots, no_track, slot_of}
 -- the state before any edit: the submix alone is active, at the scale 1
 abbrev pub initial : ℕ → FastState
 initial frames =
-    record { slots = record { generation = 0; track = 0; mono = false; scale = 4096 } ∷ replicate 7 no_track; mask = 1; tracks_gen = 0; frames = frames; command = ColdIdle; cold_gen = 0 }
+    record { slots = record { generation = 0; track = 0; mono = false; scale = 4096 } ∷ replicate (slots - 1) no_track; mask = 1; tracks_gen = 0; frames = frames; command = ColdIdle; cold_gen = 0 }
 
 -- the slot with a new track: its generation rises
 abbrev pub renewed : Bool → ℕ → ℕ → FastTrack → FastTrack

@@ -1,5 +1,5 @@
 -- What a history of a state queue says of the states, and of the item of one slot.
-use Rattle.std.specs.Prelude.{◌≡◌, ℕ, ◌≤◌, ◌<◌, false, List, [], ◌∷◌, ◌++◌, length, Option, Some, None}
+use Rattle.std.specs.Prelude.{◌≡◌, ℕ, suc, ◌≤◌, ◌<◌, false, List, [], ◌∷◌, ◌++◌, length, Option, Some, None, IfSome}
 use Rattle.af_base.specs.declared.state.FastState.{FastState}
 use Rattle.af_model.specs.declared.states.MutatorEvent.{MutatorEvent}
 use Rattle.af_model.specs.declared.states.MutatorEvent.TheVariants.{Push, SawAck}
@@ -7,7 +7,7 @@ use Rattle.af_model.specs.declared.states.MutatorEvent.TheVariants as mutator
 use Rattle.af_model.specs.declared.states.ObserverEvent.{ObserverEvent}
 use Rattle.af_model.specs.declared.states.ObserverEvent.TheVariants.{SawNext, Ack}
 use Rattle.af_model.specs.declared.states.ObserverEvent.TheVariants as observer
-use Rattle.af_model.specs.Order.{Event, one, two, Legal, HasOrder}
+use Rattle.af_model.specs.Order.{Event, one, two, Legal}
 use Rattle.af_model.specs.StateQueue.{slots, carries, HasHistory}
 use Rattle.af_stateq.specs.Mutates.{at}
 
@@ -26,6 +26,33 @@ module _ {P : Type 0} where
   polled_states y (SawNext k None items ∷ es) = polled_states y es
   polled_states y (Ack k items ∷ es) = y ∷ polled_states y es
   polled_states y (observer.Learn c ∷ es) = polled_states y es
+
+  -- the number of the last state pushed, n where none was
+  abbrev pub last_number : ℕ → List (MutatorEvent P) → ℕ
+  last_number n [] = n
+  last_number n (Push k x items ∷ ms) = last_number k ms
+  last_number n (SawAck a items ∷ ms) = last_number n ms
+  last_number n (mutator.Learn c ∷ ms) = last_number n ms
+
+  -- that state, y where none was
+  abbrev pub last_state : FastState → List (MutatorEvent P) → FastState
+  last_state y [] = y
+  last_state y (Push k x items ∷ ms) = last_state x ms
+  last_state y (SawAck a items ∷ ms) = last_state y ms
+  last_state y (mutator.Learn c ∷ ms) = last_state y ms
+
+  -- how many states were pushed
+  abbrev pub pushes_of : List (MutatorEvent P) → ℕ
+  pushes_of [] = 0
+  pushes_of (Push k x items ∷ ms) = suc (pushes_of ms)
+  pushes_of (SawAck a items ∷ ms) = pushes_of ms
+  pushes_of (mutator.Learn c ∷ ms) = pushes_of ms
+
+  -- Where the observer learnt of the events `told`, and the mutator pushed nothing after them, the next look finds the number of the last push, and shows that state where it shows one
+  abbrev pub SeesTheLast : FastState → List (MutatorEvent P) → Type 0
+  SeesTheLast first ms =
+      (told more : List (MutatorEvent P)) (os rest : List (ObserverEvent P)) (c n : ℕ) (x : Option FastState) (items : List (Option P)) → HasHistory first ms ((os ++ observer.Learn c ∷ []) ++ SawNext n x items ∷ rest) → ms ≡ told ++ more → length told ≤ c → pushes_of more ≡ 0
+      → (n ≡ last_number 0 ms) × IfSome x (λ s. s ≡ last_state first ms)
 
   -- the states polled are a prefix of the states pushed, and at most one is missing
   abbrev pub PolledInOrder : FastState → List (MutatorEvent P) → List (ObserverEvent P) → Type 0

@@ -1,5 +1,5 @@
 -- What an observer ends as, once a `&mut` to an item of it has ended.
-use Rattle.std.specs.Prelude.{ℕ, List, Option, Some, slice_set}
+use Rattle.std.specs.Prelude.{ℕ, Option, Some, slice_set}
 use Rattle.std.specs.Borrow.{LendsIf, Fml, RattleType, MutBor}
 use Rattle.af_stateq.specs.declared.rule.Fits.{Ghosts}
 use Rattle.af_stateq.specs.Observes.{Observes}

@@ -1,5 +1,5 @@
 -- What contracts see of the mutator, and what always holds of it.
-use Rattle.std.specs.Prelude.{◌≡◌, ℕ, ◌<◌, ◌≤◌, ◌&&◌, not, if◌then◌else◌, Bool, true, false, List, [], length, Option, Some, None, is_some, slice_index_or, replicate}
+use Rattle.std.specs.Prelude.{◌≡◌, ℕ, ◌<◌, ◌&&◌, not, if◌then◌else◌, Bool, true, false, List, [], length, Option, Some, None, is_some, slice_index_or, replicate}
 use Rattle.af_base.specs.declared.state.FastState.{FastState}
 use Rattle.af_base.specs.declared.state.FastTrack.{FastTrack}
 use Rattle.af_model.specs.StateQueue.{slots, slot_of, carries, IsState, FitAt}

@@ -4,7 +4,7 @@ ghost use Rattle.af_base.specs.declared.state.FastState.{FastState as State};
 ghost use Rattle.af_model.specs.declared.states.MutatorEvent.{MutatorEvent};
 ghost use Rattle.af_model.specs.declared.states.ObserverEvent.{ObserverEvent};
 ghost use Rattle.af_model.specs.StateQueue.{HasHistory};
-ghost use Rattle.af_stateq.specs.Laws.{PolledInOrder, OneHolder};
+ghost use Rattle.af_stateq.specs.Laws.{PolledInOrder, OneHolder, SeesTheLast};
 
 /// In a history the states polled are a prefix of the states pushed, as values, and at most one pushed state isn't polled.
 pub fn polled_are_pushed<P>()
@@ -14,4 +14,9 @@ pub fn polled_are_pushed<P>()
 /// In the order of a history the item of each slot is passed on only by the holder that has it: from the mutator to its shelf, to the observer, to its shelf and back. So it has one holder at each moment, and the value taken off a shelf is the value put there.
 pub fn each_item_has_one_holder<P>()
     ensures { (first : State) (ms : List (MutatorEvent P)) (os : List (ObserverEvent P)) → OneHolder first ms os }
+{}
+
+/// In a history a look of an observer that has learnt of all pushes has the number of the last push, and shows the last state where it shows one. So with both ends in one hand, and a meeting after each call, each look sees the last push.
+pub fn a_look_after_a_meeting_sees_the_last_push<P>()
+    ensures { (first : State) (ms : List (MutatorEvent P)) → SeesTheLast first ms }
 {}

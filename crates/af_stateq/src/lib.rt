@@ -19,7 +19,10 @@ mod threads;
 mod view;
 mod waits;
 
-pub use laws::{each_item_has_one_holder, polled_are_pushed};
+pub use af_base::Push;
+pub use laws::{
+    a_look_after_a_meeting_sees_the_last_push, each_item_has_one_holder, polled_are_pushed,
+};
 pub use make::{meet, queue};
 pub use mutator::Mutator;
 pub use observer::{Observer, Poll};

@@ -25,7 +25,7 @@ pub struct Mutator<P: Drop, N: Fits<P>> {
     pub(crate) edited: bool,
     pub(crate) pending: Vec<Option<P>>,
     pub(crate) returned: Vec<Option<P>>,
-    pub(crate) out: [bool; 8],
+    pub(crate) out: [bool; SLOTS],
     pub(crate) spare: Vec<Option<P>>,
 }
 

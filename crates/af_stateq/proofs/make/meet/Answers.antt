@@ -1,4 +1,4 @@
-use Rattle.std.proofs.Common.{rules, ◌≡◌, ap, sym, ◌∙◌}
+use Rattle.std.proofs.Common.{ap, sym, ◌∙◌}
 use Rattle.af_stateq.specs.Ends.{Pushes}
 use Rattle.af_stateq.proofs.Start.{past_keeps}
 use Rattle.af_stateq.proofs.make.meet.Goals as goal

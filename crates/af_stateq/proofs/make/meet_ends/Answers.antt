@@ -1,5 +1,5 @@
 use Rattle.std.proofs.Common.{rules}
-use Rattle.af_stateq.proofs.Steps.{meets_allowed}
+use Rattle.af_stateq.proofs.Allowed.{meets_allowed}
 use Rattle.af_stateq.proofs.Seating.{splits_allowed, joins_allowed}
 use Rattle.af_stateq.proofs.make.meet_ends.Goals as goal
 

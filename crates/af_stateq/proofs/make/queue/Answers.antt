@@ -1,4 +1,4 @@
-use Rattle.std.proofs.Common.{rules, ◌≡◌, List, Option, replicate, false, refl, ap, sym, ◌∙◌, subst}
+use Rattle.std.proofs.Common.{List, Option, replicate, false, refl, sym, ◌∙◌, subst}
 use Rattle.af_base.specs.declared.state.FastState.{FastState}
 use Rattle.af_model.specs.StateQueue.{slots}
 use Rattle.af_stateq.specs.Mutates.{InDraft}

@@ -1,4 +1,4 @@
-use Rattle.std.proofs.Common.{rules, ap, arith}
+use Rattle.std.proofs.Common.{arith}
 use Rattle.af_model.specs.StateQueue.{slots}
 use Rattle.af_stateq.proofs.Acks.{all_none}
 use Rattle.af_stateq.proofs.mutator.join.Goals as goal

@@ -1,7 +1,7 @@
 use Rattle.std.proofs.Common.{rules, ℕ, ◌+◌, ◌%◌, Bool, false, [], ◌∷◌, ◌++◌, ap, sym, ◌∙◌, subst, refl, arith}
 use Rattle.af_stateq.specs.Shelved.{cell, word, HoldsNext}
 use Rattle.af_model.specs.declared.states.MutatorEvent.TheVariants.{Push}
-use Rattle.af_stateq.proofs.Steps.{pushes_at}
+use Rattle.af_stateq.proofs.Allowed.{pushes_at}
 use Rattle.af_stateq.proofs.Hands.{headed, turned_once, tail_is, numbered, this_cell, next_cell, are_moved, fit_moved}
 use Rattle.af_stateq.proofs.ends.MutatorEnd.push.Goals as goal
 

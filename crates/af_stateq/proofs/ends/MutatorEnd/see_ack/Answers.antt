@@ -3,7 +3,7 @@ use mathlib.Core.Option.{none}
 use Rattle.atomic_table.specs.Table.{step, rest}
 use Rattle.af_stateq.specs.declared.cell.Slot.{Slot}
 use Rattle.af_stateq.specs.Shelved.{IsMutator}
-use Rattle.af_stateq.proofs.Steps.{looks_allowed}
+use Rattle.af_stateq.proofs.Allowed.{looks_allowed}
 use Rattle.af_stateq.proofs.Hands.{headed}
 use Rattle.af_stateq.proofs.Looks.{kept_look, brought_rack, rack_look}
 use Rattle.af_stateq.proofs.ends.MutatorEnd.see_ack.Goals as goal

@@ -1,7 +1,7 @@
 use Rattle.std.proofs.Common.{rules, ℕ, ◌+◌, Bool, false, [], ◌∷◌, ◌++◌, ap, sym, ◌∙◌, subst}
 use Rattle.af_model.specs.declared.states.ObserverEvent.TheVariants.{Ack}
 use Rattle.af_stateq.specs.Shelved.{cell, word, HoldsSeen}
-use Rattle.af_stateq.proofs.Steps.{acks_at}
+use Rattle.af_stateq.proofs.Allowed.{acks_at}
 use Rattle.af_stateq.proofs.Hands.{headed, turned_once, turned_by, numbered, fourth_cell, are_moved, fit_moved}
 use Rattle.af_stateq.proofs.ends.ObserverEnd.acknowledge.Goals as goal
 

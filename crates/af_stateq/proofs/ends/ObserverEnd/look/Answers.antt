@@ -1,6 +1,6 @@
 use Rattle.std.proofs.Common.{rules, ℕ, ◌+◌, Bool, ◌∷◌, ap, sym, ◌∙◌, subst}
 use Rattle.af_stateq.specs.Shelved.{cell, word, HoldsSeen}
-use Rattle.af_stateq.proofs.Steps.{polls_allowed}
+use Rattle.af_stateq.proofs.Allowed.{polls_allowed}
 use Rattle.af_stateq.proofs.Hands.{headed, turned_once, numbered, this_cell}
 use Rattle.af_stateq.proofs.ends.ObserverEnd.look.Goals as goal
 

@@ -1,5 +1,4 @@
-use Rattle.std.proofs.Common.{◌≡◌}
-use Rattle.af_stateq.specs.Answers.{Waited, UntilPushed}
+use Rattle.af_stateq.specs.Answers.{UntilPushed}
 use Rattle.af_stateq.proofs.mutator.Mutator.push_until_acked.Given as goal
 
 abbrev pub invariant-loop : goal.invariant-loop

@@ -1,9 +1,9 @@
-use Rattle.std.proofs.Common.{rules, ◌≡◌, ◌≢◌, ap, sym, ◌∙◌, subst, true, List, Option}
-use Rattle.af_stateq.specs.Shelved.{word, nothing}
+use Rattle.std.proofs.Common.{◌≡◌, ap, sym, ◌∙◌, subst, List, Option}
+use Rattle.af_stateq.specs.Shelved.{word}
 use Rattle.af_stateq.specs.Ends.{SawAcked}
-use Rattle.af_stateq.specs.Mutates.{Mutates, InDraft}
-use Rattle.af_stateq.specs.Answers.{SeesIt, SeesOlder}
-use Rattle.af_stateq.proofs.Acks.{older_keeps, older_empty, sees_older, apart, hit_all}
+use Rattle.af_stateq.specs.Mutates.{Mutates}
+use Rattle.af_stateq.specs.Answers.{SeesIt}
+use Rattle.af_stateq.proofs.Acks.{older_keeps, older_empty, apart, hit_all}
 use Rattle.af_stateq.proofs.mutator.Mutator.see_ack.Goals as goal
 
 pub invariant_of-self : goal.invariant_of-self

@@ -1,5 +1,4 @@
-use Rattle.std.proofs.Common.{rules, ◌≡◌, Bool, sym, subst}
-use Rattle.af_base.specs.declared.state.Command.{Command}
+use Rattle.std.proofs.Common.{◌≡◌, sym, subst}
 use Rattle.af_stateq.specs.declared.mutator.Mutator.TheInside.{Inside}
 use Rattle.af_stateq.specs.Shelved.{nothing}
 use Rattle.af_stateq.specs.Mutates.{InDraft}

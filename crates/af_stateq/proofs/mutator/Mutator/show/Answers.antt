@@ -1,4 +1,4 @@
-use Rattle.std.proofs.Common.{rules, ap, sym, ◌∙◌, arith}
+use Rattle.std.proofs.Common.{ap, ◌∙◌}
 use Rattle.af_stateq.proofs.Edits.{push_keeps_by}
 use Rattle.af_stateq.proofs.mutator.Mutator.show.Goals as goal
 

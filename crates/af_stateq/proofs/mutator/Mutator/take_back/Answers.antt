@@ -1,4 +1,4 @@
-use Rattle.std.proofs.Common.{rules, ◌≡◌, ◌&&◌, not, Bool, Option, true, false, true≢false, is_some, IfSome, Some, refl, ap, sym, ◌∙◌, arith, subst}
+use Rattle.std.proofs.Common.{rules, ◌≡◌, ◌&&◌, not, Bool, true, false, is_some, IfSome, Some, ap, sym, ◌∙◌, arith, subst}
 use Rattle.af_model.specs.StateQueue.{slot_of}
 use Rattle.af_stateq.specs.Mutates.{Mutates, at, is_out}
 use Rattle.std.proofs.lemmas.List.{get_or_default}

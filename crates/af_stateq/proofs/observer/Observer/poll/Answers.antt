@@ -1,4 +1,4 @@
-use Rattle.std.proofs.Common.{rules, ◌≡◌, ℕ, ◌<◌, ◌+◌, ap, sym, ◌∙◌, subst, Option, Some, refl, arith, List}
+use Rattle.std.proofs.Common.{ℕ, ◌<◌, ap, sym, ◌∙◌, subst, Option, Some, arith, List}
 use Rattle.af_base.specs.declared.state.FastState.{FastState}
 use Rattle.af_model.specs.StateQueue.{slots, AreOf, FitAt}
 use Rattle.af_stateq.specs.Ends.{Polls, acknowledged, took}
