@@ -1,18 +1,19 @@
 -- Lists that calls spell, and the values that they give.
-use Rattle.std.proofs.Common.{◌≡◌, ℕ, ◌+◌, ◌%◌, ◌^◌, ◌<◌, ◌≤◌, Bool, true, false, true≢false, ◌&&◌, Option, Some, None, fold, List, [], ◌∷◌, ◌++◌, length, refl, sym, ap, ◌∙◌, subst, arith, mod-eq_of_lt}
+use Rattle.std.proofs.Common.{◌≡◌, ℕ, ◌+◌, ◌%◌, ◌^◌, ◌<◌, Bool, true, false, true≢false, ◌&&◌, Option, None, fold, List, [], ◌∷◌, ◌++◌, length, refl, sym, ap, ◌∙◌, subst, arith}
 use Rattle.std.proofs.lemmas.Grind.{fold-append}
 use Rattle.af_base.specs.declared.event.ClientCall.{ClientCall}
 use Rattle.af_base.specs.declared.event.ClientEvent.{ClientEvent}
 use Rattle.af_base.specs.declared.event.ClientEvent.TheVariants as client
 use Rattle.af_model.specs.Point.{wrapped}
 use Rattle.af_model.specs.History.{is_tame, is_lawful, flush_in, flushes_of}
-use Rattle.af_model.specs.ClientCalls.{ClientKept, client_keeps, client_begins, client_kept, ClientAnswers, client_events_of, IsClientList, begins, calls, meets}
+use Rattle.af_model.specs.ClientCalls.{ClientKept, client_keeps, client_begins, client_kept, client_events_of, IsClientList, begins, calls, meets}
 use Rattle.af_model.proofs.Counts.{lawful_before}
 use Rattle.af_cblk.specs.declared.view.ClientPart.{ClientPart}
 use Rattle.af_cblk.specs.declared.view.Shape.{Shape}
 use Rattle.af_cblk.specs.Parts.{released, client_did, client_met}
 use Rattle.af_base.specs.declared.event.ServerEvent.{ServerEvent}
 use Rattle.af_cblk.specs.Rule.{new_client}
+use Rattle.af_cblk.specs.Sides.{ClientSide}
 use Rattle.af_client.specs.Order.{ClientState, Keeps, kept_of, IsInOrder}
 use Rattle.af_client.specs.Calls.{Answers}
 
@@ -41,15 +42,15 @@ lawful_first (x ∷ xs) ys h = both_are (is_tame x) (is_lawful xs) (both_left (i
 pub new_keeps : (k : Shape) (p : ClientPart) (rear : ℕ) → p ≡ new_client k → rear ≡ k.base → rear < 2 ^ 32 → Keeps p rear 0 0 None
 new_keeps k p rear new is fits =
     subst (λ (x : ClientPart). Keeps x rear 0 0 None) (sym new) (
-        record {
-          spelled = begins;
-          position_is = (let e : k.base ≡ k.base + 0 = omega arith in e);
-          rear_is = (let e : rear ≡ (k.base + 0) % 2 ^ 32 = omega arith in e);
-          flushes_are = refl;
-          released_is = refl;
-          shut_is = refl;
-          lawful_open = λ _. refl;
-        })
+    record {
+      spelled = begins;
+      position_is = (let e : k.base ≡ k.base + 0 = omega arith in e);
+      rear_is = (let e : rear ≡ (k.base + 0) % 2 ^ 32 = omega arith in e);
+      flushes_are = refl;
+      released_is = refl;
+      shut_is = refl;
+      lawful_open = λ _. refl;
+    })
 
 -- the values that a list gives, after further events
 pub kept-more : (frames base : ℕ) (es more : List ClientEvent) → client_kept frames base (es ++ more) ≡ fold (client_keeps frames) (client_kept frames base es) more
@@ -100,6 +101,30 @@ did_keeps c d asked answer e k a spelled same is counts =
     (counts.3 ∙ k.shut_is)
     (λ ok. counts.3 ∙ k.lawful_open ok)
 
+-- a call with one event, on a value that was opened
+pub word_keeps : (c i : ClientState) (pass : ClientSide) (answer : ClientCall) (e : ClientEvent) → IsInOrder c → Answers c 0 answer
+    → client_events_of c.pass.part.shape.frames c.pass.part.shape.base c.pass.part.events answer ≡ e ∷ []
+    → client_keeps c.pass.part.shape.frames (kept_of c.pass.part) e ≡ kept_of c.pass.part
+    → i ≡ c
+    → pass.part ≡ client_did i.pass.part e
+    → Keeps pass.part i.rear (i.flushes + flush_in e) i.released i.shut
+word_keeps c i pass answer e k a spelled same opened did =
+    did_keeps c (record { pass = pass; rear = i.rear; flushes = i.flushes + flush_in e; released = i.released; shut = i.shut }) 0 answer e k a spelled same
+    (did ∙ ap (λ (x : ClientState). client_did x.pass.part e) opened)
+    (ap (λ (x : ClientState). x.rear) opened, ap (λ (x : ClientState). x.flushes + flush_in e) opened, ap (λ (x : ClientState). x.released) opened, ap (λ (x : ClientState). x.shut) opened)
+
+-- the same, where it is no flush
+pub quiet_keeps : (c i : ClientState) (pass : ClientSide) (answer : ClientCall) (e : ClientEvent) → IsInOrder c → Answers c 0 answer
+    → client_events_of c.pass.part.shape.frames c.pass.part.shape.base c.pass.part.events answer ≡ e ∷ []
+    → client_keeps c.pass.part.shape.frames (kept_of c.pass.part) e ≡ kept_of c.pass.part
+    → flush_in e ≡ 0
+    → i ≡ c
+    → pass.part ≡ client_did i.pass.part e
+    → Keeps pass.part i.rear i.flushes i.released i.shut
+quiet_keeps c i pass answer e k a spelled same quiet opened did =
+    let none : i.flushes + flush_in e ≡ i.flushes = omega arith in
+    subst (λ (n : ℕ). Keeps pass.part i.rear n i.released i.shut) none (word_keeps c i pass answer e k a spelled same opened did)
+
 -- nothing was done, and nothing is kept that was not
 pub same_keeps : (c d : ClientState) → IsInOrder c → d.pass.part ≡ c.pass.part → (d.rear ≡ c.rear) × (d.flushes ≡ c.flushes) × (d.released ≡ c.released) → d.shut ≡ c.shut → IsInOrder d
 same_keeps c d k part counts shut =
@@ -111,12 +136,12 @@ met_keeps p q rear flushes count shut theirs k is =
     let learnt : List ClientEvent = client.Learn (length theirs) ∷ [] in
     let now : client_kept p.shape.frames p.shape.base (p.events ++ learnt) ≡ kept_of p = kept-more p.shape.frames p.shape.base p.events learnt in
     subst (λ (x : ClientPart). Keeps x rear flushes count shut) (sym is) (
-        record {
-          spelled = meets p.events (length theirs) k.spelled;
-          position_is = ap (λ (x : ClientKept). x.position) now ∙ k.position_is;
-          rear_is = k.rear_is;
-          flushes_are = k.flushes_are ∙ (let n : flushes_of (p.events ++ learnt) ≡ flushes_of p.events + 0 = flushes-append p.events learnt in let m : flushes_of p.events + 0 ≡ flushes_of p.events = omega arith in sym (n ∙ m));
-          released_is = k.released_is;
-          shut_is = k.shut_is ∙ sym (ap (λ (x : ClientKept). x.shut) now);
-          lawful_open = λ ok. k.lawful_open (lawful_before p.events (client.Learn (length theirs)) ok);
-        })
+    record {
+      spelled = meets p.events (length theirs) k.spelled;
+      position_is = ap (λ (x : ClientKept). x.position) now ∙ k.position_is;
+      rear_is = k.rear_is;
+      flushes_are = k.flushes_are ∙ (let n : flushes_of (p.events ++ learnt) ≡ flushes_of p.events + 0 = flushes-append p.events learnt in let m : flushes_of p.events + 0 ≡ flushes_of p.events = omega arith in sym (n ∙ m));
+      released_is = k.released_is;
+      shut_is = k.shut_is ∙ sym (ap (λ (x : ClientKept). x.shut) now);
+      lawful_open = λ ok. k.lawful_open (lawful_before p.events (client.Learn (length theirs)) ok);
+    })

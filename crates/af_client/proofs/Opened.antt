@@ -1,5 +1,5 @@
 -- What a look at flags and front leaves in order.
-use Rattle.std.proofs.Common.{◌≡◌, ◌≢◌, ℕ, ◌+◌, ◌-◌, ◌%◌, ◌^◌, ◌<◌, ◌≤◌, Bool, true, false, true≢false, nat_lt, ◌==◌, if◌then◌else◌, bit_and, MatchOption, Option, Some, None, is_some, fold, List, [], ◌∷◌, ◌++◌, length, take, map, refl, sym, ap, ◌∙◌, subst, arith, append_assoc, length-append, length-take-le, eq-eqb}
+use Rattle.std.proofs.Common.{◌≡◌, ℕ, ◌+◌, ◌%◌, ◌^◌, ◌<◌, ◌≤◌, Bool, true, false, nat_lt, if◌then◌else◌, bit_and, MatchOption, Option, Some, None, is_some, fold, List, [], ◌∷◌, ◌++◌, length, take, map, refl, sym, ap, ◌∙◌, subst, arith, append_assoc, length-append, length-take-le, eq-eqb}
 use Rattle.std.proofs.lemmas.List.{take-map, length-map}
 use Rattle.af_base.specs.declared.frame.Frame.{Frame}
 use Rattle.af_base.specs.declared.event.ClientCall.{ClientCall}
@@ -9,11 +9,11 @@ use Rattle.af_base.specs.Sample.{packed_word}
 use Rattle.af_model.specs.Point.{wrapped}
 use Rattle.af_model.specs.Room.{ahead, outside}
 use Rattle.af_model.specs.History.{is_lawful}
-use Rattle.af_model.specs.ClientCalls.{ClientKept, client_keeps, client_begins, client_kept, client_events_of}
+use Rattle.af_model.specs.ClientCalls.{ClientKept, client_keeps, client_begins, client_events_of}
 use Rattle.af_cblk.specs.declared.view.ClientPart.{ClientPart}
 use Rattle.af_cblk.specs.declared.view.Shape.{Shape}
 use Rattle.af_cblk.specs.Shape.{IsShape}
-use Rattle.af_cblk.specs.Parts.{released, filled, recorded, run_of, rear_stored, client_did}
+use Rattle.af_cblk.specs.Parts.{released, filled, recorded, run_of, rear_stored}
 use Rattle.af_cblk.proofs.Sized.{sized}
 use Rattle.af_cblk.proofs.Numbers.{same_cell, past}
 use Rattle.af_client.specs.declared.put.Opened.TheVariants as opened
@@ -127,8 +127,8 @@ put_keeps c m d asked front room count words answer k a spelled opens counts put
     let base_is : d.pass.part.shape.base ≡ p.shape.base = ap (λ (x : Shape). x.base) base in
     let position : (kept_of p).position ≡ p.shape.base + length p.frames = k.position_is in
     let events : d.pass.part.events ≡ p.events ++ client.SawFlags 0 ∷ client.SawFront front ∷ client.Release count ∷ [] =
-        ap (λ (x : ClientPart). x.events) put ∙ ap (λ (l : List ClientEvent). l ++ client.Release count ∷ []) (looked c m.pass.part front is)
-        ∙ append_assoc p.events (client.SawFlags 0 ∷ client.SawFront front ∷ []) (client.Release count ∷ []) in
+    ap (λ (x : ClientPart). x.events) put ∙ ap (λ (l : List ClientEvent). l ++ client.Release count ∷ []) (looked c m.pass.part front is)
+    ∙ append_assoc p.events (client.SawFlags 0 ∷ client.SawFront front ∷ []) (client.Release count ∷ []) in
     goes_on c d asked answer (client.SawFlags 0 ∷ client.SawFront front ∷ client.Release count ∷ [])
     (record { position = (kept_of p).position + count; shut = outside p.shape.frames front (wrapped (kept_of p).position) }) k a spelled
     base events refl
@@ -151,6 +151,7 @@ corrupt_keeps c d asked front back answer k a spelled opens counts = by c.shut r
   where
     p : ClientPart
     p = c.pass.part
+
     by : (o : Option (ℕ × ℕ)) → o ≡ c.shut
         → MatchOption o ((d.pass.part ≡ saw_both p front) × (back ≡ c.rear) × (p.shape.frames < filled d.pass.part) × (is_lawful p.events ≡ true → ⊥)) (λ words. (words ≡ (front, back)) × (d.pass.part ≡ p))
         → IsInOrder d
@@ -176,6 +177,7 @@ corrupt_outside c d shut front back k opens = by c.shut refl opens.1
   where
     p : ClientPart
     p = c.pass.part
+
     by : (o : Option (ℕ × ℕ)) → o ≡ c.shut
         → MatchOption o ((d ≡ saw_both p front) × (back ≡ c.rear) × (p.shape.frames < filled d) × (is_lawful p.events ≡ true → ⊥)) (λ words. (words ≡ (front, back)) × (d ≡ p))
         → p.shape.frames < ahead front back

@@ -1,10 +1,10 @@
 -- Frames stored one after another.
-use Rattle.std.proofs.Common.{◌≡◌, ◌≢◌, inl, inr, ℕ, ◌+◌, ◌-◌, ◌%◌, ◌^◌, ◌<◌, ◌≤◌, if◌then◌else◌, Bool, List, [], ◌∷◌, ◌++◌, length, take, map, slice_index, sym, ap, ◌∙◌, subst, arith, eq-eqb, ne_eqb, ext_get_or, get_or-take, length-take-le, mod-eq_of_lt, length-append}
+use Rattle.std.proofs.Common.{◌≡◌, ◌≢◌, inl, inr, ℕ, ◌+◌, ◌-◌, ◌%◌, ◌^◌, ◌<◌, ◌≤◌, if◌then◌else◌, Bool, List, ◌∷◌, length, take, slice_index, sym, ap, ◌∙◌, subst, arith, eq-eqb, ne_eqb, ext_get_or, get_or-take, length-take-le, mod-eq_of_lt}
 use mathlib.Core.Logic.{dite}
 use native.Mathlib.Decide.{ℕ_discrete}
 use Rattle.af_model.specs.Point.{wrapped}
 use Rattle.af_cblk.specs.declared.view.ClientPart.{ClientPart}
-use Rattle.af_cblk.specs.Parts.{word_at, run_of, ahead, released, filled, client_saw_front, rear_stored}
+use Rattle.af_cblk.specs.Parts.{word_at, run_of, ahead, released, filled, client_saw_front}
 use Rattle.af_cblk.proofs.Numbers.{ahead_of, past}
 use Rattle.af_cblk.proofs.Rows.{run_length, run_at}
 use Rattle.af_client.specs.Calls.{Stored, SameBut}

@@ -41,12 +41,7 @@ fn store_frames<L: Ledger>(
     ensures steps { steps.new ≡ steps.old + count }
 {
     for i in 0..count {
-        block.store_cell(
-            pass,
-            rear.wrapping_add(i),
-            frames[i as usize].pack(),
-            steps,
-        );
+        block.store_cell(pass, rear.wrapping_add(i), frames[i as usize].pack(), steps);
     }
 }
 

@@ -29,13 +29,7 @@ pub enum Sent {
 
 impl Client {
     // Puts two words as the next two frames, and releases them in one step.
-    fn put_two<L: Ledger>(
-        &mut self,
-        block: &Block,
-        code: u32,
-        argument: u32,
-        steps: &mut Steps<L>,
-    )
+    fn put_two<L: Ledger>(&mut self, block: &Block, code: u32, argument: u32, steps: &mut Steps<L>)
         requires made { client_made self.old.pass ≡ block.now }
         requires rear { self.old.rear ≡ wrapped (released self.old.pass.part) }
         requires room { 2 ≤ room_of self.old.pass.part }

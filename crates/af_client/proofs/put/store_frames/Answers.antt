@@ -1,4 +1,4 @@
-use Rattle.std.proofs.Common.{rules, arith, ◌≡◌, ◌<◌, ◌+◌, ◌%◌, ◌^◌, ℕ, List, length, map, slice_index, sym, ap, ◌∙◌, subst, refl}
+use Rattle.std.proofs.Common.{rules, arith, ◌≡◌, ◌<◌, ◌+◌, ◌%◌, ◌^◌, ℕ, List, length, map, slice_index, sym, ap, ◌∙◌, subst}
 use Rattle.std.proofs.lemmas.List.{get_or-map}
 use Rattle.af_base.specs.Sample.{packed_word}
 use Rattle.af_cblk.specs.declared.view.ClientPart.{ClientPart}

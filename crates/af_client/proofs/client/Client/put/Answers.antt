@@ -1,10 +1,9 @@
-use Rattle.std.proofs.Common.{rules, arith, ◌≡◌, ℕ, ◌+◌, ◌-◌, ◌%◌, ◌^◌, ◌<◌, ◌≤◌, min, map, take, length, List, refl, sym, ap, ◌∙◌, subst}
+use Rattle.std.proofs.Common.{arith, ◌≡◌, ℕ, ◌-◌, ◌%◌, ◌≤◌, min, map, take, length, ap, ◌∙◌}
 use Rattle.af_base.specs.Sample.{packed_word}
 use Rattle.af_model.specs.Point.{wrapped}
-use Rattle.af_cblk.specs.declared.view.ClientPart.{ClientPart}
 use Rattle.af_cblk.specs.Parts.{released}
 use Rattle.af_client.specs.Order.{ClientState}
-use Rattle.af_client.specs.Calls.{PutOn, SameBut}
+use Rattle.af_client.specs.Calls.{SameBut}
 use Rattle.af_client.proofs.Opened.{same_end, put_is, put_rear, words_are}
 use Rattle.af_client.proofs.client.Client.put.Goals as goal
 
@@ -17,9 +16,9 @@ returns-clause-count g c =
     let d = c.min-most.ensures in
     let e = c.min-count.ensures in
     e ∙ ap (λ (z : ℕ). min (length c.args.frames.now) z) (
-        d ∙ ap (λ (x : ℕ × ℕ). min c.args.room (x.0 - c.self.inside.rear % x.1)) (λ i. (a i, b i))
-        ∙ ap (λ (z : ℕ). min c.args.room (c.args.block.now.shape.cells - z)) cell
-        )
+    d ∙ ap (λ (x : ℕ × ℕ). min c.args.room (x.0 - c.self.inside.rear % x.1)) (λ i. (a i, b i))
+    ∙ ap (λ (z : ℕ). min c.args.room (c.args.block.now.shape.cells - z)) cell
+    )
 
 pub returns-clause-put : goal.returns-clause-put
 returns-clause-put g c =

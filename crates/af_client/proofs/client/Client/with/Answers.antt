@@ -1,4 +1,3 @@
-use Rattle.std.proofs.Common.{rules, ◌≡◌, ◌<◌, ◌^◌}
 use Rattle.af_client.proofs.Kept.{new_keeps}
 use Rattle.af_client.proofs.client.Client.with.Goals as goal
 
