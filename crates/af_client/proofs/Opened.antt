@@ -1,5 +1,5 @@
 -- What a look at flags and front leaves in order.
-use Rattle.std.proofs.Common.{◌≡◌, ℕ, ◌+◌, ◌%◌, ◌^◌, ◌<◌, ◌≤◌, Bool, true, false, nat_lt, if◌then◌else◌, bit_and, MatchOption, Option, Some, None, is_some, fold, List, [], ◌∷◌, ◌++◌, length, take, map, refl, sym, ap, ◌∙◌, subst, arith, append_assoc, length-append, length-take-le, eq-eqb}
+use Rattle.std.proofs.Common.{◌≡◌, ℕ, ◌+◌, ◌-◌, ◌%◌, ◌^◌, ◌<◌, ◌≤◌, Bool, true, false, nat_lt, if◌then◌else◌, bit_and, MatchOption, Option, Some, None, is_some, fold, List, [], ◌∷◌, ◌++◌, length, take, map, refl, sym, ap, ◌∙◌, subst, arith, append_assoc, length-append, length-take-le, mod-lt, eq-eqb}
 use Rattle.std.proofs.lemmas.List.{take-map, length-map}
 use Rattle.af_base.specs.declared.frame.Frame.{Frame}
 use Rattle.af_base.specs.declared.event.ClientCall.{ClientCall}
@@ -190,6 +190,10 @@ corrupt_outside c d shut front back k opens = by c.shut refl opens.1
 
 pub same_end : (k : Shape) (rear n : ℕ) → IsShape k → rear ≡ wrapped n → rear % k.cells ≡ n % k.cells
 same_end k rear n shape is = let s = (sized k shape).3 in ap (λ (z : ℕ). z % k.cells) is ∙ same_cell n s.0 k.cells s.1
+
+-- there is a cell before the last one's end
+pub before_end : (k : Shape) (n : ℕ) → IsShape k → 1 ≤ k.cells - n % k.cells
+before_end k n shape = let s = sized k shape in let low : n % k.cells < k.cells = mod-lt n (let a = s.0 in let b = s.1 in omega arith) in omega arith
 
 pub put_is : (p s q : ClientPart) (n : ℕ) (frames : List Frame) → SameBut p s → Stored s (map packed_word frames) n → n ≤ length frames → q ≡ rear_stored s n
     → PutOn p n (map packed_word (take n frames)) q

@@ -1,5 +1,5 @@
 -- What the calls of a client's proxy come to, by their answers.
-use Rattle.std.specs.Prelude.{◌≡◌, ℕ, ◌+◌, ◌<◌, true, if◌then◌else◌, is_some, MatchOption, Option, Some, None, List, [], ◌∷◌, ◌++◌, length}
+use Rattle.std.specs.Prelude.{◌≡◌, ℕ, ◌+◌, ◌<◌, ◌≤◌, true, if◌then◌else◌, is_some, MatchOption, Option, Some, None, List, [], ◌∷◌, ◌++◌, length}
 use Rattle.af_base.specs.declared.event.ClientCall.{ClientCall}
 use Rattle.af_base.specs.declared.event.ClientCall.TheVariants as call
 use Rattle.af_base.specs.declared.event.ClientEvent.TheVariants as client
@@ -42,6 +42,16 @@ wrote_call (wrote.Corrupt front rear) = call.Corrupt front rear
 abbrev pub put_by : Wrote → ℕ
 put_by (wrote.Put front count rest) = count
 put_by _ = 0
+
+-- the words that shut the proxy, if a write found or finds it shut
+abbrev pub shut_by : Wrote → Option (ℕ × ℕ)
+shut_by (wrote.Corrupt front rear) = Some (front, rear)
+shut_by _ = None
+
+-- a put releases some of the frames that it was given
+abbrev pub PutsSome : ℕ → Wrote → Type 0
+PutsSome asked (wrote.Put front count rest) = (1 ≤ count) × (count ≤ asked)
+PutsSome asked _ = Unit {0}
 
 -- what a put leaves of the room
 abbrev pub Leaves : ClientState → Wrote → Type 0

@@ -1,5 +1,5 @@
 -- What a send comes to, by its answer.
-use Rattle.std.specs.Prelude.{ℕ, ◌<◌, if◌then◌else◌, is_some, List, [], ◌∷◌}
+use Rattle.std.specs.Prelude.{ℕ, ◌<◌, if◌then◌else◌, is_some, Option, Some, None, List, [], ◌∷◌}
 use Rattle.af_base.specs.declared.event.ClientCall.{ClientCall}
 use Rattle.af_base.specs.declared.event.ClientCall.TheVariants as call
 use Rattle.af_model.specs.Room.{ahead}
@@ -17,6 +17,16 @@ sent_call code argument (sent.Corrupt front rear) = call.SendCorrupt front rear
 abbrev pub sent_by : ℕ → ℕ → Sent → List ℕ
 sent_by code argument (sent.Sent front) = code ∷ argument ∷ []
 sent_by code argument _ = []
+
+-- how many frames a send released
+abbrev pub sent_count : Sent → ℕ
+sent_count (sent.Sent front) = 2
+sent_count _ = 0
+
+-- the words that shut the proxy, if a send found or finds it shut
+abbrev pub shut_by_send : Sent → Option (ℕ × ℕ)
+shut_by_send (sent.Corrupt front rear) = Some (front, rear)
+shut_by_send _ = None
 
 -- a send steps once for the flags, for front, for each of two cells and for rear
 abbrev pub send_steps : ClientState → Sent → ℕ

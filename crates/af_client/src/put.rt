@@ -91,6 +91,7 @@ impl Client {
         requires released { self.old.released < 2 ^ 62 }
         ensures made { client_made self.new.pass ≡ block.now }
         ensures count { result ≡ min (length frames.now) (min room (block.now.shape.cells - released self.old.pass.part % block.now.shape.cells)) }
+        ensures some { 1 ≤ room → 1 ≤ length frames.now → 1 ≤ result }
         ensures put { PutOn self.old.pass.part result (map packed_word (take result frames.now)) self.new.pass.part }
         ensures rear { self.new.rear ≡ wrapped (released self.new.pass.part) }
         ensures released { self.new.released ≡ self.old.released + result }

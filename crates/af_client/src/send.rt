@@ -6,7 +6,7 @@ ghost use Rattle.af_cblk.specs.Parts.{released, room as room_of};
 ghost use Rattle.af_cblk.specs.Sides.{client_made};
 ghost use Rattle.af_client.specs.Order.{IsInOrder};
 ghost use Rattle.af_client.specs.Calls.{Answers, AddsEvents, Releases, PutOn};
-ghost use Rattle.af_client.specs.Sends.{sent_call, sent_by, send_steps, CorruptSendIs, IsCorruptSend};
+ghost use Rattle.af_client.specs.Sends.{sent_call, sent_by, sent_count, shut_by_send, send_steps, CorruptSendIs, IsCorruptSend};
 
 use crate::client::Client;
 use crate::put::Opened;
@@ -67,6 +67,7 @@ impl Client {
         ensures answers { Answers self.old 2 (sent_call code argument result) }
         ensures events { AddsEvents self.old (sent_call code argument result) self.new }
         ensures releases { Releases self.old (sent_by code argument result) self.new }
+        ensures kept { (self.new.flushes ≡ self.old.flushes) × (self.new.released ≡ self.old.released + sent_count result) × (self.new.shut ≡ shut_by_send result) }
         ensures corrupt { CorruptSendIs self.old.pass.part.shape.frames result }
         ensures lawful { is_lawful self.old.pass.part.events ≡ true → IsCorruptSend result → ⊥ }
         ensures steps { steps.new ≡ steps.old + send_steps self.old result }

@@ -1,5 +1,5 @@
 -- What a look and a take of a server's proxy come to.
-use Rattle.std.specs.Prelude.{◌≡◌, ℕ, ◌+◌, ◌<◌, is_some, if◌then◌else◌, MatchOption, Option, Some, None, List, ◌++◌, ◌∷◌, [], map, take, length}
+use Rattle.std.specs.Prelude.{◌≡◌, ℕ, ◌+◌, ◌<◌, ◌≤◌, is_some, if◌then◌else◌, MatchOption, Option, Some, None, List, ◌++◌, ◌∷◌, [], map, take, length}
 use Rattle.af_base.specs.declared.event.ServerEvent.TheVariants as server
 use Rattle.af_base.specs.declared.frame.Frame.{Frame}
 use Rattle.af_base.specs.declared.seen.Seen.{Seen}
@@ -27,11 +27,6 @@ abbrev pub shut_by : Sight → Option (ℕ × ℕ)
 shut_by (shut front rear) = Some (front, rear)
 shut_by _ = None
 
--- how many frames a look discards
-abbrev pub dropped_by : Sight → ℕ
-dropped_by (flushed count) = count
-dropped_by _ = 0
-
 -- A look answers by the three words that it sees, the flush count kept before, and the frames asked for, and adds the events of that. A proxy that was shut answers the words that shut it, and adds none
 abbrev pub Looks : ServerState → ℕ → Look → ServerState → Type 0
 Looks c asked look d =
@@ -41,6 +36,28 @@ Looks c asked look d =
       × (let sight = look_at c.pass.part.shape.frames c.flush asked look.flush look.rear front in
       (look.seen ≡ seen_of sight) × (d.shown ≡ shown_by sight) × (d.pass.part.events ≡ c.pass.part.events ++ look_events sight look.flush look.rear front)))
     (λ words. (look.seen ≡ seen.Shut words.0 words.1) × (look.flush ≡ c.flush) × (look.rear ≡ words.1) × (d ≡ (record c { shown = None })))
+
+-- ## What a look's answer tells
+
+-- how many frames may be taken after it
+abbrev pub shown_of : Seen → Option ℕ
+shown_of (seen.Frames count) = Some count
+shown_of _ = None
+
+-- the words that shut the proxy, if the look found or finds it shut
+abbrev pub shut_of : Seen → Option (ℕ × ℕ)
+shut_of (seen.Shut front rear) = Some (front, rear)
+shut_of _ = None
+
+-- how many frames it discarded
+abbrev pub dropped_of : Seen → ℕ
+dropped_of (seen.Flushed count) = count
+dropped_of _ = 0
+
+-- there are some frames, and no more than were asked for
+abbrev pub WithinAsk : ℕ → Seen → Type 0
+WithinAsk asked (seen.Frames count) = (1 ≤ count) × (count ≤ asked)
+WithinAsk asked _ = Unit {0}
 
 -- a look steps once for each of the three words, and once more where it discards
 abbrev pub sight_steps : Seen → ℕ

@@ -5,7 +5,7 @@ ghost use Rattle.af_model.specs.ServerCalls.{look_at, shown_by};
 ghost use Rattle.af_cblk.specs.Parts.{MayStoreFront, front_stored};
 ghost use Rattle.af_cblk.specs.Sides.{server_made, ServerIs};
 ghost use Rattle.af_server.specs.Order.{IsInOrder, counted};
-ghost use Rattle.af_server.specs.Looks.{Looks, seen_of, shut_by, look_steps, ShutIs, saw_all};
+ghost use Rattle.af_server.specs.Looks.{Looks, seen_of, shut_by, shown_of, shut_of, dropped_of, WithinAsk, look_steps, ShutIs, saw_all};
 
 use crate::server::{Server, raised};
 use af_base::{Seen, Steps};
@@ -94,6 +94,8 @@ impl Server {
         ensures made { server_made self.new.pass ≡ block.now }
         ensures order { IsInOrder self.new }
         ensures looks { Looks self.old ask result self.new }
+        ensures kept { (self.new.flush ≡ result.flush) × (self.new.shown ≡ shown_of result.seen) × (self.new.shut ≡ shut_of result.seen) × (self.new.consumed ≡ counted (self.old.consumed + dropped_of result.seen)) }
+        ensures within { WithinAsk ask result.seen }
         ensures frames { (self.new.pass.part.frames ≡ self.old.pass.part.frames) × (self.new.pass.has_hand ≡ self.old.pass.has_hand) }
         ensures shut { ShutIs self.old.pass.part.shape.frames result.seen }
         ensures steps { steps.new ≡ steps.old + look_steps self.old result.seen }
