@@ -1,12 +1,13 @@
 -- Lists that calls spell, and the values that they give.
-use Rattle.std.proofs.Common.{◌≡◌, ℕ, ◌+◌, ◌%◌, ◌^◌, ◌<◌, Bool, true, false, true≢false, ◌&&◌, Option, None, fold, List, [], ◌∷◌, ◌++◌, length, refl, sym, ap, ◌∙◌, subst, arith}
+use Rattle.std.proofs.Common.{◌≡◌, ℕ, ◌+◌, ◌%◌, ◌^◌, ◌<◌, Bool, true, false, true≢false, ◌&&◌, if◌then◌else◌, Option, None, is_some, fold, List, [], ◌∷◌, ◌++◌, length, refl, sym, ap, ◌∙◌, subst, arith}
 use Rattle.std.proofs.lemmas.Grind.{fold-append}
 use Rattle.af_base.specs.declared.event.ClientCall.{ClientCall}
+use Rattle.af_base.specs.declared.event.ClientCall.TheVariants as call
 use Rattle.af_base.specs.declared.event.ClientEvent.{ClientEvent}
 use Rattle.af_base.specs.declared.event.ClientEvent.TheVariants as client
 use Rattle.af_model.specs.Point.{wrapped}
 use Rattle.af_model.specs.History.{is_tame, is_lawful, flush_in, flushes_of}
-use Rattle.af_model.specs.ClientCalls.{ClientKept, client_keeps, client_begins, client_kept, client_events_of, IsClientList, begins, calls, meets}
+use Rattle.af_model.specs.ClientCalls.{ClientKept, client_keeps, client_begins, client_kept, client_events_of, client_call_events, IsClientList, begins, calls, meets}
 use Rattle.af_model.proofs.Counts.{lawful_before}
 use Rattle.af_cblk.specs.declared.view.ClientPart.{ClientPart}
 use Rattle.af_cblk.specs.declared.view.Shape.{Shape}
@@ -145,3 +146,36 @@ met_keeps p q rear flushes count shut theirs k is =
       shut_is = k.shut_is ∙ sym (ap (λ (x : ClientKept). x.shut) now);
       lawful_open = λ ok. k.lawful_open (lawful_before p.events (client.Learn (length theirs)) ok);
     })
+
+-- ## Lawful calls
+
+abbrev pub IsPoke : ClientCall → Type 0
+IsPoke (call.Poke command word value) = Unit {0}
+IsPoke _ = ⊥
+
+both : (es more : List ClientEvent) → is_lawful es ≡ true → is_lawful more ≡ true → is_lawful (es ++ more) ≡ true
+both [] more a b = b
+both (e ∷ es) more a b = both_are (is_tame e) _ (both_left (is_tame e) (is_lawful es) a) (both es more (both_right (is_tame e) (is_lawful es) a) b)
+
+tame_look : (was : Bool) (front : ℕ) → is_lawful (if was then [] else client.SawFlags 0 ∷ client.SawFront front ∷ []) ≡ true
+tame_look true front = refl
+tame_look false front = refl
+
+tame_call : (was : Bool) (answer : ClientCall) → (IsPoke answer → ⊥) → is_lawful (client_call_events was answer) ≡ true
+tame_call was (call.Put front count) calm = refl
+tame_call was (call.Full front) calm = refl
+tame_call was (call.Dead flags) calm = refl
+tame_call was (call.Corrupt front rear) calm = tame_look was front
+tame_call was (call.Cleared flags) calm = refl
+tame_call was (call.Flush count) calm = refl
+tame_call was (call.Gain word) calm = refl
+tame_call was (call.Sent front code argument) calm = refl
+tame_call was (call.SendFull front) calm = refl
+tame_call was (call.SendDead flags) calm = refl
+tame_call was (call.SendCorrupt front rear) calm = tame_look was front
+tame_call was (call.Status word) calm = refl
+tame_call was (call.Poke command word value) calm = absurd (calm tt)
+
+-- a call that is no poke leaves a lawful list lawful
+pub lawful_call : (frames base : ℕ) (es : List ClientEvent) (answer : ClientCall) → (IsPoke answer → ⊥) → is_lawful es ≡ true → is_lawful (es ++ client_events_of frames base es answer) ≡ true
+lawful_call frames base es answer calm ok = both es _ ok (tame_call (is_some (client_kept frames base es).shut) answer calm)

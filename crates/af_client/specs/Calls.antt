@@ -48,10 +48,10 @@ abbrev pub shut_by : Wrote → Option (ℕ × ℕ)
 shut_by (wrote.Corrupt front rear) = Some (front, rear)
 shut_by _ = None
 
--- a put releases some of the frames that it was given
-abbrev pub PutsSome : ℕ → Wrote → Type 0
-PutsSome asked (wrote.Put front count rest) = (1 ≤ count) × (count ≤ asked)
-PutsSome asked _ = Unit {0}
+-- a put releases some frames
+abbrev pub PutsSome : Wrote → Type 0
+PutsSome (wrote.Put front count rest) = 1 ≤ count
+PutsSome _ = Unit {0}
 
 -- what a put leaves of the room
 abbrev pub Leaves : ClientState → Wrote → Type 0

@@ -44,7 +44,8 @@ impl Client {
         ensures answers { Answers self.old (length frames.now) (wrote_call result) }
         ensures events { AddsEvents self.old (wrote_call result) self.new }
         ensures releases { Releases self.old (map packed_word (take (put_by result) frames.now)) self.new }
-        ensures some { PutsSome (length frames.now) result }
+        ensures some { PutsSome result }
+        ensures few { put_by result ≤ length frames.now }
         ensures rest { Leaves self.old result }
         ensures kept { (self.new.flushes ≡ self.old.flushes) × (self.new.released ≡ self.old.released + put_by result) × (self.new.shut ≡ shut_by result) }
         ensures corrupt { CorruptIs self.old.pass.part.shape.frames result }

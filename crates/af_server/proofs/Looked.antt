@@ -2,39 +2,41 @@
 use Rattle.std.proofs.Common.{◌≡◌, ◌≢◌, ℕ, ◌+◌, ◌-◌, ◌≤◌, ◌<◌, min, Bool, true, false, true≢false, not, nat_lt, ◌==◌, ◌||◌, if◌then◌else◌, MatchOption, Option, Some, None, fold, List, [], ◌∷◌, ◌++◌, refl, sym, ap, ◌∙◌, subst, arith, append_assoc, eq-eqb, ne_eqb}
 use Rattle.af_base.specs.declared.event.ServerEvent.{ServerEvent}
 use Rattle.af_base.specs.declared.event.ServerEvent.TheVariants as server
+use Rattle.af_base.specs.declared.seen.Seen.{Seen}
+use Rattle.af_base.specs.declared.seen.Seen.TheVariants as seen
 use Rattle.af_model.specs.Room.{ahead, outside}
-use Rattle.af_model.specs.ServerCalls.{ServerKept, server_keeps, server_begins, server_kept, Sight, frames, empty, flushed, shut, look_at, drops_of, look_events, shown_by, IsServerList, looks}
+use Rattle.af_model.specs.ServerCalls.{ServerKept, server_keeps, server_begins, server_kept, look_at, drops_of, look_events, shown_by, IsServerList, looks}
 use Rattle.af_cblk.specs.declared.view.ServerPart.{ServerPart}
 use Rattle.af_cblk.specs.declared.view.Shape.{Shape}
 use Rattle.af_cblk.specs.Parts.{front_stored, dropped, took, MayStoreFront}
 use Rattle.af_server.specs.Order.{ServerState, Keeps, IsReady, kept_of, counted, IsInOrder}
-use Rattle.af_server.specs.Looks.{shut_by, saw_all}
+use Rattle.af_server.specs.Looks.{shut_of, saw_all}
 use Rattle.af_server.proofs.Kept.{kept-more}
 
 -- ## What a look shows
 
 -- where no new flush was seen
-abbrev pub judged : ℕ → ℕ → ℕ → ℕ → Sight
-judged size asked rear front = if nat_lt size (ahead front rear) then shut front rear else if rear == front then empty else frames (min asked (ahead front rear))
+abbrev pub judged : ℕ → ℕ → ℕ → ℕ → Seen
+judged size asked rear front = if nat_lt size (ahead front rear) then seen.Shut front rear else if rear == front then seen.Empty else seen.Frames (min asked (ahead front rear))
 
 pub look-judged : (size kept asked flush rear front : ℕ) → flush ≡ kept → look_at size kept asked flush rear front ≡ judged size asked rear front
-look-judged size kept asked flush rear front same = ap (λ (b : Bool). if not b then flushed (ahead front rear) else judged size asked rear front) (eq-eqb flush kept same)
+look-judged size kept asked flush rear front same = ap (λ (b : Bool). if not b then seen.Flushed (ahead front rear) else judged size asked rear front) (eq-eqb flush kept same)
 
-pub look-flushed : (size kept asked flush rear front : ℕ) → flush ≢ kept → look_at size kept asked flush rear front ≡ flushed (ahead front rear)
-look-flushed size kept asked flush rear front new = ap (λ (b : Bool). if not b then flushed (ahead front rear) else judged size asked rear front) (ne_eqb flush kept new)
+pub look-flushed : (size kept asked flush rear front : ℕ) → flush ≢ kept → look_at size kept asked flush rear front ≡ seen.Flushed (ahead front rear)
+look-flushed size kept asked flush rear front new = ap (λ (b : Bool). if not b then seen.Flushed (ahead front rear) else judged size asked rear front) (ne_eqb flush kept new)
 
-no_drops : (b d : Bool) (front rear count : ℕ) → drops_of (if b then shut front rear else if d then empty else frames count) rear ≡ []
+no_drops : (b d : Bool) (front rear count : ℕ) → drops_of (if b then seen.Shut front rear else if d then seen.Empty else seen.Frames count) rear ≡ []
 no_drops true d front rear count = refl
 no_drops false true front rear count = refl
 no_drops false false front rear count = refl
 
-shut_as : (b d : Bool) (front rear count : ℕ) → shut_by (if b then shut front rear else if d then empty else frames count) ≡ (if b then Some (front, rear) else None)
+shut_as : (b d : Bool) (front rear count : ℕ) → shut_of (if b then seen.Shut front rear else if d then seen.Empty else seen.Frames count) ≡ (if b then Some (front, rear) else None)
 shut_as true d front rear count = refl
 shut_as false true front rear count = refl
 shut_as false false front rear count = refl
 
 ready_as : (s : ServerPart) (b d : Bool) (front rear count : ℕ) → IsReady s front count
-    → MatchOption (shown_by (if b then shut front rear else if d then empty else frames count)) (Unit {0}) (λ n. IsReady s front n)
+    → MatchOption (shown_by (if b then seen.Shut front rear else if d then seen.Empty else seen.Frames count)) (Unit {0}) (λ n. IsReady s front n)
 ready_as s true d front rear count r = tt
 ready_as s false true front rear count r = tt
 ready_as s false false front rear count r = r
@@ -78,7 +80,7 @@ discard_keeps c d asked flush rear front k unshut some new part flush_is shown_i
     let more : List ServerEvent = server.SawFlush flush ∷ server.SawRear rear ∷ server.SawFront front ∷ server.Drop rear ∷ [] in
     let events : (dropped t rear).events ≡ s.events ++ more = four s.events (server.SawFlush flush) (server.SawRear rear) (server.SawFront front) (server.Drop rear) in
     let spelled : IsServerList size base None (s.events ++ more) =
-        subst (λ (sight : Sight). IsServerList size base (shown_by sight) (s.events ++ look_events sight flush rear front)) (look-flushed size kept.flush asked flush rear front differs) (
+        subst (λ (sight : Seen). IsServerList size base (shown_by sight) (s.events ++ look_events sight flush rear front)) (look-flushed size kept.flush asked flush rear front differs) (
             looks s.events c.shown asked flush rear front k.spelled (sym k.shut_is ∙ unshut) some) in
     let gives : server_kept size base (dropped t rear).events ≡ fold (server_keeps size) kept more = ap (server_kept size base) events ∙ kept-more size base s.events more in
     let done : Keeps (dropped t rear) flush d.front None (counted (c.consumed + ahead front rear)) None =
@@ -100,7 +102,7 @@ pub judge_keeps : (c d : ServerState) (asked flush rear front : ℕ) → IsInOrd
     → d.flush ≡ c.flush → d.front ≡ front
     → d.shown ≡ shown_by (look_at c.pass.part.shape.frames c.flush asked flush rear front)
     → d.consumed ≡ c.consumed
-    → d.shut ≡ shut_by (look_at c.pass.part.shape.frames c.flush asked flush rear front)
+    → d.shut ≡ shut_of (look_at c.pass.part.shape.frames c.flush asked flush rear front)
     → IsInOrder d
 judge_keeps c d asked flush rear front k unshut some same is flush_is front_is shown_is consumed_is shut_is =
     let s : ServerPart = c.pass.part in
@@ -108,21 +110,21 @@ judge_keeps c d asked flush rear front k unshut some same is flush_is front_is s
     let size : ℕ = s.shape.frames in
     let base : ℕ = s.shape.base in
     let t : ServerPart = saw_all s flush rear front in
-    let sight : Sight = judged size asked rear front in
+    let sight : Seen = judged size asked rear front in
     let old : flush ≡ kept.flush = same ∙ k.flush_is in
     let equal : (flush == kept.flush) ≡ true = eq-eqb flush kept.flush old in
-    let shows : look_at size c.flush asked flush rear front ≡ sight = look-judged size c.flush asked flush rear front same in
+    let shows_is : look_at size c.flush asked flush rear front ≡ sight = look-judged size c.flush asked flush rear front same in
     let more : List ServerEvent = server.SawFlush flush ∷ server.SawRear rear ∷ server.SawFront front ∷ [] in
     let events : t.events ≡ s.events ++ more = three s.events (server.SawFlush flush) (server.SawRear rear) (server.SawFront front) in
     let none : drops_of sight rear ≡ [] = no_drops (nat_lt size (ahead front rear)) (rear == front) front rear (min asked (ahead front rear)) in
     let looked : IsServerList size base (shown_by sight) (s.events ++ look_events sight flush rear front) =
-        subst (λ (x : Sight). IsServerList size base (shown_by x) (s.events ++ look_events x flush rear front)) (look-judged size kept.flush asked flush rear front old) (
+        subst (λ (x : Seen). IsServerList size base (shown_by x) (s.events ++ look_events x flush rear front)) (look-judged size kept.flush asked flush rear front old) (
             looks s.events c.shown asked flush rear front k.spelled (sym k.shut_is ∙ unshut) some) in
     let spelled : IsServerList size base (shown_by sight) (s.events ++ more) =
         subst (λ (l : List ServerEvent). IsServerList size base (shown_by sight) (s.events ++ server.SawFlush flush ∷ server.SawRear rear ∷ server.SawFront front ∷ l)) none looked in
     let gives : server_kept size base t.events ≡ fold (server_keeps size) kept more = ap (server_kept size base) events ∙ kept-more size base s.events more in
     let ready : IsReady t front (min asked (ahead front rear)) = record { fresh = refl; front_is = refl; none_loaded = refl; within = (let e : min asked (ahead front rear) ≤ ahead front rear = omega arith in e) } in
-    let done : Keeps t c.flush front (shown_by sight) c.consumed (shut_by sight) =
+    let done : Keeps t c.flush front (shown_by sight) c.consumed (shut_of sight) =
         record {
           spelled = subst (λ (es : List ServerEvent). IsServerList size base (shown_by sight) es) (sym events) spelled;
           flush_is = sym same ∙ sym (ap (λ (x : ServerKept). x.flush) gives);
@@ -133,8 +135,8 @@ judge_keeps c d asked flush rear front k unshut some same is flush_is front_is s
               ∙ sym (ap (λ (b : Bool). if not b then None else outside size front rear) equal) ∙ sym (ap (λ (x : ServerKept). x.shut) gives);
           ready = ready_as t (nat_lt size (ahead front rear)) (rear == front) front rear (min asked (ahead front rear)) ready;
         } in
-    let shown' : d.shown ≡ shown_by sight = shown_is ∙ ap shown_by shows in
-    let shut' : d.shut ≡ shut_by sight = shut_is ∙ ap shut_by shows in
+    let shown' : d.shown ≡ shown_by sight = shown_is ∙ ap shown_by shows_is in
+    let shut' : d.shut ≡ shut_of sight = shut_is ∙ ap shut_of shows_is in
     subst (λ (x : ServerPart × ℕ × ℕ × Option ℕ × ℕ × Option (ℕ × ℕ)). Keeps x.0 x.1 x.2 x.3 x.4 x.5) (λ i. (sym is i, sym flush_is i, sym front_is i, sym shown' i, sym consumed_is i, sym shut' i)) done
 
 -- ## Words that do not fit

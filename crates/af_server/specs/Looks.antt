@@ -6,26 +6,14 @@ use Rattle.af_base.specs.declared.seen.Seen.{Seen}
 use Rattle.af_base.specs.declared.seen.Seen.TheVariants as seen
 use Rattle.af_base.specs.Sample.{packed_word}
 use Rattle.af_model.specs.Room.{ahead}
-use Rattle.af_model.specs.ServerCalls.{Sight, frames, empty, flushed, shut, look_at, look_events, shown_by}
+use Rattle.af_model.specs.ServerCalls.{look_at, look_events, shown_by}
 use Rattle.af_cblk.specs.declared.view.ServerPart.{ServerPart}
-use Rattle.af_cblk.specs.Parts.{saw_flush, saw_rear, server_saw_front, dropped}
+use Rattle.af_cblk.specs.Parts.{saw_flush, saw_rear, server_saw_front}
 use Rattle.af_cblk.specs.Sides.{ServerSide}
 use Rattle.af_server.specs.declared.look.Look.{Look}
 use Rattle.af_server.specs.Order.{ServerState}
 
 -- ## Looking
-
--- what a look answers, by what it shows
-abbrev pub seen_of : Sight → Seen
-seen_of (frames count) = seen.Frames count
-seen_of empty = seen.Empty
-seen_of (flushed count) = seen.Flushed count
-seen_of (shut front rear) = seen.Shut front rear
-
--- the words that shut a proxy, where a look shows that they do not fit the block
-abbrev pub shut_by : Sight → Option (ℕ × ℕ)
-shut_by (shut front rear) = Some (front, rear)
-shut_by _ = None
 
 -- A look answers by the three words that it sees, the flush count kept before, and the frames asked for, and adds the events of that. A proxy that was shut answers the words that shut it, and adds none
 abbrev pub Looks : ServerState → ℕ → Look → ServerState → Type 0
@@ -33,16 +21,11 @@ Looks c asked look d =
     MatchOption c.shut
     (
       (front : ℕ)
-      × (let sight = look_at c.pass.part.shape.frames c.flush asked look.flush look.rear front in
-      (look.seen ≡ seen_of sight) × (d.shown ≡ shown_by sight) × (d.pass.part.events ≡ c.pass.part.events ++ look_events sight look.flush look.rear front)))
+      × (let shows = look_at c.pass.part.shape.frames c.flush asked look.flush look.rear front in
+      (look.seen ≡ shows) × (d.shown ≡ shown_by shows) × (d.pass.part.events ≡ c.pass.part.events ++ look_events shows look.flush look.rear front)))
     (λ words. (look.seen ≡ seen.Shut words.0 words.1) × (look.flush ≡ c.flush) × (look.rear ≡ words.1) × (d ≡ (record c { shown = None })))
 
 -- ## What a look's answer tells
-
--- how many frames may be taken after it
-abbrev pub shown_of : Seen → Option ℕ
-shown_of (seen.Frames count) = Some count
-shown_of _ = None
 
 -- the words that shut the proxy, if the look found or finds it shut
 abbrev pub shut_of : Seen → Option (ℕ × ℕ)
@@ -77,11 +60,6 @@ ShutIs size _ = Unit {0}
 -- flush, rear and front were seen
 abbrev pub saw_all : ServerPart → ℕ → ℕ → ℕ → ServerPart
 saw_all s flush rear front = server_saw_front (saw_rear (saw_flush s flush) rear) front
-
--- all frames up to that rear are discarded where a new flush was seen
-abbrev pub after_look : ServerPart → Sight → ℕ → ℕ → ℕ → ServerPart
-after_look s (flushed count) flush rear front = dropped (saw_all s flush rear front) rear
-after_look s _ flush rear front = saw_all s flush rear front
 
 -- the words of these frames were loaded, and else the server is as before
 abbrev pub Reads : ServerSide → ServerSide → List Frame → Type 0

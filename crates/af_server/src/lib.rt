@@ -2,9 +2,13 @@
 #![tactic(auto)]
 
 mod look;
+mod meet;
 mod server;
 mod take;
 mod words;
 
 pub use look::Look;
 pub use server::{MOST_CONSUMED, Server};
+
+#[cfg(test)]
+mod tests;

@@ -5,7 +5,7 @@ ghost use Rattle.af_model.specs.ServerCalls.{look_at, shown_by};
 ghost use Rattle.af_cblk.specs.Parts.{MayStoreFront, front_stored};
 ghost use Rattle.af_cblk.specs.Sides.{server_made, ServerIs};
 ghost use Rattle.af_server.specs.Order.{IsInOrder, counted};
-ghost use Rattle.af_server.specs.Looks.{Looks, seen_of, shut_by, shown_of, shut_of, dropped_of, WithinAsk, look_steps, ShutIs, saw_all};
+ghost use Rattle.af_server.specs.Looks.{Looks, shut_of, dropped_of, WithinAsk, look_steps, ShutIs, saw_all};
 
 use crate::server::{Server, raised};
 use af_base::{Seen, Steps};
@@ -65,8 +65,8 @@ impl Server {
     fn judge(&mut self, size: u32, ask: u32, words: Words) -> Seen
         requires same { words.flush ≡ self.old.flush }
         requires open { (self.old.shown ≡ None) × (self.old.shut ≡ None) }
-        ensures seen { result ≡ seen_of (look_at size self.old.flush ask words.flush words.rear words.front) }
-        ensures kept { let sight = look_at size self.old.flush ask words.flush words.rear words.front in self.new ≡ (record self.old { shown = shown_by sight; shut = shut_by sight }) }
+        ensures seen { result ≡ look_at size self.old.flush ask words.flush words.rear words.front }
+        ensures kept { self.new ≡ (record self.old { shown = shown_by result; shut = shut_of result }) }
     {
         let Words { rear, front, .. } = words;
         let there = rear.wrapping_sub(front);
@@ -94,7 +94,7 @@ impl Server {
         ensures made { server_made self.new.pass ≡ block.now }
         ensures order { IsInOrder self.new }
         ensures looks { Looks self.old ask result self.new }
-        ensures kept { (self.new.flush ≡ result.flush) × (self.new.shown ≡ shown_of result.seen) × (self.new.shut ≡ shut_of result.seen) × (self.new.consumed ≡ counted (self.old.consumed + dropped_of result.seen)) }
+        ensures kept { (self.new.flush ≡ result.flush) × (self.new.shown ≡ shown_by result.seen) × (self.new.shut ≡ shut_of result.seen) × (self.new.consumed ≡ counted (self.old.consumed + dropped_of result.seen)) }
         ensures within { WithinAsk ask result.seen }
         ensures frames { (self.new.pass.part.frames ≡ self.old.pass.part.frames) × (self.new.pass.has_hand ≡ self.old.pass.has_hand) }
         ensures shut { ShutIs self.old.pass.part.shape.frames result.seen }

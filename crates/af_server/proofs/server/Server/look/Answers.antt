@@ -4,7 +4,7 @@ use Rattle.af_model.specs.ServerCalls.{look_at, shown_by}
 use Rattle.af_cblk.specs.Parts.{front_stored}
 use Rattle.af_cblk.specs.Sides.{Made, ServerSide}
 use Rattle.af_server.specs.Order.{ServerState, Keeps, counted}
-use Rattle.af_server.specs.Looks.{saw_all, shut_by}
+use Rattle.af_server.specs.Looks.{saw_all, shut_of}
 use Rattle.af_server.proofs.Kept.{rest_keeps}
 use Rattle.af_server.proofs.Looked.{discard_keeps, judge_keeps, shut_outside, LieOutside}
 use Rattle.af_server.proofs.server.Server.look.Goals as goal
@@ -46,12 +46,14 @@ returns-else-words-self-clause-order g c =
     let rear : ℕ = words.result.rear in
     let front : ℕ = words.result.front in
     let e = c.judge-seen.ensures.kept in
+    let size : c.frames.result ≡ old.pass.part.shape.frames = c.frames.ensures.value ∙ ap (λ (x : Made). x.shape.frames) (sym c.requires.made) in
+    let seen : c.judge-seen.result ≡ look_at old.pass.part.shape.frames old.flush c.args.ask flush rear front =
+        c.judge-seen.ensures.seen ∙ ap (λ (x : ℕ × ℕ). look_at x.0 x.1 c.args.ask flush rear front) (λ i. (size i, (c.self.view_is i).flush)) in
     let part : c.judge-seen.new.self.pass.part ≡ saw_all old.pass.part flush rear front =
         ap (λ (x : ServerState). x.pass.part) e ∙ ap (λ (x : ServerSide). x.part) words.ensures.saw ∙ ap (λ (x : ServerState). saw_all x.pass.part flush rear front) c.self.view_is in
-    let size : c.frames.result ≡ old.pass.part.shape.frames = c.frames.ensures.value ∙ ap (λ (x : Made). x.shape.frames) (sym c.requires.made) in
     let same : flush ≡ old.flush = c.if-words-self.false ∙ ap (λ (x : ServerState). x.flush) c.self.view_is in
     judge_keeps old c.judge-seen.new.self c.args.ask flush rear front c.requires.order none c.requires.some same part
     (ap (λ (x : ServerState). x.flush) e ∙ ap (λ (x : ServerState). x.flush) c.self.view_is) (ap (λ (x : ServerState). x.front) e)
-    (ap (λ (x : ServerState). x.shown) e ∙ ap (λ (x : ℕ × ℕ). shown_by (look_at x.0 x.1 c.args.ask flush rear front)) (λ i. (size i, (c.self.view_is i).flush)))
+    (ap (λ (x : ServerState). x.shown) e ∙ ap shown_by seen)
     (ap (λ (x : ServerState). x.consumed) e ∙ ap (λ (x : ServerState). x.consumed) c.self.view_is)
-    (ap (λ (x : ServerState). x.shut) e ∙ ap (λ (x : ℕ × ℕ). shut_by (look_at x.0 x.1 c.args.ask flush rear front)) (λ i. (size i, (c.self.view_is i).flush)))
+    (ap (λ (x : ServerState). x.shut) e ∙ ap shut_of seen)
