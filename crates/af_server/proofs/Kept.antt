@@ -1,9 +1,9 @@
 -- Lists that calls spell, and the values that they give.
-use Rattle.std.proofs.Common.{◌≡◌, ℕ, ◌+◌, ◌≤◌, min, true, false, Option, Some, None, MatchOption, fold, List, [], ◌∷◌, ◌++◌, length, refl, sym, ap, ◌∙◌, subst, arith, append_assoc}
+use Rattle.std.proofs.Common.{◌≡◌, ℕ, ◌≤◌, Option, Some, None, MatchOption, fold, List, [], ◌∷◌, ◌++◌, refl, sym, ap, ◌∙◌, subst, append_assoc}
 use Rattle.std.proofs.lemmas.Grind.{fold-append}
 use Rattle.af_base.specs.declared.event.ServerEvent.{ServerEvent}
 use Rattle.af_base.specs.declared.event.ServerEvent.TheVariants as server
-use Rattle.af_model.specs.ServerCalls.{ServerKept, server_keeps, server_begins, server_kept, IsServerList, begins, reads_gains, tallies, sets_flags, sets_status, rests, meets}
+use Rattle.af_model.specs.ServerCalls.{ServerKept, server_keeps, server_begins, server_kept, IsServerList, begins, tallies, rests, meets}
 use Rattle.af_cblk.specs.declared.view.ServerPart.{ServerPart}
 use Rattle.af_cblk.specs.declared.view.Shape.{Shape}
 use Rattle.af_cblk.specs.Parts.{server_did}
@@ -15,7 +15,7 @@ use Rattle.af_server.specs.Order.{ServerState, Keeps, IsReady, kept_of, counted,
 pub new_keeps : (k : Shape) (s : ServerPart) (front : ℕ) → s ≡ new_server k → Keeps s 0 front None 0 None
 new_keeps k s front new =
     subst (λ (x : ServerPart). Keeps x 0 front None 0 None) (sym new) (
-        record { spelled = begins; flush_is = refl; seen_is = refl; settled = refl; consumed_is = refl; shut_is = refl; ready = tt })
+    record { spelled = begins; flush_is = refl; seen_is = refl; settled = refl; consumed_is = refl; shut_is = refl; ready = tt })
 
 -- the values that a list gives, after further events
 pub kept-more : (size base : ℕ) (es more : List ServerEvent) → server_kept size base (es ++ more) ≡ fold (server_keeps size) (server_kept size base es) more
@@ -54,21 +54,21 @@ tally_keeps c i mid pass missing k some opened first second =
     let list : IsServerList s.shape.frames s.shape.base None (s.events ++ server.Tally missing ∷ server.SetFlags 1 ∷ []) = tallies s.events c.shown missing k.spelled some in
     let same : (s.events ++ server.Tally missing ∷ []) ++ server.SetFlags 1 ∷ [] ≡ s.events ++ server.Tally missing ∷ server.SetFlags 1 ∷ [] = append_assoc s.events (server.Tally missing ∷ []) (server.SetFlags 1 ∷ []) in
     let kept : kept_of (server_did t (server.SetFlags 1)) ≡ kept_of s =
-        kept-more s.shape.frames s.shape.base (s.events ++ server.Tally missing ∷ []) (server.SetFlags 1 ∷ []) ∙ kept-more s.shape.frames s.shape.base s.events (server.Tally missing ∷ []) in
+    kept-more s.shape.frames s.shape.base (s.events ++ server.Tally missing ∷ []) (server.SetFlags 1 ∷ []) ∙ kept-more s.shape.frames s.shape.base s.events (server.Tally missing ∷ []) in
     let done : Keeps (server_did t (server.SetFlags 1)) c.flush c.front None c.consumed c.shut =
-        record {
-          spelled = subst (λ (es : List ServerEvent). IsServerList s.shape.frames s.shape.base None es) (sym same) list;
-          flush_is = k.flush_is ∙ sym (ap (λ (x : ServerKept). x.flush) kept);
-          seen_is = k.seen_is ∙ sym (ap (λ (x : ServerKept). x.flush) kept);
-          settled = k.settled;
-          consumed_is = k.consumed_is ∙ sym (ap (λ (x : ServerKept). counted x.consumed) kept);
-          shut_is = k.shut_is ∙ sym (ap (λ (x : ServerKept). x.shut) kept);
-          ready = tt;
-        } in
+    record {
+      spelled = subst (λ (es : List ServerEvent). IsServerList s.shape.frames s.shape.base None es) (sym same) list;
+      flush_is = k.flush_is ∙ sym (ap (λ (x : ServerKept). x.flush) kept);
+      seen_is = k.seen_is ∙ sym (ap (λ (x : ServerKept). x.flush) kept);
+      settled = k.settled;
+      consumed_is = k.consumed_is ∙ sym (ap (λ (x : ServerKept). counted x.consumed) kept);
+      shut_is = k.shut_is ∙ sym (ap (λ (x : ServerKept). x.shut) kept);
+      ready = tt;
+    } in
     let there : Keeps (server_did (server_did i.pass.part (server.Tally missing)) (server.SetFlags 1)) i.flush i.front None i.consumed i.shut =
-        subst (λ (x : ServerState). Keeps (server_did (server_did x.pass.part (server.Tally missing)) (server.SetFlags 1)) x.flush x.front None x.consumed x.shut) (sym opened) done in
+    subst (λ (x : ServerState). Keeps (server_did (server_did x.pass.part (server.Tally missing)) (server.SetFlags 1)) x.flush x.front None x.consumed x.shut) (sym opened) done in
     let parts : pass.part ≡ server_did (server_did i.pass.part (server.Tally missing)) (server.SetFlags 1) =
-        ap (λ (x : ServerSide). x.part) second ∙ ap (λ (x : ServerSide). server_did x.part (server.SetFlags 1)) first in
+    ap (λ (x : ServerSide). x.part) second ∙ ap (λ (x : ServerSide). server_did x.part (server.SetFlags 1)) first in
     subst (λ (x : ServerPart). Keeps x i.flush i.front None i.consumed i.shut) (sym parts) there
 
 -- nothing is shown any more
@@ -94,12 +94,12 @@ pub met_keeps : (s t : ServerPart) (flush front : ℕ) (shown : Option ℕ) (con
 met_keeps s t flush front shown consumed shut count k is =
     let now : kept_of (server_did s (server.Learn count)) ≡ kept_of s = kept-more s.shape.frames s.shape.base s.events (server.Learn count ∷ []) in
     subst (λ (x : ServerPart). Keeps x flush front shown consumed shut) (sym is) (
-        record {
-          spelled = meets s.events shown count k.spelled;
-          flush_is = k.flush_is ∙ sym (ap (λ (x : ServerKept). x.flush) now);
-          seen_is = k.seen_is ∙ sym (ap (λ (x : ServerKept). x.flush) now);
-          settled = k.settled;
-          consumed_is = k.consumed_is ∙ sym (ap (λ (x : ServerKept). counted x.consumed) now);
-          shut_is = k.shut_is ∙ sym (ap (λ (x : ServerKept). x.shut) now);
-          ready = still_ready s front shown (server.Learn count) k.ready;
-        })
+    record {
+      spelled = meets s.events shown count k.spelled;
+      flush_is = k.flush_is ∙ sym (ap (λ (x : ServerKept). x.flush) now);
+      seen_is = k.seen_is ∙ sym (ap (λ (x : ServerKept). x.flush) now);
+      settled = k.settled;
+      consumed_is = k.consumed_is ∙ sym (ap (λ (x : ServerKept). counted x.consumed) now);
+      shut_is = k.shut_is ∙ sym (ap (λ (x : ServerKept). x.shut) now);
+      ready = still_ready s front shown (server.Learn count) k.ready;
+    })

@@ -1,5 +1,5 @@
 -- What a look leaves in order.
-use Rattle.std.proofs.Common.{◌≡◌, ◌≢◌, ℕ, ◌+◌, ◌-◌, ◌≤◌, ◌<◌, min, Bool, true, false, true≢false, not, nat_lt, ◌==◌, ◌||◌, if◌then◌else◌, MatchOption, Option, Some, None, fold, List, [], ◌∷◌, ◌++◌, refl, sym, ap, ◌∙◌, subst, arith, append_assoc, eq-eqb, ne_eqb}
+use Rattle.std.proofs.Common.{◌≡◌, ◌≢◌, ℕ, ◌+◌, ◌≤◌, ◌<◌, min, Bool, true, false, true≢false, not, nat_lt, ◌==◌, ◌||◌, if◌then◌else◌, MatchOption, Option, Some, None, fold, List, [], ◌∷◌, ◌++◌, refl, sym, ap, ◌∙◌, subst, arith, append_assoc, eq-eqb, ne_eqb}
 use Rattle.af_base.specs.declared.event.ServerEvent.{ServerEvent}
 use Rattle.af_base.specs.declared.event.ServerEvent.TheVariants as server
 use Rattle.af_base.specs.declared.seen.Seen.{Seen}
@@ -7,7 +7,6 @@ use Rattle.af_base.specs.declared.seen.Seen.TheVariants as seen
 use Rattle.af_model.specs.Room.{ahead, outside}
 use Rattle.af_model.specs.ServerCalls.{ServerKept, server_keeps, server_begins, server_kept, look_at, drops_of, look_events, shown_by, IsServerList, looks}
 use Rattle.af_cblk.specs.declared.view.ServerPart.{ServerPart}
-use Rattle.af_cblk.specs.declared.view.Shape.{Shape}
 use Rattle.af_cblk.specs.Parts.{front_stored, dropped, took, MayStoreFront}
 use Rattle.af_server.specs.Order.{ServerState, Keeps, IsReady, kept_of, counted, IsInOrder}
 use Rattle.af_server.specs.Looks.{shut_of, saw_all}
@@ -80,19 +79,19 @@ discard_keeps c d asked flush rear front k unshut some new part flush_is shown_i
     let more : List ServerEvent = server.SawFlush flush ∷ server.SawRear rear ∷ server.SawFront front ∷ server.Drop rear ∷ [] in
     let events : (dropped t rear).events ≡ s.events ++ more = four s.events (server.SawFlush flush) (server.SawRear rear) (server.SawFront front) (server.Drop rear) in
     let spelled : IsServerList size base None (s.events ++ more) =
-        subst (λ (sight : Seen). IsServerList size base (shown_by sight) (s.events ++ look_events sight flush rear front)) (look-flushed size kept.flush asked flush rear front differs) (
-            looks s.events c.shown asked flush rear front k.spelled (sym k.shut_is ∙ unshut) some) in
+    subst (λ (sight : Seen). IsServerList size base (shown_by sight) (s.events ++ look_events sight flush rear front)) (look-flushed size kept.flush asked flush rear front differs) (
+    looks s.events c.shown asked flush rear front k.spelled (sym k.shut_is ∙ unshut) some) in
     let gives : server_kept size base (dropped t rear).events ≡ fold (server_keeps size) kept more = ap (server_kept size base) events ∙ kept-more size base s.events more in
     let done : Keeps (dropped t rear) flush d.front None (counted (c.consumed + ahead front rear)) None =
-        record {
-          spelled = subst (λ (es : List ServerEvent). IsServerList size base None es) (sym events) spelled;
-          flush_is = sym (ap (λ (x : ServerKept). x.flush) gives);
-          seen_is = sym (ap (λ (x : ServerKept). x.flush) gives);
-          settled = refl;
-          consumed_is = ap (λ (n : ℕ). counted (n + ahead front rear)) k.consumed_is ∙ fewer 9223372036854775807 kept.consumed (ahead front rear) ∙ sym (ap (λ (x : ServerKept). counted x.consumed) gives);
-          shut_is = sym (ap (λ (b : Bool). if not b then None else outside size front rear) other) ∙ sym (ap (λ (x : ServerKept). x.shut) gives);
-          ready = tt;
-        } in
+    record {
+      spelled = subst (λ (es : List ServerEvent). IsServerList size base None es) (sym events) spelled;
+      flush_is = sym (ap (λ (x : ServerKept). x.flush) gives);
+      seen_is = sym (ap (λ (x : ServerKept). x.flush) gives);
+      settled = refl;
+      consumed_is = ap (λ (n : ℕ). counted (n + ahead front rear)) k.consumed_is ∙ fewer 9223372036854775807 kept.consumed (ahead front rear) ∙ sym (ap (λ (x : ServerKept). counted x.consumed) gives);
+      shut_is = sym (ap (λ (b : Bool). if not b then None else outside size front rear) other) ∙ sym (ap (λ (x : ServerKept). x.shut) gives);
+      ready = tt;
+    } in
     subst (λ (x : ServerPart × ℕ × Option ℕ × ℕ × Option (ℕ × ℕ)). Keeps x.0 x.1 d.front x.2 x.3 x.4) (λ i. (sym is i, sym flush_is i, sym shown_is i, sym consumed_is i, sym shut_is i)) done
 
 -- ## No new flush
@@ -118,23 +117,23 @@ judge_keeps c d asked flush rear front k unshut some same is flush_is front_is s
     let events : t.events ≡ s.events ++ more = three s.events (server.SawFlush flush) (server.SawRear rear) (server.SawFront front) in
     let none : drops_of sight rear ≡ [] = no_drops (nat_lt size (ahead front rear)) (rear == front) front rear (min asked (ahead front rear)) in
     let looked : IsServerList size base (shown_by sight) (s.events ++ look_events sight flush rear front) =
-        subst (λ (x : Seen). IsServerList size base (shown_by x) (s.events ++ look_events x flush rear front)) (look-judged size kept.flush asked flush rear front old) (
-            looks s.events c.shown asked flush rear front k.spelled (sym k.shut_is ∙ unshut) some) in
+    subst (λ (x : Seen). IsServerList size base (shown_by x) (s.events ++ look_events x flush rear front)) (look-judged size kept.flush asked flush rear front old) (
+    looks s.events c.shown asked flush rear front k.spelled (sym k.shut_is ∙ unshut) some) in
     let spelled : IsServerList size base (shown_by sight) (s.events ++ more) =
-        subst (λ (l : List ServerEvent). IsServerList size base (shown_by sight) (s.events ++ server.SawFlush flush ∷ server.SawRear rear ∷ server.SawFront front ∷ l)) none looked in
+    subst (λ (l : List ServerEvent). IsServerList size base (shown_by sight) (s.events ++ server.SawFlush flush ∷ server.SawRear rear ∷ server.SawFront front ∷ l)) none looked in
     let gives : server_kept size base t.events ≡ fold (server_keeps size) kept more = ap (server_kept size base) events ∙ kept-more size base s.events more in
     let ready : IsReady t front (min asked (ahead front rear)) = record { fresh = refl; front_is = refl; none_loaded = refl; within = (let e : min asked (ahead front rear) ≤ ahead front rear = omega arith in e) } in
     let done : Keeps t c.flush front (shown_by sight) c.consumed (shut_of sight) =
-        record {
-          spelled = subst (λ (es : List ServerEvent). IsServerList size base (shown_by sight) es) (sym events) spelled;
-          flush_is = sym same ∙ sym (ap (λ (x : ServerKept). x.flush) gives);
-          seen_is = sym (ap (λ (x : ServerKept). x.flush) gives);
-          settled = noticed_is s flush rear front true k.settled (ap (λ (n : ℕ). flush == n) k.seen_is ∙ equal);
-          consumed_is = k.consumed_is ∙ sym (ap (λ (x : ServerKept). counted x.consumed) gives);
-          shut_is = shut_as (nat_lt size (ahead front rear)) (rear == front) front rear (min asked (ahead front rear))
-              ∙ sym (ap (λ (b : Bool). if not b then None else outside size front rear) equal) ∙ sym (ap (λ (x : ServerKept). x.shut) gives);
-          ready = ready_as t (nat_lt size (ahead front rear)) (rear == front) front rear (min asked (ahead front rear)) ready;
-        } in
+    record {
+      spelled = subst (λ (es : List ServerEvent). IsServerList size base (shown_by sight) es) (sym events) spelled;
+      flush_is = sym same ∙ sym (ap (λ (x : ServerKept). x.flush) gives);
+      seen_is = sym (ap (λ (x : ServerKept). x.flush) gives);
+      settled = noticed_is s flush rear front true k.settled (ap (λ (n : ℕ). flush == n) k.seen_is ∙ equal);
+      consumed_is = k.consumed_is ∙ sym (ap (λ (x : ServerKept). counted x.consumed) gives);
+      shut_is = shut_as (nat_lt size (ahead front rear)) (rear == front) front rear (min asked (ahead front rear))
+          ∙ sym (ap (λ (b : Bool). if not b then None else outside size front rear) equal) ∙ sym (ap (λ (x : ServerKept). x.shut) gives);
+      ready = ready_as t (nat_lt size (ahead front rear)) (rear == front) front rear (min asked (ahead front rear)) ready;
+    } in
     let shown' : d.shown ≡ shown_by sight = shown_is ∙ ap shown_by shows_is in
     let shut' : d.shut ≡ shut_of sight = shut_is ∙ ap shut_of shows_is in
     subst (λ (x : ServerPart × ℕ × ℕ × Option ℕ × ℕ × Option (ℕ × ℕ)). Keeps x.0 x.1 x.2 x.3 x.4 x.5) (λ i. (sym is i, sym flush_is i, sym front_is i, sym shown' i, sym consumed_is i, sym shut' i)) done

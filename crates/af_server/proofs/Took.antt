@@ -1,8 +1,7 @@
 -- What a take leaves in order.
-use Rattle.std.proofs.Common.{◌≡◌, ℕ, ◌+◌, ◌-◌, ◌%◌, ◌^◌, ◌≤◌, ◌<◌, min, Bool, true, false, true≢false, if◌then◌else◌, Option, Some, None, List, [], ◌∷◌, ◌++◌, length, take, map, set, get_or, refl, sym, ap, ◌∙◌, subst, arith, eq-eqb, length-take-le, mod-eq_of_lt}
-use Rattle.std.proofs.lemmas.List.{take-map, length-map, take_more_set, map-append}
+use Rattle.std.proofs.Common.{◌≡◌, ℕ, ◌+◌, ◌%◌, ◌^◌, ◌≤◌, ◌<◌, min, Bool, true, false, true≢false, if◌then◌else◌, Option, Some, None, List, [], ◌∷◌, ◌++◌, length, take, map, set, refl, sym, ap, ◌∙◌, subst, arith, eq-eqb, length-take-le}
+use Rattle.std.proofs.lemmas.List.{length-map, take_more_set, map-append}
 use Rattle.af_base.specs.declared.frame.Frame.{Frame}
-use Rattle.af_base.specs.declared.event.ServerEvent.{ServerEvent}
 use Rattle.af_base.specs.declared.event.ServerEvent.TheVariants as server
 use Rattle.af_base.specs.Sample.{packed_word}
 use Rattle.af_model.specs.Point.{wrapped}
@@ -31,7 +30,7 @@ reads_on p q r into i position word cells frame before here sized is packed saw 
     let count : length words ≡ i = length-map (take i into) packed_word ∙ length-take-le i into (omega arith) in
     let next : saw_cell s (position % cells) word ≡ (record s { loaded = words ++ word ∷ [] }) = saw_next s cells position word size (is ∙ ap (λ (n : ℕ). wrapped (p.part.front + n)) (sym count)) in
     let more : words ++ word ∷ [] ≡ map packed_word (take (i + 1) (set into i frame)) =
-        ap (λ (w : ℕ). words ++ w ∷ []) (sym packed) ∙ sym (map-append packed_word (take i into) (frame ∷ [])) ∙ ap (map packed_word) (sym (take_more_set into i frame here)) in
+    ap (λ (w : ℕ). words ++ w ∷ []) (sym packed) ∙ sym (map-append packed_word (take i into) (frame ∷ [])) ∙ ap (map packed_word) (sym (take_more_set into i frame here)) in
     saw ∙ ap (λ (x : ServerSide). record x { part = saw_cell x.part (position % cells) word }) before ∙ ap (λ (x : ServerPart). record p { part = x }) next ∙ ap (λ (l : List ℕ). record p { part = record p.part { loaded = l } }) more
 
 -- ## Front raised by what was loaded
@@ -73,14 +72,14 @@ pub take_keeps : (c : ServerState) (q : ServerPart) (front n consumed : ℕ) (wo
 take_keeps c q front n consumed words k shown is count =
     let s : ServerPart = c.pass.part in
     let now : kept_of (record s { events = s.events ++ server.Take n ∷ []; frames = s.frames ++ words; front = front; fresh = false; loaded = [] }) ≡ (record (kept_of s) { consumed = (kept_of s).consumed + n }) =
-        kept-more s.shape.frames s.shape.base s.events (server.Take n ∷ []) in
+    kept-more s.shape.frames s.shape.base s.events (server.Take n ∷ []) in
     subst (λ (x : ServerPart). Keeps x c.flush c.front None consumed c.shut) (sym is) (
-        record {
-          spelled = takes s.events n (subst (λ (o : Option ℕ). IsServerList s.shape.frames s.shape.base o s.events) shown k.spelled);
-          flush_is = k.flush_is ∙ sym (ap (λ (x : ServerKept). x.flush) now);
-          seen_is = k.seen_is ∙ sym (ap (λ (x : ServerKept). x.flush) now);
-          settled = k.settled;
-          consumed_is = count ∙ ap (λ (z : ℕ). counted (z + n)) k.consumed_is ∙ fewer 9223372036854775807 (kept_of s).consumed n ∙ sym (ap (λ (x : ServerKept). counted x.consumed) now);
-          shut_is = k.shut_is ∙ sym (ap (λ (x : ServerKept). x.shut) now);
-          ready = tt;
-        })
+    record {
+      spelled = takes s.events n (subst (λ (o : Option ℕ). IsServerList s.shape.frames s.shape.base o s.events) shown k.spelled);
+      flush_is = k.flush_is ∙ sym (ap (λ (x : ServerKept). x.flush) now);
+      seen_is = k.seen_is ∙ sym (ap (λ (x : ServerKept). x.flush) now);
+      settled = k.settled;
+      consumed_is = count ∙ ap (λ (z : ℕ). counted (z + n)) k.consumed_is ∙ fewer 9223372036854775807 (kept_of s).consumed n ∙ sym (ap (λ (x : ServerKept). counted x.consumed) now);
+      shut_is = k.shut_is ∙ sym (ap (λ (x : ServerKept). x.shut) now);
+      ready = tt;
+    })

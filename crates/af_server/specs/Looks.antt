@@ -1,5 +1,5 @@
 -- What a look and a take of a server's proxy come to.
-use Rattle.std.specs.Prelude.{◌≡◌, ℕ, ◌+◌, ◌<◌, ◌≤◌, is_some, if◌then◌else◌, MatchOption, Option, Some, None, List, ◌++◌, ◌∷◌, [], map, take, length}
+use Rattle.std.specs.Prelude.{◌≡◌, ℕ, ◌<◌, ◌≤◌, is_some, if◌then◌else◌, MatchOption, Option, Some, None, List, ◌++◌, ◌∷◌, [], map, length}
 use Rattle.af_base.specs.declared.event.ServerEvent.TheVariants as server
 use Rattle.af_base.specs.declared.frame.Frame.{Frame}
 use Rattle.af_base.specs.declared.seen.Seen.{Seen}
@@ -20,9 +20,9 @@ abbrev pub Looks : ServerState → ℕ → Look → ServerState → Type 0
 Looks c asked look d =
     MatchOption c.shut
     (
-      (front : ℕ)
-      × (let shows = look_at c.pass.part.shape.frames c.flush asked look.flush look.rear front in
-      (look.seen ≡ shows) × (d.shown ≡ shown_by shows) × (d.pass.part.events ≡ c.pass.part.events ++ look_events shows look.flush look.rear front)))
+    (front : ℕ)
+    × (let shows = look_at c.pass.part.shape.frames c.flush asked look.flush look.rear front in
+    (look.seen ≡ shows) × (d.shown ≡ shown_by shows) × (d.pass.part.events ≡ c.pass.part.events ++ look_events shows look.flush look.rear front)))
     (λ words. (look.seen ≡ seen.Shut words.0 words.1) × (look.flush ≡ c.flush) × (look.rear ≡ words.1) × (d ≡ (record c { shown = None })))
 
 -- ## What a look's answer tells

@@ -95,8 +95,7 @@ fn ask_client<L: Ledger>(
         }
         Call::Clear => Answer::Word(client.clear_disabled(block, steps)),
         Call::Send(code, argument)
-            if block.frames() == 128 && block.base() == 0 && client.released() < 1000 =>
-        {
+            if block.frames() == 128 && block.base() == 0 && client.released() < 1000 => {
             Answer::Sent(client.send(block, code, argument, steps))
         }
         Call::Status => Answer::Word(client.status(block, steps)),
@@ -168,7 +167,31 @@ fn is_server(call: &Call) -> bool {
     )
 }
 
-// Whether the calls on a new block answer as the table says.
+// Whether the calls answer as the table says.
+fn all_answer<L: Ledger>(
+    block: &Block,
+    mut client: Client,
+    mut server: Server,
+    table: &[(Call, Answer)],
+    steps: &mut Steps<L>,
+) -> bool
+    requires made { (client_made client.pass ≡ block.now) × (server_made server.pass ≡ block.now) }
+    requires order { IsClientInOrder client × IsInOrder server }
+{
+    for (call, answer) in table {
+        let found = if is_server(call) {
+            ask_server(block, &mut server, call, steps)
+        } else {
+            ask_client(block, &mut client, call, steps)
+        };
+        if found != *answer {
+            return false;
+        }
+    }
+    true
+}
+
+// The same on a new block.
 fn plays_in<L: Ledger>(
     blank: Blank,
     alloc: Global,
@@ -181,19 +204,9 @@ fn plays_in<L: Ledger>(
 {
     let mut steps = Steps::<L>::start(blank);
     let (block, client, server) = Block::make(alloc, frames, base)?;
-    let mut client = Client::with(client, &block);
-    let mut server = Server::with(server, &block);
-    for (call, answer) in table {
-        let found = if is_server(call) {
-            ask_server(&block, &mut server, call, &mut steps)
-        } else {
-            ask_client(&block, &mut client, call, &mut steps)
-        };
-        if found != *answer {
-            return Ok(false);
-        }
-    }
-    Ok(true)
+    let client = Client::with(client, &block);
+    let server = Server::with(server, &block);
+    Ok(all_answer(&block, client, server, table, &mut steps))
 }
 
 fn plays(alloc: Global, frames: u32, base: u32, table: &[(Call, Answer)]) -> Result<bool, Memory>
@@ -305,30 +318,38 @@ fn a_client_that_pokes_shuts_both(rt: HostRuntime) {
     assert!(rt; plays(rt.alloc(), 4, 0, &table) == Ok(true));
 }
 
-// Sends as many commands as there is room for on a command block.
+// Whether so many commands are sent, each at front 0.
+fn all_sent<L: Ledger>(block: &Block, client: &mut Client, count: u32, steps: &mut Steps<L>) -> bool
+    requires made { client_made client.old.pass ≡ block.now }
+    requires order { IsClientInOrder client.old }
+    ensures made { client_made client.new.pass ≡ block.now }
+    ensures order { IsClientInOrder client.new }
+{
+    let mut all = true;
+    for _ in 0..count {
+        let answer = ask_client(block, client, &Call::Send(1, 0), steps);
+        all = all && answer == Answer::Sent(Sent::Sent { front: 0 });
+    }
+    all
+}
+
+// Fills a command block, and goes on once the server took a command.
 fn commands_in<L: Ledger>(blank: Blank, alloc: Global) -> Result<bool, Memory>
     requires { (blank.name ≡ L.name) × (blank.parts ≡ L.parts) × (0 < blank.parts) }
 {
     let mut steps = Steps::<L>::start(blank);
     let (block, client, server) = Block::make(alloc, 128, 0)?;
     let mut client = Client::with(client, &block);
-    let mut server = Server::with(server, &block);
-    let sent = |front| Answer::Sent(Sent::Sent { front });
-    let mut all_sent = true;
-    for _ in 0..64 {
-        let answer = ask_client(&block, &mut client, &Call::Send(1, 0), &mut steps);
-        all_sent = all_sent && answer == sent(0);
-    }
-    let full = ask_client(&block, &mut client, &Call::Send(1, 0), &mut steps);
-    let taken = ask_server(&block, &mut server, &Call::Take(2), &mut steps);
-    ask_server(&block, &mut server, &Call::SetStatus(514), &mut steps);
-    let status = ask_client(&block, &mut client, &Call::Status, &mut steps);
-    let last = ask_client(&block, &mut client, &Call::Send(2, 0), &mut steps);
-    Ok(all_sent
-        && full == Answer::Sent(Sent::Full { front: 0 })
-        && taken == took(2, [1, 0, 0])
-        && status == Answer::Word(514)
-        && last == sent(2))
+    let server = Server::with(server, &block);
+    let sent = all_sent(&block, &mut client, 64, &mut steps);
+    let table = [
+        (Call::Send(1, 0), Answer::Sent(Sent::Full { front: 0 })),
+        (Call::Take(2), took(2, [1, 0, 0])),
+        (Call::SetStatus(514), Answer::Done),
+        (Call::Status, Answer::Word(514)),
+        (Call::Send(2, 0), Answer::Sent(Sent::Sent { front: 2 })),
+    ];
+    Ok(sent && all_answer(&block, client, server, &table, &mut steps))
 }
 
 #[test]

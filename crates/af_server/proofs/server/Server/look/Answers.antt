@@ -30,7 +30,7 @@ returns-then-words-self-clause-order g c =
     let front : ℕ = words.result.front in
     let e = c.discard-seen.ensures in
     let part : c.discard-seen.new.self.pass.part ≡ front_stored (saw_all old.pass.part flush rear front) rear =
-        ap (λ (x : ServerSide). x.part) e.pass ∙ ap (λ (x : ServerSide). front_stored x.part rear) words.ensures.saw ∙ ap (λ (x : ServerState). front_stored (saw_all x.pass.part flush rear front) rear) c.self.view_is in
+    ap (λ (x : ServerSide). x.part) e.pass ∙ ap (λ (x : ServerSide). front_stored x.part rear) words.ensures.saw ∙ ap (λ (x : ServerState). front_stored (saw_all x.pass.part flush rear front) rear) c.self.view_is in
     let new : flush ≢ old.flush = (λ q. c.if-words-self.true (q ∙ sym (ap (λ (x : ServerState). x.flush) c.self.view_is))) in
     discard_keeps old c.discard-seen.new.self c.args.ask flush rear front c.requires.order none c.requires.some new part
     (ap (λ (x : ServerState). x.flush) e.kept) (ap (λ (x : ServerState). x.shown) e.kept)
@@ -48,9 +48,9 @@ returns-else-words-self-clause-order g c =
     let e = c.judge-seen.ensures.kept in
     let size : c.frames.result ≡ old.pass.part.shape.frames = c.frames.ensures.value ∙ ap (λ (x : Made). x.shape.frames) (sym c.requires.made) in
     let seen : c.judge-seen.result ≡ look_at old.pass.part.shape.frames old.flush c.args.ask flush rear front =
-        c.judge-seen.ensures.seen ∙ ap (λ (x : ℕ × ℕ). look_at x.0 x.1 c.args.ask flush rear front) (λ i. (size i, (c.self.view_is i).flush)) in
+    c.judge-seen.ensures.seen ∙ ap (λ (x : ℕ × ℕ). look_at x.0 x.1 c.args.ask flush rear front) (λ i. (size i, (c.self.view_is i).flush)) in
     let part : c.judge-seen.new.self.pass.part ≡ saw_all old.pass.part flush rear front =
-        ap (λ (x : ServerState). x.pass.part) e ∙ ap (λ (x : ServerSide). x.part) words.ensures.saw ∙ ap (λ (x : ServerState). saw_all x.pass.part flush rear front) c.self.view_is in
+    ap (λ (x : ServerState). x.pass.part) e ∙ ap (λ (x : ServerSide). x.part) words.ensures.saw ∙ ap (λ (x : ServerState). saw_all x.pass.part flush rear front) c.self.view_is in
     let same : flush ≡ old.flush = c.if-words-self.false ∙ ap (λ (x : ServerState). x.flush) c.self.view_is in
     judge_keeps old c.judge-seen.new.self c.args.ask flush rear front c.requires.order none c.requires.some same part
     (ap (λ (x : ServerState). x.flush) e ∙ ap (λ (x : ServerState). x.flush) c.self.view_is) (ap (λ (x : ServerState). x.front) e)

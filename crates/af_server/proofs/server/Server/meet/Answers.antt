@@ -22,7 +22,7 @@ returns-clause-begins g c = λ lawful none.
     let told = c.meet.ensures.history lawful in
     let count : ℕ = length c.args.client.now.part.events in
     let same : c.meet.new.server.part ≡ server_did c.args.self.now.pass.part (server.Learn count) =
-        ap (λ (x : ServerSide). x.part) c.meet.ensures.server ∙ ap (λ (x : ServerState). server_did x.pass.part (server.Learn count)) c.self.view_is in
+    ap (λ (x : ServerSide). x.part) c.meet.ensures.server ∙ ap (λ (x : ServerState). server_did x.pass.part (server.Learn count)) c.self.view_is in
     let clean : drops_none c.meet.new.server.part.events ≡ true =
-        subst (λ (x : ServerPart). drops_none x.events ≡ true) (sym same) (drops_more c.args.self.now.pass.part.events (server.Learn count) refl none) in
+    subst (λ (x : ServerPart). drops_none x.events ≡ true) (sym same) (drops_more c.args.self.now.pass.part.events (server.Learn count) refl none) in
     taken_begins _ _ _ _ _ _ told.2 clean

@@ -26,7 +26,7 @@ returns-clause-order g c =
     let loaded : s ≡ (record p { loaded = words }) = ap (λ (x : ServerSide). x.part) c.load_frames.ensures.loaded ∙ ap (λ (x : ServerState). record x.pass.part { loaded = words }) view in
     let stored : c.store_front.new.pass.part ≡ front_stored s to = ap (λ (x : ServerSide). x.part) c.store_front.ensures.stored ∙ ap (λ (x : ServerState). front_stored s ((x.front + n) % 2 ^ 32)) view in
     let is : c.store_front.new.pass.part ≡ (record p { events = p.events ++ server.Take n ∷ []; frames = p.frames ++ words; front = to; fresh = false; loaded = [] }) =
-        stored ∙ took_is p s old.front n words ready small many c.requires.order.settled loaded in
+    stored ∙ took_is p s old.front n words ready small many c.requires.order.settled loaded in
     let count : c.raised-self-inside.result ≡ counted (old.consumed + n) = c.raised-self-inside.ensures ∙ ap (λ (x : ServerState). counted (x.consumed + n)) view in
     let done = take_keeps old c.store_front.new.pass.part to n c.raised-self-inside.result words c.requires.order c.requires.shown is count in
     subst (λ (x : ServerState). Keeps c.store_front.new.pass.part x.flush x.front None c.raised-self-inside.result x.shut) (sym view) done
