@@ -1,0 +1,13 @@
+use Rattle.std.proofs.Common.{◌≡◌, ℕ, ◌+◌, refl, ap, ◌∙◌}
+use Rattle.af_base.specs.declared.event.ClientCall.TheVariants as call
+use Rattle.af_base.specs.declared.event.ClientEvent.TheVariants as client
+use Rattle.af_model.specs.History.{flushes_of}
+use Rattle.af_client.specs.Order.{ClientState}
+use Rattle.af_client.proofs.Kept.{word_keeps}
+use Rattle.af_client.proofs.client.Client.flush.Goals as goal
+
+pub returns-clause-order : goal.returns-clause-order
+returns-clause-order g c =
+    let count : c.self.inside.flushes + 1 ≡ flushes_of c.args.self.now.pass.part.events + 1 =
+    ap (λ (x : ClientState). x.flushes + 1) c.self.view_is ∙ ap (λ (n : ℕ). n + 1) c.requires.order.flushes_are in
+    word_keeps c.args.self.now _ c.add_flush.new.pass (call.Flush (c.self.inside.flushes + 1)) client.Flush c.requires.order count refl refl c.self.view_is c.add_flush.ensures.flushed

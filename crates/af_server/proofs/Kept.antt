@@ -1,0 +1,105 @@
+-- Lists that calls spell, and the values that they give.
+use Rattle.std.proofs.Common.{◌≡◌, ℕ, ◌≤◌, Option, Some, None, MatchOption, fold, List, [], ◌∷◌, ◌++◌, refl, sym, ap, ◌∙◌, subst, append_assoc}
+use Rattle.std.proofs.lemmas.Grind.{fold-append}
+use Rattle.af_base.specs.declared.event.ServerEvent.{ServerEvent}
+use Rattle.af_base.specs.declared.event.ServerEvent.TheVariants as server
+use Rattle.af_model.specs.ServerCalls.{ServerKept, server_keeps, server_begins, server_kept, IsServerList, begins, tallies, rests, meets}
+use Rattle.af_cblk.specs.declared.view.ServerPart.{ServerPart}
+use Rattle.af_cblk.specs.declared.view.Shape.{Shape}
+use Rattle.af_cblk.specs.Parts.{server_did}
+use Rattle.af_cblk.specs.Rule.{new_server}
+use Rattle.af_cblk.specs.Sides.{ServerSide, ServerIs}
+use Rattle.af_server.specs.Order.{ServerState, Keeps, IsReady, kept_of, counted, IsInOrder}
+
+-- nothing was done yet
+pub new_keeps : (k : Shape) (s : ServerPart) (front : ℕ) → s ≡ new_server k → Keeps s 0 front None 0 None
+new_keeps k s front new =
+    subst (λ (x : ServerPart). Keeps x 0 front None 0 None) (sym new) (
+    record { spelled = begins; flush_is = refl; seen_is = refl; settled = refl; consumed_is = refl; shut_is = refl; ready = tt })
+
+-- the values that a list gives, after further events
+pub kept-more : (size base : ℕ) (es more : List ServerEvent) → server_kept size base (es ++ more) ≡ fold (server_keeps size) (server_kept size base es) more
+kept-more size base es more = fold-append (server_keeps size) (server_begins base) es more
+
+-- an event that changes no kept value
+quiet : (s : ServerPart) (flush front : ℕ) (shown : Option ℕ) (consumed : ℕ) (shut : Option (ℕ × ℕ)) (e : ServerEvent) → Keeps s flush front shown consumed shut
+    → server_keeps s.shape.frames (kept_of s) e ≡ kept_of s → IsServerList s.shape.frames s.shape.base None (s.events ++ e ∷ []) → Keeps (server_did s e) flush front None consumed shut
+quiet s flush front shown consumed shut e k same list =
+    let now : kept_of (server_did s e) ≡ kept_of s = kept-more s.shape.frames s.shape.base s.events (e ∷ []) ∙ same in
+    record {
+      spelled = list;
+      flush_is = k.flush_is ∙ sym (ap (λ (x : ServerKept). x.flush) now);
+      seen_is = k.seen_is ∙ sym (ap (λ (x : ServerKept). x.flush) now);
+      settled = k.settled;
+      consumed_is = k.consumed_is ∙ sym (ap (λ (x : ServerKept). counted x.consumed) now);
+      shut_is = k.shut_is ∙ sym (ap (λ (x : ServerKept). x.shut) now);
+      ready = tt;
+    }
+
+-- a call with one such event, on a value that was opened
+pub word_keeps : (c i : ServerState) (pass : ServerSide) (e : ServerEvent) → IsInOrder c → server_keeps c.pass.part.shape.frames (kept_of c.pass.part) e ≡ kept_of c.pass.part
+    → IsServerList c.pass.part.shape.frames c.pass.part.shape.base None (c.pass.part.events ++ e ∷ [])
+    → i ≡ c → ServerIs (server_did i.pass.part e) i.pass pass → Keeps pass.part i.flush i.front None i.consumed i.shut
+word_keeps c i pass e k same list opened did =
+    let now : Keeps (server_did c.pass.part e) c.flush c.front None c.consumed c.shut = quiet c.pass.part c.flush c.front c.shown c.consumed c.shut e k same list in
+    let there : Keeps (server_did i.pass.part e) i.flush i.front None i.consumed i.shut = subst (λ (x : ServerState). Keeps (server_did x.pass.part e) x.flush x.front None x.consumed x.shut) (sym opened) now in
+    subst (λ (x : ServerPart). Keeps x i.flush i.front None i.consumed i.shut) (sym (ap (λ (x : ServerSide). x.part) did)) there
+
+-- the list with what a tally adds
+pub tally_keeps : (c i : ServerState) (mid pass : ServerSide) (missing : ℕ) → IsInOrder c → 1 ≤ missing → i ≡ c
+    → ServerIs (server_did i.pass.part (server.Tally missing)) i.pass mid → ServerIs (server_did mid.part (server.SetFlags 1)) mid pass → Keeps pass.part i.flush i.front None i.consumed i.shut
+tally_keeps c i mid pass missing k some opened first second =
+    let s : ServerPart = c.pass.part in
+    let t : ServerPart = server_did s (server.Tally missing) in
+    let list : IsServerList s.shape.frames s.shape.base None (s.events ++ server.Tally missing ∷ server.SetFlags 1 ∷ []) = tallies s.events c.shown missing k.spelled some in
+    let same : (s.events ++ server.Tally missing ∷ []) ++ server.SetFlags 1 ∷ [] ≡ s.events ++ server.Tally missing ∷ server.SetFlags 1 ∷ [] = append_assoc s.events (server.Tally missing ∷ []) (server.SetFlags 1 ∷ []) in
+    let kept : kept_of (server_did t (server.SetFlags 1)) ≡ kept_of s =
+    kept-more s.shape.frames s.shape.base (s.events ++ server.Tally missing ∷ []) (server.SetFlags 1 ∷ []) ∙ kept-more s.shape.frames s.shape.base s.events (server.Tally missing ∷ []) in
+    let done : Keeps (server_did t (server.SetFlags 1)) c.flush c.front None c.consumed c.shut =
+    record {
+      spelled = subst (λ (es : List ServerEvent). IsServerList s.shape.frames s.shape.base None es) (sym same) list;
+      flush_is = k.flush_is ∙ sym (ap (λ (x : ServerKept). x.flush) kept);
+      seen_is = k.seen_is ∙ sym (ap (λ (x : ServerKept). x.flush) kept);
+      settled = k.settled;
+      consumed_is = k.consumed_is ∙ sym (ap (λ (x : ServerKept). counted x.consumed) kept);
+      shut_is = k.shut_is ∙ sym (ap (λ (x : ServerKept). x.shut) kept);
+      ready = tt;
+    } in
+    let there : Keeps (server_did (server_did i.pass.part (server.Tally missing)) (server.SetFlags 1)) i.flush i.front None i.consumed i.shut =
+    subst (λ (x : ServerState). Keeps (server_did (server_did x.pass.part (server.Tally missing)) (server.SetFlags 1)) x.flush x.front None x.consumed x.shut) (sym opened) done in
+    let parts : pass.part ≡ server_did (server_did i.pass.part (server.Tally missing)) (server.SetFlags 1) =
+    ap (λ (x : ServerSide). x.part) second ∙ ap (λ (x : ServerSide). server_did x.part (server.SetFlags 1)) first in
+    subst (λ (x : ServerPart). Keeps x i.flush i.front None i.consumed i.shut) (sym parts) there
+
+-- nothing is shown any more
+pub rest_keeps : (s : ServerPart) (flush front : ℕ) (shown : Option ℕ) (consumed : ℕ) (shut : Option (ℕ × ℕ)) → Keeps s flush front shown consumed shut → Keeps s flush front None consumed shut
+rest_keeps s flush front shown consumed shut k =
+    record {
+      spelled = rests s.events shown k.spelled;
+      flush_is = k.flush_is;
+      seen_is = k.seen_is;
+      settled = k.settled;
+      consumed_is = k.consumed_is;
+      shut_is = k.shut_is;
+      ready = tt;
+    }
+
+still_ready : (s : ServerPart) (front : ℕ) (shown : Option ℕ) (e : ServerEvent) → MatchOption shown (Unit {0}) (λ count. IsReady s front count) → MatchOption shown (Unit {0}) (λ count. IsReady (server_did s e) front count)
+still_ready s front None e r = tt
+still_ready s front (Some count) e r = record { fresh = r.fresh; front_is = r.front_is; none_loaded = r.none_loaded; within = r.within }
+
+-- a meeting keeps the order
+pub met_keeps : (s t : ServerPart) (flush front : ℕ) (shown : Option ℕ) (consumed : ℕ) (shut : Option (ℕ × ℕ)) (count : ℕ) → Keeps s flush front shown consumed shut
+    → t ≡ server_did s (server.Learn count) → Keeps t flush front shown consumed shut
+met_keeps s t flush front shown consumed shut count k is =
+    let now : kept_of (server_did s (server.Learn count)) ≡ kept_of s = kept-more s.shape.frames s.shape.base s.events (server.Learn count ∷ []) in
+    subst (λ (x : ServerPart). Keeps x flush front shown consumed shut) (sym is) (
+    record {
+      spelled = meets s.events shown count k.spelled;
+      flush_is = k.flush_is ∙ sym (ap (λ (x : ServerKept). x.flush) now);
+      seen_is = k.seen_is ∙ sym (ap (λ (x : ServerKept). x.flush) now);
+      settled = k.settled;
+      consumed_is = k.consumed_is ∙ sym (ap (λ (x : ServerKept). counted x.consumed) now);
+      shut_is = k.shut_is ∙ sym (ap (λ (x : ServerKept). x.shut) now);
+      ready = still_ready s front shown (server.Learn count) k.ready;
+    })

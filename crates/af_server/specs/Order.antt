@@ -1,0 +1,50 @@
+-- What contracts see of a server's proxy, and when it is in order.
+use Rattle.std.specs.Prelude.{◌≡◌, ℕ, ◌≤◌, min, true, false, [], MatchOption, Option, None}
+use Rattle.af_base.specs.declared.event.ServerEvent.{ServerEvent}
+use Rattle.af_model.specs.Room.{ahead}
+use Rattle.af_model.specs.ServerCalls.{ServerKept, server_kept, IsServerList}
+use Rattle.af_cblk.specs.declared.view.ServerPart.{ServerPart}
+use Rattle.af_cblk.specs.Parts.{server_did}
+use Rattle.af_cblk.specs.Sides.{ServerSide}
+
+-- the pass, the flush count and front last seen, how many frames the last call showed if it showed some, how many were consumed, and the front and rear that shut it
+pub record ServerState : Type 0 where
+  pub pass : ServerSide
+  pub flush : ℕ
+  pub front : ℕ
+  pub shown : Option ℕ
+  pub consumed : ℕ
+  pub shut : Option (ℕ × ℕ)
+
+-- what the list of a server's events tells
+abbrev pub kept_of : ServerPart → ServerKept
+kept_of s = server_kept s.shape.frames s.shape.base s.events
+
+-- the consumed count ends at 2 ^ 63 - 1
+abbrev pub counted : ℕ → ℕ
+counted n = min 9223372036854775807 n
+
+-- so many frames from this front on may be taken
+pub record IsReady (s : ServerPart) (front count : ℕ) : Type 0 where
+  pub fresh : s.fresh ≡ true
+  pub front_is : s.front ≡ front
+  pub none_loaded : s.loaded ≡ []
+  pub within : count ≤ ahead s.front s.rear
+
+-- The list of events is spelled by calls, and the kept values are those that it gives. No new flush waits for its drop
+pub record Keeps (s : ServerPart) (flush front : ℕ) (shown : Option ℕ) (consumed : ℕ) (shut : Option (ℕ × ℕ)) : Type 0 where
+  pub spelled : IsServerList s.shape.frames s.shape.base shown s.events
+  pub flush_is : flush ≡ (kept_of s).flush
+  pub seen_is : s.flush ≡ (kept_of s).flush
+  pub settled : s.noticed ≡ false
+  pub consumed_is : consumed ≡ counted (kept_of s).consumed
+  pub shut_is : shut ≡ (kept_of s).shut
+  pub ready : MatchOption shown (Unit {0}) (λ count. IsReady s front count)
+
+-- what its maker establishes, and each call and each meeting keeps
+abbrev pub IsInOrder : ServerState → Type 0
+IsInOrder c = Keeps c.pass.part c.flush c.front c.shown c.consumed c.shut
+
+-- the proxy with one event more, after a call that shows no frames
+abbrev pub did : ServerState → ServerEvent → ServerState
+did c e = record c { pass = record c.pass { part = server_did c.pass.part e }; shown = None }

@@ -1,0 +1,14 @@
+//! A server's proxy: what it looks at, takes, counts and sets on one control block (AOSP's `AudioTrackServerProxy`).
+#![tactic(auto)]
+
+mod look;
+mod meet;
+mod server;
+mod take;
+mod words;
+
+pub use look::Look;
+pub use server::{MOST_CONSUMED, Server};
+
+#[cfg(test)]
+mod tests;

@@ -1,0 +1,39 @@
+//! What a client and a server know of each other once they meet.
+ghost use Rattle.std.specs.Prelude.{◌≡◌, ℕ, ◌+◌, true, None, List, [], length, take};
+ghost use Rattle.af_base.specs.declared.event.HandEvent.{HandEvent};
+ghost use Rattle.af_base.specs.declared.event.ServerEvent.TheVariants as server_event;
+ghost use Rattle.af_model.specs.Fates.{drops_none};
+ghost use Rattle.af_model.specs.History.{is_lawful, HasHistory};
+ghost use Rattle.af_model.specs.ClientCalls.{IsClientList};
+ghost use Rattle.af_cblk.specs.Parts.{client_met, server_did};
+ghost use Rattle.af_cblk.specs.Sides.{client_made, server_made};
+ghost use Rattle.af_server.specs.Order.{IsInOrder};
+
+use crate::server::Server;
+use af_base::Steps;
+use af_cblk::{Block, ClientPass};
+use std::sync::ledger::Ledger;
+
+impl Server {
+    /// Meets the client of the same block, whose list is spelled by the calls of a proxy: each learns what the other has done so far.
+    ///
+    /// Where the client has not poked, their lists have a history, in which no look of this server was shut, and where no frames were discarded, those taken are a beginning of those released.
+    pub fn meet<L: Ledger>(&mut self, block: &Block, client: &mut ClientPass, steps: &mut Steps<L>)
+        requires made { (client_made client.old ≡ block.now) × (server_made self.old.pass ≡ block.now) }
+        requires order { IsInOrder self.old }
+        requires spelled { let k = block.now.shape in IsClientList k.frames k.cells k.base client.old.part.events }
+        ensures made { (client_made client.new ≡ block.now) × (server_made self.new.pass ≡ block.now) }
+        ensures order { IsInOrder self.new }
+        ensures client { client.new.part ≡ client_met client.old.part self.old.pass.part.events }
+        ensures server { self.new ≡ (record self.old { pass = record self.old.pass { part = server_did self.old.pass.part (server_event.Learn (length client.old.part.events)) } }) }
+        ensures history { is_lawful client.old.part.events ≡ true
+            → (hand : List HandEvent) × (self.old.pass.has_hand ≡ true → hand ≡ [])
+            × HasHistory block.now.shape.base client.new.part.events client.new.part.frames self.new.pass.part.events self.new.pass.part.frames hand }
+        ensures unshut { is_lawful client.old.part.events ≡ true → self.new.shut ≡ None }
+        ensures begins { is_lawful client.old.part.events ≡ true → drops_none self.old.pass.part.events ≡ true
+            → (n : ℕ) × (self.new.pass.part.frames ≡ take n client.new.part.frames) }
+        ensures steps { steps.new ≡ steps.old + 5 }
+    {
+        block.meet(client, &mut self.pass, steps);
+    }
+}
