@@ -1,3 +1,4 @@
 pub mod Kept
 pub mod Looked
 pub mod Took
+pub mod Relayed

@@ -11,4 +11,6 @@ pub use look::Look;
 pub use server::{MOST_CONSUMED, Server};
 
 #[cfg(test)]
+mod relay;
+#[cfg(test)]
 mod tests;
