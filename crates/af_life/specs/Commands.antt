@@ -1,0 +1,76 @@
+-- What each command makes of a life: a table of rows, of which the first that applies is taken.
+use Rattle.std.specs.Prelude.{ℕ, Bool, true, false, not, List, [], ◌∷◌, ◌==◌, ◌&&◌, if◌then◌else◌}
+use Rattle.af_life.specs.declared.state.LifeState.{LifeState}
+use Rattle.af_life.specs.declared.state.LifeState.TheVariants.{Absent, Idle, Active, Pausing, Paused, Resuming, Stopping1, Stopping2, Stopped, Flushed}
+use Rattle.af_life.specs.declared.track.Life.{Life}
+use Rattle.af_life.specs.State.{is_among}
+
+-- a row: the command, the states at which it applies, a further condition, and the life that it leaves (of argument and life)
+pub record Row : Type 0 where
+  pub command : ℕ
+  pub states : List LifeState
+  pub provided : Life → Bool
+  pub effect : ℕ → Life → Life
+
+-- no further condition
+abbrev pub anyway : Life → Bool
+anyway life = true
+
+-- the life in another state
+abbrev pub in_state : LifeState → ℕ → Life → Life
+in_state state argument life = record life { state = state }
+
+-- the life in another state, in the mix, with all its retries, not drained
+abbrev pub started_in : LifeState → ℕ → Life → Life
+started_in state argument life = record life { state = state; member = true; drained = false; retries = 50 }
+
+-- the life on its way to a stop, which is drained at the argument
+abbrev pub stopping_at : ℕ → Life → Life
+stopping_at argument life = record life { state = Stopping1; stop_at = argument }
+
+-- the life, ended
+abbrev pub removed : ℕ → Life → Life
+removed argument life = record life { ended = true }
+
+-- every state
+abbrev pub any_state : List LifeState
+any_state = Absent ∷ Idle ∷ Active ∷ Pausing ∷ Paused ∷ Resuming ∷ Stopping1 ∷ Stopping2 ∷ Stopped ∷ Flushed ∷ []
+
+-- every state but Absent
+abbrev pub opened : List LifeState
+opened = Idle ∷ Active ∷ Pausing ∷ Paused ∷ Resuming ∷ Stopping1 ∷ Stopping2 ∷ Stopped ∷ Flushed ∷ []
+
+-- the states that a stop ends
+abbrev pub stoppable : List LifeState
+stoppable = Active ∷ Resuming ∷ Pausing ∷ Paused ∷ []
+
+-- the states that a flush ends
+abbrev pub flushable : List LifeState
+flushable = Idle ∷ Pausing ∷ Paused ∷ Stopping1 ∷ Stopping2 ∷ Stopped ∷ Flushed ∷ []
+
+-- the table: OPEN is 1, START 2, PAUSE 3, STOP 4, FLUSH 5 and REMOVE 6
+abbrev pub commands : List Row
+commands =
+  record { command = 1; states = Absent ∷ []; provided = anyway; effect = in_state Idle }
+    ∷ record { command = 2; states = Paused ∷ []; provided = anyway; effect = started_in Resuming }
+    ∷ record { command = 2; states = opened; provided = anyway; effect = started_in Active }
+    ∷ record { command = 3; states = Active ∷ Resuming ∷ []; provided = anyway; effect = in_state Pausing }
+    ∷ record { command = 4; states = stoppable; provided = λ life. life.member; effect = stopping_at }
+    ∷ record { command = 4; states = stoppable; provided = λ life. not life.member; effect = in_state Stopped }
+    ∷ record { command = 5; states = flushable; provided = anyway; effect = in_state Flushed }
+    ∷ record { command = 6; states = any_state; provided = anyway; effect = removed }
+    ∷ []
+
+-- the row is of this command, and its states and its condition fit the life
+abbrev pub applies : Row → ℕ → Life → Bool
+applies row code life = (row.command == code) && (is_among row.states life.state && row.provided life)
+
+-- the effect of the first row that applies; where none does, nothing changes
+abbrev pub first_effect : List Row → ℕ → ℕ → Life → Life
+first_effect [] code argument life = life
+first_effect (row ∷ rows) code argument life =
+  if applies row code life then row.effect argument life else first_effect rows code argument life
+
+-- what a command makes of a life: nothing where it has ended, else the table's effect
+abbrev pub by_command : ℕ → ℕ → Life → Life
+by_command code argument life = if life.ended then life else first_effect commands code argument life
