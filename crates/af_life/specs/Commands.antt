@@ -74,3 +74,7 @@ first_effect (row ∷ rows) code argument life =
 -- what a command makes of a life: nothing where it has ended, else the table's effect
 abbrev pub by_command : ℕ → ℕ → Life → Life
 by_command code argument life = if life.ended then life else first_effect commands code argument life
+
+-- the command is a START, of a life that is there and has not ended
+abbrev pub starts : ℕ → Life → Bool
+starts code life = (code == 2) && (not life.ended && is_among opened life.state)
