@@ -12,9 +12,22 @@ pub record Row : Type 0 where
   pub provided : Life → Bool
   pub effect : ℕ → Life → Life
 
+-- a row of the table
+abbrev pub row : ℕ → List LifeState → (Life → Bool) → (ℕ → Life → Life) → Row
+row command states provided effect =
+    record { command = command; states = states; provided = provided; effect = effect }
+
 -- no further condition
 abbrev pub anyway : Life → Bool
 anyway life = true
+
+-- the track is in the mix
+abbrev pub member : Life → Bool
+member life = life.member
+
+-- the track isn't in the mix
+abbrev pub no_member : Life → Bool
+no_member life = not life.member
 
 -- the life in another state
 abbrev pub in_state : LifeState → ℕ → Life → Life
@@ -51,14 +64,14 @@ flushable = Idle ∷ Pausing ∷ Paused ∷ Stopping1 ∷ Stopping2 ∷ Stopped 
 -- the table: OPEN is 1, START 2, PAUSE 3, STOP 4, FLUSH 5 and REMOVE 6
 abbrev pub commands : List Row
 commands =
-  record { command = 1; states = Absent ∷ []; provided = anyway; effect = in_state Idle }
-    ∷ record { command = 2; states = Paused ∷ []; provided = anyway; effect = started_in Resuming }
-    ∷ record { command = 2; states = opened; provided = anyway; effect = started_in Active }
-    ∷ record { command = 3; states = Active ∷ Resuming ∷ []; provided = anyway; effect = in_state Pausing }
-    ∷ record { command = 4; states = stoppable; provided = λ life. life.member; effect = stopping_at }
-    ∷ record { command = 4; states = stoppable; provided = λ life. not life.member; effect = in_state Stopped }
-    ∷ record { command = 5; states = flushable; provided = anyway; effect = in_state Flushed }
-    ∷ record { command = 6; states = any_state; provided = anyway; effect = removed }
+    row 1 (Absent ∷ []) anyway (in_state Idle)
+    ∷ row 2 (Paused ∷ []) anyway (started_in Resuming)
+    ∷ row 2 opened anyway (started_in Active)
+    ∷ row 3 (Active ∷ Resuming ∷ []) anyway (in_state Pausing)
+    ∷ row 4 stoppable member stopping_at
+    ∷ row 4 stoppable no_member (in_state Stopped)
+    ∷ row 5 flushable anyway (in_state Flushed)
+    ∷ row 6 any_state anyway removed
     ∷ []
 
 -- the row is of this command, and its states and its condition fit the life
@@ -69,12 +82,12 @@ applies row code life = (row.command == code) && (is_among row.states life.state
 abbrev pub first_effect : List Row → ℕ → ℕ → Life → Life
 first_effect [] code argument life = life
 first_effect (row ∷ rows) code argument life =
-  if applies row code life then row.effect argument life else first_effect rows code argument life
+    if applies row code life then row.effect argument life else first_effect rows code argument life
 
 -- what a command makes of a life: nothing where it has ended, else the table's effect
-abbrev pub by_command : ℕ → ℕ → Life → Life
+unfoldable pub by_command : ℕ → ℕ → Life → Life
 by_command code argument life = if life.ended then life else first_effect commands code argument life
 
 -- the command is a START, of a life that is there and has not ended
-abbrev pub starts : ℕ → Life → Bool
+unfoldable pub starts : ℕ → Life → Bool
 starts code life = (code == 2) && (not life.ended && is_among opened life.state)

@@ -12,6 +12,10 @@ pub record Case : Type 0 where
   pub effect : Known → Life → Life
   pub tells : Known → Life → Bool
 
+-- a row that tells nothing
+abbrev pub row : (Known → Life → Bool) → (Known → Life → Life) → Case
+row applies effect = record { applies = applies; effect = effect; tells = λ known life. false }
+
 -- the life is in one of these states
 abbrev pub among : List LifeState → Known → Life → Bool
 among states known life = is_among states life.state
@@ -20,9 +24,21 @@ among states known life = is_among states life.state
 abbrev pub all_consumed : Known → Life → Bool
 all_consumed known life = nat_le life.stop_at known.consumed
 
--- the row tells nothing
-abbrev pub nothing : Known → Life → Bool
-nothing known life = false
+-- the block was shut
+abbrev pub shut : Known → Life → Bool
+shut known life = known.shut
+
+-- the life has ended
+abbrev pub ended : Known → Life → Bool
+ended known life = life.ended
+
+-- a stopping life of which all is consumed
+abbrev pub done_stopping : Known → Life → Bool
+done_stopping known life = is_among (Stopping1 ∷ []) life.state && all_consumed known life
+
+-- a member that plays
+abbrev pub playing : Known → Life → Bool
+playing known life = is_among (Active ∷ []) life.state && life.member
 
 -- the life as it was
 abbrev pub unchanged : Known → Life → Life
@@ -51,8 +67,8 @@ stopped known life = record life { state = Stopped; member = false }
 -- the retries that are left: all 50 again where a look showed frames, and then one less, down to 0, where a look showed none
 abbrev pub retries_after : Known → ℕ → ℕ
 retries_after known retries =
-  let granted = (if nat_lt 0 known.fulls || nat_lt 0 known.partials then 50 else retries) in
-  if nat_lt 0 known.empties then granted - 1 else granted
+    let granted = (if nat_lt 0 known.fulls || nat_lt 0 known.partials then 50 else retries) in
+    if nat_lt 0 known.empties then granted - 1 else granted
 
 -- an empty look left no retries
 abbrev pub no_retries_left : Known → Life → Bool
@@ -61,50 +77,42 @@ no_retries_left known life = nat_lt 0 known.empties && (retries_after known life
 -- the life with the retries that are left, out of the mix where an empty look left none
 abbrev pub counted : Known → Life → Life
 counted known life =
-  record life { retries = retries_after known life.retries; member = life.member && not (no_retries_left known life) }
+    record life { retries = retries_after known life.retries; member = life.member && not (no_retries_left known life) }
 
 -- the table
 abbrev pub reports : List Case
 reports =
-  record { applies = λ known life. known.shut; effect = shut_down; tells = nothing }
-    ∷ record { applies = λ known life. life.ended; effect = out_of_the_mix; tells = nothing }
-    ∷ record {
-        applies = λ known life. among (Stopping1 ∷ []) known life && all_consumed known life;
-        effect = drained;
-        tells = nothing
-      }
-    ∷ record { applies = among (Stopping1 ∷ []); effect = unchanged; tells = nothing }
-    ∷ record { applies = among (Stopping2 ∷ []); effect = stopped; tells = nothing }
-    ∷ record { applies = among (Pausing ∷ []); effect = moved_to Paused; tells = nothing }
-    ∷ record { applies = among (Resuming ∷ []); effect = moved_to Active; tells = nothing }
-    ∷ record {
-        applies = λ known life. among (Active ∷ []) known life && life.member;
-        effect = counted;
-        tells = no_retries_left
-      }
-    ∷ record { applies = among (Active ∷ []); effect = unchanged; tells = nothing }
-    ∷ record { applies = among (Idle ∷ Paused ∷ Stopped ∷ Flushed ∷ []); effect = out_of_the_mix; tells = nothing }
-    ∷ record { applies = among (Absent ∷ []); effect = unchanged; tells = nothing }
+    row shut shut_down
+    ∷ row ended out_of_the_mix
+    ∷ row done_stopping drained
+    ∷ row (among (Stopping1 ∷ [])) unchanged
+    ∷ row (among (Stopping2 ∷ [])) stopped
+    ∷ row (among (Pausing ∷ [])) (moved_to Paused)
+    ∷ row (among (Resuming ∷ [])) (moved_to Active)
+    ∷ record { applies = playing; effect = counted; tells = no_retries_left }
+    ∷ row (among (Active ∷ [])) unchanged
+    ∷ row (among (Idle ∷ Paused ∷ Stopped ∷ Flushed ∷ [])) out_of_the_mix
+    ∷ row (among (Absent ∷ [])) unchanged
     ∷ []
 
 -- the effect of the first row that applies
 abbrev pub first_effect : List Case → Known → Life → Life
 first_effect [] known life = life
 first_effect (row ∷ rows) known life =
-  if row.applies known life then row.effect known life else first_effect rows known life
+    if row.applies known life then row.effect known life else first_effect rows known life
 
 -- what the first row that applies tells
 abbrev pub first_told : List Case → Known → Life → Bool
 first_told [] known life = false
 first_told (row ∷ rows) known life =
-  if row.applies known life then row.tells known life else first_told rows known life
+    if row.applies known life then row.tells known life else first_told rows known life
 
 -- what a report makes of a life
-abbrev pub by_report : Known → Life → Life
+unfoldable pub by_report : Known → Life → Life
 by_report known life = first_effect reports known life
 
 -- whether the track is to be disabled
-abbrev pub told_by_report : Known → Life → Bool
+unfoldable pub told_by_report : Known → Life → Bool
 told_by_report known life = first_told reports known life
 
 -- the block isn't shut, and the life has not ended
@@ -112,10 +120,9 @@ abbrev pub lives : Known → Life → Bool
 lives known life = not known.shut && not life.ended
 
 -- a member that plays has no retries left
-abbrev pub runs_dry : Known → Life → Bool
-runs_dry known life =
-  lives known life && (is_among (Active ∷ []) life.state && (life.member && no_retries_left known life))
+unfoldable pub runs_dry : Known → Life → Bool
+runs_dry known life = lives known life && (playing known life && no_retries_left known life)
 
 -- a stopping life finds all consumed
-abbrev pub drains : Known → Life → Bool
-drains known life = lives known life && (is_among (Stopping1 ∷ []) life.state && all_consumed known life)
+unfoldable pub drains : Known → Life → Bool
+drains known life = lives known life && done_stopping known life

@@ -41,7 +41,6 @@ ghost use Rattle.af_life.specs.State.{new_life};
 ghost use Rattle.af_life.specs.Commands.{commands, by_command, first_effect, starts};
 ghost use Rattle.af_life.specs.Reports.{by_report, told_by_report, counted, retries_after, runs_dry, drains};
 
-
 /// The life that each track begins with: absent, in no mix, neither ended nor drained, with all its retries.
 pub fn fresh() -> Life
     ensures { result ≡ new_life }
@@ -57,6 +56,7 @@ pub fn fresh() -> Life
 }
 
 impl Life {
+    #[tactic(auto, unfolding(crate::specs::Commands::by_command, crate::specs::Commands::starts))]
     /// What a command makes of the life, by the table of commands. A code that is no command's changes nothing.
     pub fn on_command(self, code: u32, argument: u32) -> Life
         ensures table { result ≡ by_command code argument self }
@@ -133,10 +133,7 @@ impl Life {
         ensures { result ≡ first_effect commands STOP argument self }
     {
         match self.state {
-            LifeState::Active
-            | LifeState::Resuming
-            | LifeState::Pausing
-            | LifeState::Paused => {
+            LifeState::Active | LifeState::Resuming | LifeState::Pausing | LifeState::Paused => {
                 if self.member {
                     Life {
                         state: LifeState::Stopping1,
@@ -166,6 +163,7 @@ impl Life {
         }
     }
 
+    #[tactic(auto, unfolding(crate::specs::Reports::by_report, crate::specs::Reports::told_by_report, crate::specs::Reports::runs_dry, crate::specs::Reports::drains))]
     /// What a report makes of the life, by the table of reports, and whether the track is to be disabled:
     /// it played, and has no retries left.
     pub fn on_report(self, known: Known) -> (Life, bool)
@@ -222,7 +220,14 @@ impl Life {
         let retries = retries.saturating_sub(1);
         let gone = retries == 0;
         let member = !gone;
-        (Life { retries, member, ..self }, gone)
+        (
+            Life {
+                retries,
+                member,
+                ..self
+            },
+            gone,
+        )
     }
 
     fn in_state(self, state: LifeState) -> Life
