@@ -1,6 +1,7 @@
 //! The life of a track: what a client's commands and the mixers' reports make of it.
 //!
-//! Both tables are this project's own. Their states follow AOSP's Track (`IDLE` to `FLUSHED`).
+//! Both tables are this project's own. The states have the names of AOSP's track_state, with `Absent` for a
+//! track that was not opened yet.
 #![tactic(auto)]
 
 mod command;

@@ -2,7 +2,8 @@
 
 use crate::{FLUSH, LifeState, OPEN, PAUSE, REMOVE, START, STOP};
 
-/// How many reports in a row may find a playing track empty: the last of them takes it out of the mix.
+/// After so many reports in a row with an empty look and no frames a playing track leaves the mix
+/// (AOSP's kMaxTrackRetries).
 pub const RETRIES: u32 = 50;
 
 /// The life of a track.
@@ -15,7 +16,8 @@ pub struct Life {
     pub ended: bool,
     /// A stop let all that was released be consumed, and no start came since.
     pub drained: bool,
-    /// So many more empty reports are let pass, at most `RETRIES`.
+    /// After so many more reports with an empty look and no frames a playing track leaves the mix. No call
+    /// raises it above `RETRIES`.
     pub retries: u32,
     /// The consumed count at which a stopping track is drained.
     pub stop_at: u64,
@@ -56,8 +58,10 @@ pub fn fresh() -> Life
 }
 
 impl Life {
+    /// What a command makes of the life, by the table of commands. A code that is no command's changes nothing,
+    /// and so does a command in a state for which the table has no row. The argument is the command's second
+    /// word; only a STOP reads it.
     #[tactic(auto, unfolding(crate::specs::Commands::by_command, crate::specs::Commands::starts))]
-    /// What a command makes of the life, by the table of commands. A code that is no command's changes nothing.
     pub fn on_command(self, code: u32, argument: u32) -> Life
         ensures table { result ≡ by_command code argument self }
 
@@ -80,10 +84,7 @@ impl Life {
             PAUSE => self.paused(),
             STOP => self.stopped(argument),
             FLUSH => self.flushed(),
-            REMOVE => Life {
-                ended: true,
-                ..self
-            },
+            REMOVE => self.removed(),
             _ => self,
         }
     }
@@ -163,9 +164,18 @@ impl Life {
         }
     }
 
-    #[tactic(auto, unfolding(crate::specs::Reports::by_report, crate::specs::Reports::told_by_report, crate::specs::Reports::runs_dry, crate::specs::Reports::drains))]
+    fn removed(self) -> Life
+        ensures { result ≡ first_effect commands REMOVE 0 self }
+    {
+        Life {
+            ended: true,
+            ..self
+        }
+    }
+
     /// What a report makes of the life, by the table of reports, and whether the track is to be disabled:
-    /// it played, and has no retries left.
+    /// it played, and an empty look left it no retries.
+    #[tactic(auto, unfolding(crate::specs::Reports::by_report, crate::specs::Reports::told_by_report, crate::specs::Reports::runs_dry, crate::specs::Reports::drains))]
     pub fn on_report(self, known: Known) -> (Life, bool)
         ensures table { result.0 ≡ by_report known self }
         ensures told { result.1 ≡ told_by_report known self }
