@@ -2,7 +2,9 @@
    plain make DIR          a session of seven stereo tracks of 100,000 frames, 1563 cycles of 64 frames, and its script
    plain random SEED DIR   a small session drawn from a number, and its script
    plain mix DIR OUT       mixes the session of DIR into OUT
+   plain ring ROUNDS       64 frames through a ring of one producer and one consumer, ROUNDS times; prints a check
    plain kernel ROUNDS     four takes of 64 frames, added up and finished, ROUNDS times; prints a check */
+#include <stdatomic.h>
 #include <stdint.h>
 #include <stdio.h>
 #include <stdlib.h>
@@ -140,11 +142,46 @@ static void kernel(uint32_t rounds) {
     printf("%u\n", check);
 }
 
+enum { CELLS = 128, ROOM = 100 };
+static Frame cells[CELLS];
+static _Atomic uint32_t front, rear;
+
+static uint32_t put(const Frame *frames, uint32_t n) {
+    uint32_t at = atomic_load_explicit(&rear, memory_order_relaxed);
+    uint32_t room = ROOM - (at - atomic_load_explicit(&front, memory_order_acquire));
+    if (n > room) n = room;
+    for (uint32_t i = 0; i < n; i++) cells[(at + i) & (CELLS - 1)] = frames[i];
+    atomic_store_explicit(&rear, at + n, memory_order_release);
+    return n;
+}
+
+static uint32_t get(Frame *into, uint32_t n) {
+    uint32_t at = atomic_load_explicit(&front, memory_order_relaxed);
+    uint32_t there = atomic_load_explicit(&rear, memory_order_acquire) - at;
+    if (n > there) n = there;
+    for (uint32_t i = 0; i < n; i++) into[i] = cells[(at + i) & (CELLS - 1)];
+    atomic_store_explicit(&front, at + n, memory_order_release);
+    return n;
+}
+
+static void ring(uint32_t rounds) {
+    static Frame frames[64], into[64];
+    uint32_t check = 0;
+    for (int i = 0; i < 64; i++) frames[i] = (Frame){ i, 0 };
+    for (uint32_t round = 0; round < rounds; round++) {
+        put(frames, 64);
+        get(into, 64);
+        check ^= (uint16_t)into[round % 64].left;
+    }
+    printf("%u\n", check);
+}
+
 int main(int words, char **word) {
     if (words == 3 && !strcmp(word[1], "make")) make(word[2]);
     else if (words == 4 && !strcmp(word[1], "random")) make_random(strtoul(word[2], 0, 10), word[3]);
     else if (words == 4 && !strcmp(word[1], "mix")) mix(word[2], word[3]);
     else if (words == 3 && !strcmp(word[1], "kernel")) kernel(strtoul(word[2], 0, 10));
+    else if (words == 3 && !strcmp(word[1], "ring")) ring(strtoul(word[2], 0, 10));
     else return 2;
     return 0;
 }
