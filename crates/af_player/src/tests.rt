@@ -1,5 +1,6 @@
 use crate::run::run;
 use crate::status::Status;
+use crate::words::names_of;
 use af_io::{MemSink, MemStore, NoGate};
 use std::alloc::Global;
 use std::test::Fail;
@@ -56,6 +57,34 @@ fn each_call_fails_in_turn(rt: HostRuntime) -> Result<(), Fail> {
         assert_eq!(rt; length, left, "call {failing}");
         let printed = if failing == 5 { LINE.len() / 2 } else { 0 };
         assert_eq!(rt; out.bytes().len(), printed, "call {failing}");
+    }
+    Ok(())
+}
+
+/// Which words fit.
+#[test]
+fn words_that_fit(rt: HostRuntime) -> Result<(), Fail> {
+    let alloc = rt.alloc();
+    for (line, fits) in [
+        ("render a b", true),
+        ("render a", false),
+        ("render a b c", false),
+        ("", false),
+        ("help", false),
+        ("--help", false),
+        ("--version", false),
+        ("-x", false),
+        ("render --help b", false),
+        ("render -- a b", false),
+        ("render a a", false),
+        ("render .a b", false),
+        ("play a b c", false),
+    ] {
+        let mut words = Vec::new(alloc);
+        for word in line.split_whitespace() {
+            words.push(String::from_str(alloc, word)?)?;
+        }
+        assert_eq!(rt; names_of(alloc, &words)?.is_some(), fits, "{line}");
     }
     Ok(())
 }
