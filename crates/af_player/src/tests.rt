@@ -9,6 +9,10 @@ use std::test::Fail;
 const ONE: &str =
     "version = 1\nframes = 2\nnormal = 1\ncycles = 100\nturns = [\"c 0\", \"n\", \"c 0\", \"f 1\"]\n[[track]]\nkind = \"fast\"\nframes = 8\nchannels = 2\nfile = \"tone.pcm\"\nops = [\"open\", \"start\", \"write 2\"]\n";
 
+/// An accepted script that can't be played yet: its client writes nothing.
+const IDLE: &str =
+    "version = 1\nframes = 2\nnormal = 1\ncycles = 100\n[[track]]\nkind = \"fast\"\nframes = 8\nchannels = 2\nfile = \"tone.pcm\"\nops = [\"open\", \"start\"]\n";
+
 const TONE: [u8; 8] = [0xe8, 3, 0x18, 0xfc, 0xd0, 7, 0x30, 0xf8];
 
 const LINE: &[u8] = b"cycles 1 mixed 2 dropped 0 queued 0 peak 2000\n";
@@ -57,6 +61,32 @@ fn each_call_fails_in_turn(rt: HostRuntime) -> Result<(), Fail> {
         assert_eq!(rt; length, left, "call {failing}");
         let printed = if failing == 5 { LINE.len() / 2 } else { 0 };
         assert_eq!(rt; out.bytes().len(), printed, "call {failing}");
+    }
+    Ok(())
+}
+
+/// What is refused: the exit status, and the line. No output is made.
+#[test]
+fn refusals_print_their_lines(rt: HostRuntime) -> Result<(), Fail> {
+    let alloc = rt.alloc();
+    let words = first_words(alloc)?;
+    for (script, length, status, line) in [
+        (Some(ONE), 7, 4, "file: track 0 ragged 7\n"),
+        (Some(ONE), 4, 4, "file: track 0 short 1 2\n"),
+        (None, 8, 4, "file: script missing\n"),
+        (Some("= 1"), 8, 3, "script: toml\n"),
+        (Some(IDLE), 8, 9, "unbuilt\n"),
+    ] {
+        let mut store = MemStore::new(alloc, Vec::new(alloc));
+        if let Some(text) = script {
+            store.put("one.toml", text.as_bytes())?;
+        }
+        store.put("tone.pcm", TONE.as_slice().get(..length).unwrap_or(&[]))?;
+        let mut out = MemSink::new(alloc, Vec::new(alloc));
+        let ended = run(&rt, alloc, &words, &mut store, &mut out, &NoGate);
+        assert_eq!(rt; ended.code(), status, "{line}");
+        assert_eq!(rt; out.bytes(), line.as_bytes(), "{line}");
+        assert!(rt; store.file("out.pcm").is_none(), "{line}");
     }
     Ok(())
 }
