@@ -11,6 +11,8 @@ pub use look::Look;
 pub use server::{MOST_CONSUMED, Server};
 
 #[cfg(test)]
+mod hostile_tests;
+#[cfg(test)]
 mod relay;
 #[cfg(test)]
 mod tests;
