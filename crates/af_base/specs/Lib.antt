@@ -3,3 +3,5 @@ pub mod Gain
 pub mod Mix
 pub mod Command
 pub mod Part
+pub mod Log
+pub mod Listed

@@ -4,19 +4,28 @@
 mod event;
 mod frame;
 mod gains;
+mod log;
 mod plain;
+mod report;
 mod seen;
 mod state;
 mod steps;
+mod turn;
 mod want;
 
 pub use event::{ClientCall, ClientEvent, HandEvent, ServerEvent};
 pub use frame::Frame;
 pub use gains::Gains;
-pub use plain::{Part, plain_mix};
+pub use log::{Cycle, CycleEntry, FastLog, SlotEntry};
+pub use plain::{Part, plain_frame, plain_mix};
+pub use report::{Report, SlotReport};
 pub use seen::Seen;
 pub use state::{Command, FastState, FastTrack, Push, SLOTS};
 pub use steps::Steps;
+pub use turn::{
+    CommandLook, CommandLooks, FrameList, Items, NormalTake, NormalTakes, TrackTurn, TrackTurns,
+    TurnEntry,
+};
 pub use want::Memory;
 
 #[cfg(test)]

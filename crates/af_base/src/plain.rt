@@ -1,7 +1,7 @@
 //! The mix by its definition: plain and slow, one sum per position. Tests compare the kernels with it.
 ghost use Rattle.std.specs.Prelude.{◌≡◌, ◌≤◌, ◌*◌, ◌^◌, ◌*ℤ◌, ◌+◌, pos, length, map, IfOk, unsigned_abs};
 ghost use Rattle.af_base.specs.Gain.{gain_used, left_half, right_half};
-ghost use Rattle.af_base.specs.Mix.{frame_at, left_part, left_sum, mix, mixed_sample, right_part, right_sum};
+ghost use Rattle.af_base.specs.Mix.{frame_at, left_part, left_sum, mix, mixed_frame, mixed_sample, right_part, right_sum};
 ghost use Rattle.af_base.specs.Part.{take_of};
 
 use crate::{Frame, Memory};
@@ -90,16 +90,23 @@ fn mixed_sample(sum: i128) -> i16
     (sum >> 12).clamp(-32768, 32767) as i16
 }
 
+/// One frame of the mix of any number of takes, at a position.
+pub fn plain_frame(parts: &[Part<'_>], at: usize) -> Frame
+    ensures { result ≡ mixed_frame (map take_of parts.now) at }
+{
+    Frame {
+        left: mixed_sample(left_sum(parts, at)),
+        right: mixed_sample(right_sum(parts, at)),
+    }
+}
+
 /// The mix of any number of takes at a length, in frames. Memory is its only refusal.
 pub fn plain_mix(alloc: Global, parts: &[Part<'_>], len: usize) -> Result<Vec<Frame>, Memory>
     ensures { IfOk result (λ frames. frames.items ≡ mix (map take_of parts.now) len) }
 {
     let mut frames = Vec::new(alloc);
     for at in 0..len {
-        frames.push(Frame {
-            left: mixed_sample(left_sum(parts, at)),
-            right: mixed_sample(right_sum(parts, at)),
-        })?;
+        frames.push(plain_frame(parts, at))?;
     }
     Ok(frames)
 }

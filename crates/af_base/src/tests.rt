@@ -1,4 +1,7 @@
-use crate::{Command, Frame, Gains, Part, plain_mix};
+use crate::{
+    Command, CommandLook, CommandLooks, Cycle, CycleEntry, FastLog, Frame, Gains, Part, Seen,
+    SlotEntry, plain_frame, plain_mix,
+};
 use std::test::Fail;
 
 #[test]
@@ -48,5 +51,51 @@ fn one_sum_and_one_clamp(rt: HostRuntime) -> Result<(), Fail> {
         Frame { left: 0, right: 0 },
     ];
     assert_eq!(rt; mixed.as_slice(), want.as_slice());
+    assert_eq!(rt;
+        plain_frame(&[part(&loud), part(&loud), part(&quiet)], 0),
+        want[0]
+    );
+    Ok(())
+}
+
+#[test]
+fn a_log_is_its_entries_and_frames(rt: HostRuntime) -> Result<(), Fail> {
+    let mut log = FastLog::with_room(rt.alloc(), 2, 4)?;
+    let slot = SlotEntry {
+        gains: 0x1000_1000,
+        flush: 0,
+        rear: 2,
+        seen: Seen::Frames { count: 2 },
+        first: 0,
+    };
+    let entry = CycleEntry {
+        state: 1,
+        cycle: Cycle::Mixed,
+        slots: [slot; 8],
+        scales: [0x1000; 8],
+        mono: 2,
+    };
+    let frames = [Frame { left: 1, right: 2 }, Frame { left: 3, right: 4 }];
+    log.push_frames(&frames);
+    log.push(entry);
+    assert_eq!(rt; log.len(), 1);
+    assert_eq!(rt; log.entry(0), Some(&entry));
+    assert_eq!(rt; log.entry(1), None);
+    assert_eq!(rt; log.frames(), frames.as_slice());
+    Ok(())
+}
+
+#[test]
+fn a_list_with_room(rt: HostRuntime) -> Result<(), Fail> {
+    let look = CommandLook {
+        flush: 0,
+        rear: 2,
+        seen: Seen::Frames { count: 2 },
+        code: 1,
+        argument: 0,
+    };
+    let mut looks = CommandLooks::with_room(rt.alloc(), 64)?;
+    looks.push(look);
+    assert_eq!(rt; looks.as_slice(), [look].as_slice());
     Ok(())
 }
