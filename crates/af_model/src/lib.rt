@@ -9,6 +9,9 @@ mod merge_random;
 #[cfg(test)]
 mod merge_tests;
 mod merging;
+mod mixing;
+#[cfg(test)]
+mod mixing_tests;
 mod newest;
 mod pieces;
 mod point;
@@ -17,6 +20,7 @@ mod states;
 mod step;
 
 pub use merging::{Merge, merge_check};
+pub use mixing::{mix_entry, parts_of};
 pub use newest::{ReaderEvent, WriterEvent};
 pub use point::TrackPoint;
 pub use states::{MutatorEvent, ObserverEvent};

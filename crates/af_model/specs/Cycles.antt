@@ -1,0 +1,167 @@
+-- The cycles of a fast mixer: which entry is legal after a log, by the state that the mixer adopted and the words that it saw.
+use Rattle.std.specs.Prelude.{◌≡◌, ℕ, zero, suc, ◌+◌, ◌-◌, ◌^◌, ◌<◌, ◌≤◌, ◌==◌, ◌&&◌, ◌||◌, Bool, true, false, if◌then◌else◌, is_some, fold, min, MatchOption, List, [], ◌∷◌, ◌++◌, map, length, replicate, Option, Some, None}
+use Rattle.std.specs.List.{range_with_len}
+use Rattle.af_base.specs.declared.event.ServerEvent.{ServerEvent}
+use Rattle.af_base.specs.declared.event.ServerEvent.TheVariants as server
+use Rattle.af_base.specs.declared.log.Cycle.{Cycle}
+use Rattle.af_base.specs.declared.log.Cycle.TheVariants as cycle
+use Rattle.af_base.specs.declared.log.CycleEntry.{CycleEntry}
+use Rattle.af_base.specs.declared.log.SlotEntry.{SlotEntry}
+use Rattle.af_base.specs.declared.seen.Seen.{Seen}
+use Rattle.af_base.specs.declared.seen.Seen.TheVariants as seen
+use Rattle.af_base.specs.declared.state.Command.{Command}
+use Rattle.af_base.specs.declared.state.Command.TheVariants.{ColdIdle, Exit, MixWrite}
+use Rattle.af_base.specs.declared.state.FastState.{FastState}
+use Rattle.af_base.specs.Log.{slots, absent, entry_slot, count_seen}
+use Rattle.af_model.specs.Room.{ahead}
+use Rattle.af_model.specs.ServerCalls.{ServerKept, server_kept, look_at, look_events}
+use Rattle.af_model.specs.StateQueue.{slot_of, carries}
+
+-- ## What a cycle is
+
+-- the state of a number among those adopted, of which the first has the number 1
+abbrev pub state_of : List FastState → ℕ → Option FastState
+state_of states zero = None
+state_of [] (suc k) = None
+state_of (x ∷ xs) (suc zero) = Some x
+state_of (x ∷ xs) (suc (suc k)) = state_of xs (suc k)
+
+-- the number of the state that the last entry used, 0 where there is none
+abbrev pub last_used : List CycleEntry → ℕ
+last_used entries = fold (λ number entry. entry.state) 0 entries
+
+abbrev pub is_exit : Cycle → Bool
+is_exit cycle.Exit = true
+is_exit _ = false
+
+-- an Exit was answered
+abbrev pub has_exit : List CycleEntry → Bool
+has_exit entries = fold (λ found entry. found || is_exit entry.cycle) false entries
+
+abbrev pub is_cold : Cycle → Bool
+is_cold cycle.Cold = true
+is_cold _ = false
+
+-- the cold generation of a state, 0 where there is none
+abbrev pub cold_of : Option FastState → ℕ
+cold_of None = 0
+cold_of (Some x) = x.cold_gen
+
+-- the cold generation performed last: that of the state of the last Cold entry, 0 where there is none
+abbrev pub cold_done : List FastState → List CycleEntry → ℕ
+cold_done states entries = fold (λ done entry. if is_cold entry.cycle then cold_of (state_of states entry.state) else done) 0 entries
+
+-- What a cycle is by its state: an Exit, a cold idle that wasn't performed yet, a mix, and else idle
+abbrev pub cycle_by : ℕ → ℕ → Command → Cycle
+cycle_by done cold Exit = cycle.Exit
+cycle_by done cold ColdIdle = if cold == done then cycle.Idle else cycle.Cold
+cycle_by done cold MixWrite = cycle.Mixed
+cycle_by done cold _ = cycle.Idle
+
+-- the same where there may be no state, which is idle
+abbrev pub cycle_of : ℕ → Option FastState → Cycle
+cycle_of done None = cycle.Idle
+cycle_of done (Some x) = cycle_by done x.cold_gen x.command
+
+-- ## What the slots of a mix show
+
+-- what a slot shows of so many frames
+abbrev pub shown : ℕ → Seen
+shown count = if count == 0 then seen.Empty else seen.Frames count
+
+-- how many frames the entries took from the pipe
+abbrev pub piped : List CycleEntry → ℕ
+piped entries = fold (λ count entry. count + count_seen (entry_slot entry 0).seen) 0 entries
+
+-- The submix: so many frames as the rear shows, but no more than were asked for, at unity. `before` is how many were taken before
+abbrev pub submix_slot : (asked before rear first : ℕ) → SlotEntry
+submix_slot asked before rear first = record { gains = 268439552; flush = 0; rear = rear; seen = shown (min asked (ahead before rear)); first = first }
+
+-- a server before a cycle: the frames and the base of its block, and its list
+pub record Listed : Type 0 where
+  pub size : ℕ
+  pub base : ℕ
+  pub events : List ServerEvent
+
+-- what its list tells of it
+abbrev pub kept : Listed → ServerKept
+kept s = server_kept s.size s.base s.events
+
+-- The look of a slot answers by the words seen and the server's own list before. A server that was shut answers the words that shut it, and the flush count of that look
+abbrev pub LooksBy : ℕ → Listed → SlotEntry → ℕ → Type 0
+LooksBy asked s slot front = MatchOption (kept s).shut
+    (slot.seen ≡ look_at s.size (kept s).flush asked slot.flush slot.rear front)
+    (λ words. (slot.seen ≡ seen.Shut words.0 words.1) × (slot.flush ≡ (kept s).flush) × (slot.rear ≡ words.1))
+
+-- missing frames are tallied, where there are some
+abbrev pub tally : ℕ → List ServerEvent
+tally missing = if missing == 0 then [] else server.Tally missing ∷ server.SetFlags 1 ∷ []
+
+-- what follows a look: all frames shown are taken and those missing tallied, nothing after a flush, and INVALID once where it shuts the server
+abbrev pub after_look : ℕ → Bool → Seen → List ServerEvent
+after_look asked was_shut (seen.Frames count) = server.Take count ∷ tally (asked - count)
+after_look asked was_shut seen.Empty = tally asked
+after_look asked was_shut (seen.Shut front rear) = if was_shut then [] else server.SetFlags 4 ∷ []
+after_look asked was_shut _ = []
+
+-- the events of a server in a cycle: its gains first, then the look, by a server that wasn't shut, and what follows
+abbrev pub cycle_events : ℕ → Listed → SlotEntry → ℕ → List ServerEvent
+cycle_events asked s slot front = let was_shut = is_some (kept s).shut in
+    server.SawGain slot.gains ∷ (if was_shut then [] else look_events slot.seen slot.flush slot.rear front) ++ after_look asked was_shut slot.seen
+
+-- A slot of the mask with its server's list before and after
+pub record TrackSlot (asked : ℕ) (s : Listed) (after : List ServerEvent) (slot : SlotEntry) : Type 0 where
+  pub front : ℕ
+  pub looks : LooksBy asked s slot front
+  pub list : after ≡ s.events ++ cycle_events asked s slot front
+
+-- ## The entry
+
+-- where the frames of some slots begin, from a place in the log's frames on: at their own place where they took frames, and else at 0
+abbrev pub ArePlaced : ℕ → List SlotEntry → Type 0
+ArePlaced place [] = Unit {0}
+ArePlaced place (slot ∷ rest) = (slot.first ≡ (if count_seen slot.seen == 0 then 0 else place)) × ArePlaced (place + count_seen slot.seen) rest
+
+-- how many frames some slots took
+abbrev pub taken_by : List SlotEntry → ℕ
+taken_by [] = 0
+taken_by (slot ∷ rest) = count_seen slot.seen + taken_by rest
+
+-- an entry in which every slot is absent
+abbrev pub still_entry : ℕ → Cycle → CycleEntry
+still_entry state cycle = record { state = state; cycle = cycle; slots = replicate slots absent; scales = replicate slots 0; mono = 0 }
+
+-- the slot i has a track that is mono
+abbrev pub is_mono : FastState → ℕ → Bool
+is_mono x i = carries x i && (slot_of x i).mono
+
+-- the marks of the first slots that are mono
+abbrev pub mono_marks : FastState → ℕ → ℕ
+mono_marks x zero = 0
+mono_marks x (suc i) = mono_marks x i + (if is_mono x i then 2 ^ i else 0)
+
+-- the scale of a slot in the mix: that of its track, unity for the submix, and 0 for a slot that isn't of the mask
+abbrev pub mix_scale : FastState → ℕ → ℕ
+mix_scale x i = if i == 0 then 4096 else if carries x i then (slot_of x i).scale else 0
+
+-- A Mixed entry under the state x: the submix, the tracks of the mask by their looks, and absent slots. `before` is how many frames were taken from the pipe before, `place` how many the log has, `servers` the servers before the cycle and `lists` their lists after it
+pub record Mixes (asked : ℕ) (x : FastState) (before place : ℕ) (servers : ℕ → Listed) (lists : ℕ → List ServerEvent) (entry : CycleEntry) : Type 0 where
+  pub whole : length entry.slots ≡ slots
+  pub submix : (rear : ℕ) × (first : ℕ) × (entry_slot entry 0 ≡ submix_slot asked before rear first)
+  pub tracks : (i : ℕ) → i < slots → carries x i ≡ true → TrackSlot asked (servers i) (lists i) (entry_slot entry i)
+  pub others : (i : ℕ) → 0 < i → i < slots → carries x i ≡ false → entry_slot entry i ≡ absent
+  pub placed : ArePlaced place entry.slots
+  pub scales : entry.scales ≡ map (mix_scale x) (range_with_len 0 slots)
+  pub mono : entry.mono ≡ mono_marks x slots
+
+abbrev pub is_mixed : Cycle → Bool
+is_mixed cycle.Mixed = true
+is_mixed _ = false
+
+-- An entry that follows a log by the states pushed or adopted so far: its state is that of the entry before or the next one, no Exit stands before it, it is what its state makes it, and its slots are those of a mix, or absent
+pub record LegalCycle (asked : ℕ) (states : List FastState) (entries : List CycleEntry) (place : ℕ) (servers : ℕ → Listed) (lists : ℕ → List ServerEvent) (entry : CycleEntry) : Type 0 where
+  pub follows : (last_used entries ≤ entry.state) × (entry.state ≤ last_used entries + 1)
+  pub runs : has_exit entries ≡ false
+  pub what : entry.cycle ≡ cycle_of (cold_done states entries) (state_of states entry.state)
+  pub still : is_mixed entry.cycle ≡ false → entry ≡ still_entry entry.state entry.cycle
+  pub mixes : (x : FastState) → state_of states entry.state ≡ Some x → is_mixed entry.cycle ≡ true → Mixes asked x (piped entries) place servers lists entry
