@@ -58,7 +58,8 @@ before_it [] e h = (refl, both_left (keeps_all e) true h)
 before_it (x ∷ es) e h = let r = before_it es e (both_right (keeps_all x) _ h) in let x' : keeps_all x ≡ true = both_left (keeps_all x) _ h in (ap (λ b. b && drops_none es) x' ∙ r.0, r.1)
 
 module _ (frames : List ℕ) (base : ℕ) where
-  abbrev Begins : TrackPoint → List ℕ → Type 0
+  -- what was taken is what was released up to the position consumed
+  abbrev pub Begins : TrackPoint → List ℕ → Type 0
   Begins p taken = taken ≡ take (p.consumed - base) frames
 
   of_client : (p : TrackPoint) (taken : List ℕ) (e : ClientEvent) → Begins p taken → Begins (after_client p e) taken
@@ -91,7 +92,7 @@ module _ (frames : List ℕ) (base : ℕ) where
   of_hand p taken (hand.SetFlags bits) b = b
   of_hand p taken (hand.Met client) b = b
 
-  begins : (order : List Moment) → IsLegal (start base) order → drops_none (server_of order) ≡ true → Begins (after (start base) order) (taken_of frames base order)
+  pub begins : (order : List Moment) → IsLegal (start base) order → drops_none (server_of order) ≡ true → Begins (after (start base) order) (taken_of frames base order)
   begins [] h none = let e : base - base ≡ 0 = omega arith in sym (ap (λ (n : ℕ). take n frames) e)
   begins (by_client e ∷ order) h none = of_client _ _ e (begins order h.1 none)
   begins (by_server e ∷ order) h none =

@@ -1,0 +1,4 @@
+pub mod PipeEnds
+pub mod Reports
+pub mod Names
+pub mod Linked

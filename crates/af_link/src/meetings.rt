@@ -1,0 +1,87 @@
+//! How the proxies of one track's block meet.
+ghost use Rattle.std.specs.Prelude.{◌≡◌, ℕ, ◌+◌, true, false, None, List, [], length};
+ghost use Rattle.af_base.specs.declared.event.HandEvent.{HandEvent};
+ghost use Rattle.af_base.specs.declared.event.ServerEvent.{ServerEvent};
+ghost use Rattle.af_base.specs.declared.event.ServerEvent.TheVariants as server_event;
+ghost use Rattle.af_model.specs.History.{is_lawful, HasHistory};
+ghost use Rattle.af_cblk.specs.Parts.{client_met, server_did, hand_met};
+ghost use Rattle.af_cblk.specs.Rule.{StartsWith};
+ghost use Rattle.af_cblk.specs.Sides.{client_made, server_made, hand_made};
+ghost use Rattle.af_client.specs.Order.{IsInOrder as IsClientInOrder};
+ghost use Rattle.af_server.specs.Order.{IsInOrder as IsServerInOrder};
+
+use af_base::Steps;
+use af_cblk::{Block, FlagHand};
+use af_client::Client;
+use af_server::Server;
+use std::sync::ledger::Ledger;
+
+/// The client and the server learn what the other has done so far: all of it stands before their own next events. It appends Learn to each list, in five steps, and both proxies stay in order.
+///
+/// Where the client has not poked, their lists have a history, in which no look of this server was shut, with some hand's list, which is empty where the hand is with the server.
+pub fn meet_track<L: Ledger>(
+    client: &mut Client,
+    server: &mut Server,
+    block: &Block,
+    steps: &mut Steps<L>,
+)
+    requires made { (client_made client.old.pass ≡ block.now) × (server_made server.old.pass ≡ block.now) }
+    requires order { IsClientInOrder client.old × IsServerInOrder server.old }
+    ensures made { (client_made client.new.pass ≡ block.now) × (server_made server.new.pass ≡ block.now) }
+    ensures order { IsClientInOrder client.new × IsServerInOrder server.new }
+    ensures client { client.new ≡ (record client.old { pass = record client.old.pass { part = client_met client.old.pass.part server.old.pass.part.events } }) }
+    ensures server { server.new ≡ (record server.old { pass = record server.old.pass { part = server_did server.old.pass.part (server_event.Learn (length client.old.pass.part.events)) } }) }
+    ensures history { is_lawful client.old.pass.part.events ≡ true
+        → (hand : List HandEvent) × (server.old.pass.has_hand ≡ true → hand ≡ [])
+        × HasHistory block.now.shape.base client.new.pass.part.events client.new.pass.part.frames server.new.pass.part.events server.new.pass.part.frames hand }
+    ensures unshut { is_lawful client.old.pass.part.events ≡ true → server.new.shut ≡ None }
+    ensures steps { steps.new ≡ steps.old + 5 }
+{
+    server.meet(block, client.pass(), steps);
+}
+
+/// The hand learns what the client has done so far, while the server's proxy is elsewhere. It appends Met to the hand's list and nothing to the client's, in four steps.
+///
+/// Where the client has not poked, their lists have a history with some list of the server's, which goes on from what the client had learnt.
+pub fn meet_flag<L: Ledger>(
+    client: &mut Client,
+    hand: &mut FlagHand,
+    block: &Block,
+    steps: &mut Steps<L>,
+)
+    requires made { (client_made client.old.pass ≡ block.now) × (hand_made hand.old ≡ block.now) }
+    ensures client { client.new ≡ client.old }
+    ensures made { hand_made hand.new ≡ block.now }
+    ensures hand { hand.new.part ≡ hand_met hand.old.part (length client.old.pass.part.events) }
+    ensures history { is_lawful client.old.pass.part.events ≡ true
+        → (server : List ServerEvent) × (taken : List ℕ) × StartsWith server client.old.pass.part.learnt
+        × HasHistory block.now.shape.base client.old.pass.part.events client.old.pass.part.frames server taken hand.new.part.events }
+    ensures steps { steps.new ≡ steps.old + 4 }
+{
+    block.meet_flag(client.pass(), hand, steps);
+}
+
+/// It appends what `meet_track` and then `meet_flag` append, in nine steps, and both proxies stay in order.
+///
+/// Where the client has not poked, the three lists have a history, in which no look of this server was shut.
+pub fn meet_all<L: Ledger>(
+    client: &mut Client,
+    server: &mut Server,
+    hand: &mut FlagHand,
+    block: &Block,
+    steps: &mut Steps<L>,
+)
+    requires made { (client_made client.old.pass ≡ block.now) × (server_made server.old.pass ≡ block.now) × (hand_made hand.old ≡ block.now) }
+    requires order { IsClientInOrder client.old × IsServerInOrder server.old }
+    ensures made { (client_made client.new.pass ≡ block.now) × (server_made server.new.pass ≡ block.now) × (hand_made hand.new ≡ block.now) }
+    ensures order { IsClientInOrder client.new × IsServerInOrder server.new }
+    ensures client { client.new ≡ (record client.old { pass = record client.old.pass { part = client_met client.old.pass.part server.old.pass.part.events } }) }
+    ensures server { server.new ≡ (record server.old { pass = record server.old.pass { part = server_did server.old.pass.part (server_event.Learn (length client.old.pass.part.events)); has_hand = false } }) }
+    ensures hand { hand.new.part ≡ hand_met hand.old.part (length client.old.pass.part.events + 1) }
+    ensures history { is_lawful client.old.pass.part.events ≡ true
+        → HasHistory block.now.shape.base client.new.pass.part.events client.new.pass.part.frames server.new.pass.part.events server.new.pass.part.frames hand.new.part.events }
+    ensures unshut { is_lawful client.old.pass.part.events ≡ true → server.new.shut ≡ None }
+    ensures steps { steps.new ≡ steps.old + 9 }
+{
+    block.meet_all(client.pass(), server.pass(), hand, steps);
+}
