@@ -1,6 +1,5 @@
 -- The cycles of a fast mixer: which entry is legal after a log, by the state that the mixer adopted and the words that it saw.
-use Rattle.std.specs.Prelude.{◌≡◌, ℕ, zero, suc, ◌+◌, ◌-◌, ◌^◌, ◌<◌, ◌≤◌, ◌==◌, ◌&&◌, ◌||◌, Bool, true, false, if◌then◌else◌, is_some, fold, min, MatchOption, List, [], ◌∷◌, ◌++◌, map, length, replicate, Option, Some, None}
-use Rattle.std.specs.List.{range_with_len}
+use Rattle.std.specs.Prelude.{◌≡◌, ℕ, zero, suc, ◌+◌, ◌-◌, ◌^◌, ◌<◌, ◌≤◌, ◌==◌, ◌&&◌, ◌||◌, Bool, true, false, if◌then◌else◌, is_some, fold, min, bit_or, MatchOption, List, [], ◌∷◌, ◌++◌, length, replicate, Option, Some, None, slice_index_or}
 use Rattle.af_base.specs.declared.event.ServerEvent.{ServerEvent}
 use Rattle.af_base.specs.declared.event.ServerEvent.TheVariants as server
 use Rattle.af_base.specs.declared.log.Cycle.{Cycle}
@@ -29,6 +28,11 @@ state_of (x ∷ xs) (suc (suc k)) = state_of xs (suc k)
 -- the number of the state that the last entry used, 0 where there is none
 abbrev pub last_used : List CycleEntry → ℕ
 last_used entries = fold (λ number entry. entry.state) 0 entries
+
+-- no entry used a state of a later number
+abbrev pub UseUpTo : ℕ → List CycleEntry → Type 0
+UseUpTo n [] = Unit {0}
+UseUpTo n (entry ∷ entries) = (entry.state ≤ n) × UseUpTo n entries
 
 abbrev pub is_exit : Cycle → Bool
 is_exit cycle.Exit = true
@@ -69,13 +73,20 @@ cycle_of done (Some x) = cycle_by done x.cold_gen x.command
 abbrev pub shown : ℕ → Seen
 shown count = if count == 0 then seen.Empty else seen.Frames count
 
--- how many frames the entries took from the pipe
-abbrev pub piped : List CycleEntry → ℕ
-piped entries = fold (λ count entry. count + count_seen (entry_slot entry 0).seen) 0 entries
+-- the submix: so many frames as the rear shows past the front, but no more than were asked for, at unity
+abbrev pub submix_slot : (asked front rear first : ℕ) → SlotEntry
+submix_slot asked front rear first = record { gains = 268439552; flush = 0; rear = rear; seen = shown (min asked (ahead front rear)); first = first }
 
--- The submix: so many frames as the rear shows, but no more than were asked for, at unity. `before` is how many were taken before
-abbrev pub submix_slot : (asked before rear first : ℕ) → SlotEntry
-submix_slot asked before rear first = record { gains = 268439552; flush = 0; rear = rear; seen = shown (min asked (ahead before rear)); first = first }
+-- all frames that are shown are taken
+abbrev pub takes_shown : Seen → List ServerEvent
+takes_shown (seen.Frames count) = server.Take count ∷ []
+takes_shown _ = []
+
+-- The slot of the submix with the list of the pipe's end before and after. In a history of the pipe the front seen is the number of frames taken before
+pub record SubmixSlot (asked : ℕ) (before after : List ServerEvent) (slot : SlotEntry) : Type 0 where
+  pub front : ℕ
+  pub shows : slot ≡ submix_slot asked front slot.rear slot.first
+  pub list : after ≡ before ++ server.SawRear slot.rear ∷ server.SawFront front ∷ takes_shown slot.seen
 
 -- a server before a cycle: the frames and the base of its block, and its list
 pub record Listed : Type 0 where
@@ -117,15 +128,14 @@ pub record TrackSlot (asked : ℕ) (s : Listed) (after : List ServerEvent) (slot
 
 -- ## The entry
 
--- where the frames of some slots begin, from a place in the log's frames on: at their own place where they took frames, and else at 0
-abbrev pub ArePlaced : ℕ → List SlotEntry → Type 0
-ArePlaced place [] = Unit {0}
-ArePlaced place (slot ∷ rest) = (slot.first ≡ (if count_seen slot.seen == 0 then 0 else place)) × ArePlaced (place + count_seen slot.seen) rest
+-- where the frames of a slot begin: at this place in the log's frames, and at 0 where it took none
+abbrev pub place_of : ℕ → Seen → ℕ
+place_of place answer = if count_seen answer == 0 then 0 else place
 
--- how many frames some slots took
-abbrev pub taken_by : List SlotEntry → ℕ
-taken_by [] = 0
-taken_by (slot ∷ rest) = count_seen slot.seen + taken_by rest
+-- how many frames the first slots of an entry took
+abbrev pub taken_before : CycleEntry → ℕ → ℕ
+taken_before entry zero = 0
+taken_before entry (suc i) = taken_before entry i + count_seen (entry_slot entry i).seen
 
 -- an entry in which every slot is absent
 abbrev pub still_entry : ℕ → Cycle → CycleEntry
@@ -135,23 +145,28 @@ still_entry state cycle = record { state = state; cycle = cycle; slots = replica
 abbrev pub is_mono : FastState → ℕ → Bool
 is_mono x i = carries x i && (slot_of x i).mono
 
--- the marks of the first slots that are mono
+-- the marks of the first slots: bit i is set where slot i is mono
 abbrev pub mono_marks : FastState → ℕ → ℕ
 mono_marks x zero = 0
-mono_marks x (suc i) = mono_marks x i + (if is_mono x i then 2 ^ i else 0)
+mono_marks x (suc i) = if is_mono x i then bit_or (mono_marks x i) (2 ^ i) else mono_marks x i
 
 -- the scale of a slot in the mix: that of its track, unity for the submix, and 0 for a slot that isn't of the mask
 abbrev pub mix_scale : FastState → ℕ → ℕ
 mix_scale x i = if i == 0 then 4096 else if carries x i then (slot_of x i).scale else 0
 
--- A Mixed entry under the state x: the submix, the tracks of the mask by their looks, and absent slots. `before` is how many frames were taken from the pipe before, `place` how many the log has, `servers` the servers before the cycle and `lists` their lists after it
-pub record Mixes (asked : ℕ) (x : FastState) (before place : ℕ) (servers : ℕ → Listed) (lists : ℕ → List ServerEvent) (entry : CycleEntry) : Type 0 where
-  pub whole : length entry.slots ≡ slots
-  pub submix : (rear : ℕ) × (first : ℕ) × (entry_slot entry 0 ≡ submix_slot asked before rear first)
-  pub tracks : (i : ℕ) → i < slots → carries x i ≡ true → TrackSlot asked (servers i) (lists i) (entry_slot entry i)
+-- what a cycle finds, or leaves: the list of the pipe's end, and the servers of the slots
+pub record Found : Type 0 where
+  pub pipe : List ServerEvent
+  pub servers : ℕ → Listed
+
+-- A Mixed entry under the state x: the submix, the tracks of the mask by their looks, and absent slots. The log had `place` frames before, and those of the slots follow one another from there on
+pub record Mixes (asked : ℕ) (x : FastState) (place : ℕ) (before after : Found) (entry : CycleEntry) : Type 0 where
+  pub whole : (length entry.slots ≡ slots) × (length entry.scales ≡ slots)
+  pub submix : SubmixSlot asked before.pipe after.pipe (entry_slot entry 0)
+  pub tracks : (i : ℕ) → i < slots → carries x i ≡ true → TrackSlot asked (before.servers i) (after.servers i).events (entry_slot entry i)
   pub others : (i : ℕ) → 0 < i → i < slots → carries x i ≡ false → entry_slot entry i ≡ absent
-  pub placed : ArePlaced place entry.slots
-  pub scales : entry.scales ≡ map (mix_scale x) (range_with_len 0 slots)
+  pub placed : (i : ℕ) → i < slots → (entry_slot entry i).first ≡ place_of (place + taken_before entry i) (entry_slot entry i).seen
+  pub scales : (i : ℕ) → i < slots → slice_index_or entry.scales i 0 ≡ mix_scale x i
   pub mono : entry.mono ≡ mono_marks x slots
 
 abbrev pub is_mixed : Cycle → Bool
@@ -159,9 +174,9 @@ is_mixed cycle.Mixed = true
 is_mixed _ = false
 
 -- An entry that follows a log by the states pushed or adopted so far: its state is that of the entry before or the next one, no Exit stands before it, it is what its state makes it, and its slots are those of a mix, or absent
-pub record LegalCycle (asked : ℕ) (states : List FastState) (entries : List CycleEntry) (place : ℕ) (servers : ℕ → Listed) (lists : ℕ → List ServerEvent) (entry : CycleEntry) : Type 0 where
+pub record LegalCycle (asked : ℕ) (states : List FastState) (entries : List CycleEntry) (place : ℕ) (before after : Found) (entry : CycleEntry) : Type 0 where
   pub follows : (last_used entries ≤ entry.state) × (entry.state ≤ last_used entries + 1)
   pub runs : has_exit entries ≡ false
   pub what : entry.cycle ≡ cycle_of (cold_done states entries) (state_of states entry.state)
   pub still : is_mixed entry.cycle ≡ false → entry ≡ still_entry entry.state entry.cycle
-  pub mixes : (x : FastState) → state_of states entry.state ≡ Some x → is_mixed entry.cycle ≡ true → Mixes asked x (piped entries) place servers lists entry
+  pub mixes : (x : FastState) → state_of states entry.state ≡ Some x → is_mixed entry.cycle ≡ true → Mixes asked x place before after entry

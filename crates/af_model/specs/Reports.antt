@@ -1,5 +1,5 @@
 -- What the fast mixer reports after an entry.
-use Rattle.std.specs.Prelude.{◌≡◌, ℕ, ◌+◌, ◌<◌, ◌==◌, not, Bool, true, false, if◌then◌else◌, List, length, Option, Some, None, slice_index_or}
+use Rattle.std.specs.Prelude.{◌≡◌, ℕ, ◌+◌, ◌<◌, ◌==◌, not, Bool, true, false, if◌then◌else◌, List, length, replicate, Option, Some, None, slice_index_or}
 use Rattle.af_base.specs.declared.log.CycleEntry.{CycleEntry}
 use Rattle.af_base.specs.declared.report.Report.{Report}
 use Rattle.af_base.specs.declared.report.SlotReport.{SlotReport}
@@ -16,9 +16,9 @@ pub record Known : Type 0 where
   pub flush_seen : ℕ
   pub shut : Bool
 
--- nothing was ever held, or nothing counted yet
-abbrev pub no_report : SlotReport
-no_report = record { consumed = 0; shut = false; generation = 0; flush_seen = 0; fulls = 0; partials = 0; empties = 0 }
+-- what is known of a slot that never had an item, or counted for one that is new
+abbrev pub no_slot : SlotReport
+no_slot = record { consumed = 0; shut = false; generation = 0; flush_seen = 0; fulls = 0; partials = 0; empties = 0 }
 
 abbrev pub one_if : Bool → ℕ
 one_if b = if b then 1 else 0
@@ -59,11 +59,15 @@ carried (Some x) i = carries x i
 abbrev pub slot_report : ℕ → Option FastState → Option FastState → CycleEntry → Known → ℕ → SlotReport → SlotReport
 slot_report asked None y entry known i r = r
 slot_report asked (Some x) y entry known i r =
-    if carries x i then counted_look asked (slot_of x i).generation (entry_slot entry i).seen known (if carried y i then r else no_report)
+    if carries x i then counted_look asked (slot_of x i).generation (entry_slot entry i).seen known (if carried y i then r else no_slot)
     else r
 
+-- the report before any cycle
+abbrev pub no_report : Report
+no_report = record { cycle = 0; slots = replicate slots no_slot }
+
 abbrev pub report_at : List SlotReport → ℕ → SlotReport
-report_at reports i = slice_index_or reports i no_report
+report_at reports i = slice_index_or reports i no_slot
 
 -- The report after an entry that follows a log, with what is known of the servers after it. Its number is that of the entries
 pub record IsNextReport (asked : ℕ) (states : List FastState) (entries : List CycleEntry) (entry : CycleEntry) (known : ℕ → Known) (before : List SlotReport) (report : Report) : Type 0 where
