@@ -1,12 +1,12 @@
 -- The places of all slots after a move, slot by slot.
-use Rattle.std.proofs.Common.{◌≡◌, ◌≢◌, ℕ, zero, suc, ◌+◌, ◌<◌, ◌≤◌, slice_set, List, [], ◌∷◌, length, map, refl, ap, sym, ◌∙◌, subst, arith, get_or}
+use Rattle.std.proofs.Common.{◌≡◌, ◌≢◌, ℕ, zero, suc, ◌+◌, ◌<◌, ◌≤◌, slice_set, List, [], ◌∷◌, length, refl, ap, sym, ◌∙◌, subst, arith}
 use Rattle.std.proofs.lemmas.List.{ext_get_or, get_or-set_same, get_or-set_other}
 use mathlib.Core.Logic.{dite}
 use native.Mathlib.Decide.{ℕ_discrete}
 use Rattle.af_model.specs.declared.plain_calls.Place.{Place}
 use Rattle.af_model.specs.declared.plain_calls.Place.TheVariants.{Nowhere}
 use Rattle.af_model.specs.declared.plain_calls.Move.{Move}
-use Rattle.af_model.specs.PlainQueue.{place_at, moved, moved_from, is_placed}
+use Rattle.af_model.specs.PlainQueue.{place_at, moved, moved_from}
 
 module _ {P : Type 0} where
   pub length-moved_from : (m : Move) (i : ℕ) (places : List (Place P)) → length (moved_from m i places) ≡ length places

@@ -16,6 +16,8 @@ mod newest;
 mod pieces;
 mod plain_calls;
 mod plain_queue;
+#[cfg(test)]
+mod plain_queue_tests;
 mod point;
 mod search;
 mod states;

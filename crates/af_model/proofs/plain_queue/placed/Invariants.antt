@@ -1,4 +1,4 @@
-use Rattle.std.proofs.Common.{◌≡◌, ℕ, ◌<◌, length, Bool, false, slice_index_or}
+use Rattle.std.proofs.Common.{◌≡◌, ℕ, ◌<◌, length, false, slice_index_or}
 use Rattle.af_model.specs.StateQueue.{slots}
 use Rattle.af_model.specs.PlainQueue.{place_at, is_placed}
 use Rattle.af_model.proofs.plain_queue.placed.Given as goal

@@ -1,4 +1,4 @@
-use Rattle.std.proofs.Common.{◌≡◌, ◌≤◌, ◌*◌, replicate}
+use Rattle.std.proofs.Common.{◌≡◌, ◌≤◌, replicate}
 use Rattle.af_model.specs.StateQueue.{slots}
 use Rattle.af_model.specs.declared.plain_calls.Place.TheVariants.{Nowhere}
 use Rattle.af_model.proofs.plain_queue.PlainQueue.new.Given as goal
