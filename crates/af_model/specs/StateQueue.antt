@@ -1,5 +1,5 @@
 -- The history of a state queue: which order of pushes, looks and acknowledgements is legal, and which states and items change hands by it.
-use Rattle.std.specs.Prelude.{◌≡◌, ◌≢◌, ℕ, ◌+◌, ◌<◌, ◌≤◌, ◌==◌, ◌&&◌, not, if◌then◌else◌, Bool, true, false, List, [], length, Option, Some, None, is_some, slice_index_or}
+use Rattle.std.specs.Prelude.{◌≡◌, ◌≢◌, ℕ, ◌+◌, ◌%◌, ◌<◌, ◌≤◌, ◌==◌, ◌&&◌, not, if◌then◌else◌, Bool, true, false, List, [], length, Option, Some, None, is_some, slice_index_or}
 use Rattle.std.specs.Int.{bit_at}
 use Rattle.af_base.specs.declared.state.FastState.{FastState}
 use Rattle.af_base.specs.declared.state.FastTrack.{FastTrack}
@@ -11,6 +11,14 @@ use Rattle.af_model.specs.declared.states.ObserverEvent.{ObserverEvent}
 use Rattle.af_model.specs.declared.states.ObserverEvent.TheVariants.{SawNext, Ack}
 use Rattle.af_model.specs.declared.states.ObserverEvent.TheVariants as observer
 use Rattle.af_model.specs.Order.{Event, one, two, HasOrder}
+
+-- the cell of the state k, also of the state 0 and, for k + 3, of the state k - 1
+abbrev pub cell : ℕ → ℕ
+cell k = (k + 3) % 4
+
+-- the word of the state k
+abbrev pub word : ℕ → ℕ
+word k = if k == 0 then 0 else cell k + 1
 
 abbrev pub no_track : FastTrack
 no_track = record { generation = 0; track = 0; mono = false; scale = 0 }

@@ -14,6 +14,10 @@ mod mixing;
 mod mixing_tests;
 mod newest;
 mod pieces;
+mod plain_calls;
+mod plain_queue;
+#[cfg(test)]
+mod plain_queue_tests;
 mod point;
 mod search;
 mod states;
@@ -22,5 +26,7 @@ mod step;
 pub use merging::{Merge, merge_check};
 pub use mixing::{mix_entry, parts_of};
 pub use newest::{ReaderEvent, WriterEvent};
+pub use plain_calls::{Move, Place, Poll, QueueAnswer, QueueCall, Readiness, carries_item};
+pub use plain_queue::{PlainQueue, first_state};
 pub use point::TrackPoint;
 pub use states::{MutatorEvent, ObserverEvent};

@@ -9,7 +9,7 @@ use native.Mathlib.Decide.{ℕ_discrete}
 use Rattle.af_base.specs.declared.state.FastState.{FastState}
 use Rattle.af_base.specs.declared.state.FastTrack.{FastTrack}
 use Rattle.af_model.specs.StateQueue.{slots, no_track, slot_of, carries, IsState}
-use Rattle.af_stateq.specs.Draft.{attached, detached, renewed}
+use Rattle.af_model.specs.Draft.{attached, detached, renewed}
 
 set_same : (n k : ℕ) → bit_at (bit_or n (2 ^ k)) k ≡ 1
 set_same n k = let a = bit_at_or n (2 ^ k) k in let b = bit_at-pow_same k in let c = bit_at-lt n k in omega arith

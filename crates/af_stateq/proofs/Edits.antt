@@ -6,7 +6,7 @@ use native.Mathlib.Decide.{ℕ_discrete}
 use Rattle.af_base.specs.declared.state.FastTrack.{FastTrack}
 use Rattle.af_base.specs.declared.state.Command.{Command}
 use Rattle.af_model.specs.StateQueue.{slots, slot_of, carries, AreOf, FitAt}
-use Rattle.af_stateq.specs.Draft.{attached, detached, renewed}
+use Rattle.af_model.specs.Draft.{attached, detached, renewed}
 use Rattle.af_stateq.specs.Shelved.{nothing}
 use Rattle.af_stateq.specs.Ends.{Pushes, saw, pushes}
 use Rattle.af_stateq.specs.Mutates.{Mutates, at, is_out, InSlot, SlotIn, InDraft, IsJoined}

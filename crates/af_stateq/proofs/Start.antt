@@ -7,7 +7,7 @@ use Rattle.af_base.specs.declared.state.FastState.{FastState}
 use Rattle.af_base.specs.declared.state.FastTrack.{FastTrack}
 use Rattle.af_model.specs.StateQueue.{slots, no_track, slot_of, carries, IsState}
 use Rattle.af_stateq.specs.Shelved.{nothing}
-use Rattle.af_stateq.specs.Draft.{initial}
+use Rattle.af_model.specs.Draft.{initial}
 use Rattle.af_stateq.specs.Ends.{Pushes, Polls}
 use Rattle.af_stateq.specs.Mutates.{Mutates, at, InSlot, InDraft}
 use Rattle.af_stateq.specs.Observes.{InOrder}

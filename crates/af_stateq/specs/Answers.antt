@@ -4,8 +4,8 @@ use Rattle.af_base.specs.declared.state.FastState.{FastState}
 use Rattle.af_base.specs.declared.state.Push.{Push}
 use Rattle.af_base.specs.declared.state.Push.TheVariants.{Pushed, Clean, Busy}
 use Rattle.af_model.specs.StateQueue.{slots}
-use Rattle.af_stateq.specs.declared.observer.Poll.{Poll}
-use Rattle.af_stateq.specs.declared.observer.Poll.TheVariants.{Nothing, Same, New}
+use Rattle.af_model.specs.declared.plain_calls.Poll.{Poll}
+use Rattle.af_model.specs.declared.plain_calls.Poll.TheVariants.{Nothing, Same, New}
 use Rattle.af_stateq.specs.Shelved.{word, nothing}
 use Rattle.af_stateq.specs.Ends.{saw, pushes, looked, took, acknowledged}
 use Rattle.af_stateq.specs.Mutates.{Mutates, IsJoined}

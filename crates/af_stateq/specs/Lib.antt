@@ -1,6 +1,5 @@
 pub mod Shelved
 pub mod Ends
-pub mod Draft
 pub mod Mutates
 pub mod Observes
 pub mod Answers

@@ -20,10 +20,11 @@ mod view;
 mod waits;
 
 pub use af_base::Push;
+pub use af_model::{Poll, QueueAnswer, QueueCall};
 pub use laws::{
     a_look_after_a_meeting_sees_the_last_push, each_item_has_one_holder, polled_are_pushed,
 };
 pub use make::{meet, queue};
 pub use mutator::Mutator;
-pub use observer::{Observer, Poll};
+pub use observer::Observer;
 pub use rule::{Fits, Queue};

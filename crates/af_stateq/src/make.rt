@@ -1,7 +1,7 @@
 //! How a queue is made, and how its ends meet.
 ghost use Rattle.std.specs.Prelude.{◌≡◌, [], ◌∷◌, ◌++◌, ◌+◌, length, true, false, None, Some, IfOk};
 ghost use Rattle.af_model.specs.StateQueue.{HasHistory};
-ghost use Rattle.af_stateq.specs.Draft.{initial};
+ghost use Rattle.af_model.specs.Draft.{initial};
 ghost use Rattle.af_stateq.specs.Mutates.{IsNewMutator};
 ghost use Rattle.af_stateq.specs.Observes.{IsNewObserver, InOrder};
 ghost use Rattle.af_stateq.specs.Shelved.{nothing};

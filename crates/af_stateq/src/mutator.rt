@@ -3,7 +3,7 @@ ghost use Rattle.std.specs.Prelude.{◌≡◌, ◌≢◌, ℕ, ◌+◌, ◌^◌,
 ghost use Rattle.af_base.specs.Command.{code_of};
 ghost use Rattle.af_base.specs.declared.state.Push.TheVariants.{Pushed};
 ghost use Rattle.af_model.specs.StateQueue.{slots, slot_of, carries, has};
-ghost use Rattle.af_stateq.specs.Draft.{attached, detached, commanded};
+ghost use Rattle.af_model.specs.Draft.{attached, detached, commanded};
 ghost use Rattle.af_stateq.specs.Shelved.{word, nothing};
 ghost use Rattle.af_stateq.specs.Mutates.{Mutates, InDraft, IsJoined, at, is_out};
 ghost use Rattle.af_stateq.specs.Answers.{SeesIt, SeesOlder, shows, WasPushed, WasAcked, SameDraft};

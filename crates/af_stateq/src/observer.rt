@@ -11,20 +11,10 @@ ghost use Rattle.af_stateq.specs.Answers.{WasPolled};
 use crate::ends::ObserverEnd;
 use crate::rule::{Fits, Queue};
 use af_base::{FastState, SLOTS, Steps};
+use af_model::{Poll, carries_item};
 use std::marker::Model;
 use std::mem;
 use std::sync::ledger::Ledger;
-
-/// What a poll found.
-#[derive(Clone, Copy, Debug, PartialEq, Eq)]
-pub enum Poll {
-    /// No state had been pushed.
-    Nothing,
-    /// The last state pushed is the current one.
-    Same,
-    /// The next state is current, and this is its number, from 1.
-    New { number: u64 },
-}
 
 /// The end that polls states and holds their items. Contracts see the list of its events, the current and the previous state, and the items.
 #[derive(Drop)]
@@ -46,14 +36,6 @@ impl<P: Drop, N: Fits<P>> Model for Observer<P, N> {
     ghost view = { λ o. record { past = o.end; current = o.current; previous = o.previous; items = o.items.items } };
 
     ghost invariant = { λ o. (o.end.due ≡ false) × (o.rack.items ≡ nothing) × (o.end.number ≡ 0 → o.current ≡ None) × (0 < o.end.number → o.current ≡ Some o.end.state) × (o.end.number < 2 → o.previous ≡ None) × (2 ≤ o.end.number → is_some o.previous ≡ true) };
-}
-
-/// Whether a slot is active and carries an item.
-pub(crate) fn carries_item(state: &FastState, slot: usize) -> bool
-    requires { slot < slots }
-    ensures { result ≡ carries state.now slot }
-{
-    slot != 0 && (state.mask >> slot) & 1 == 1
 }
 
 /// Items that came are held, and those of slots that went off the state are given back.

@@ -3,9 +3,9 @@ ghost use Rattle.af_model.specs.StateQueue.{slots};
 ghost use Rattle.af_stateq.specs.Observes.{InOrder};
 ghost use Rattle.af_stateq.specs.Answers.{SameDraft};
 
-use crate::observer::carries_item;
 use crate::{Fits, Mutator, Observer, Poll, Queue, queue};
 use af_base::{Command, FastState, Memory, Push, Steps};
+use af_model::carries_item;
 use std::alloc::Global;
 use std::marker::Brand;
 use std::sync::ledger::{Blank, Ledger};

@@ -1,0 +1,13 @@
+use Rattle.std.proofs.Common.{ap, ◌∙◌, List, slice_set}
+use Rattle.std.proofs.lemmas.List.{set-set}
+use Rattle.af_model.specs.declared.plain_calls.Place.{Place}
+use Rattle.af_model.specs.PlainQueue.{moved}
+use Rattle.af_model.proofs.plain_queue.move_at.Goals as goal
+
+pub returns : goal.returns
+returns g c =
+    let old = c.args.places.now.items in
+    let slot = c.args.slot in
+    ap (λ (l : List (Place g.row.P.Denot)). slice_set l slot c.moved.result) c.empty-place.ensures.places
+    ∙ set-set old slot _ c.moved.result
+    ∙ ap (λ (x : Place g.row.P.Denot). slice_set old slot x) (c.moved.ensures ∙ ap (moved c.args.step.now slot) c.empty-place.ensures.place)
