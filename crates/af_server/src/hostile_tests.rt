@@ -1,419 +1,140 @@
-//! A client and a server on two threads: also a client that pokes, and a command block. What each side saw is written down call by call.
-ghost use Rattle.std.specs.Prelude.{◌≡◌, ◌<◌, ◌≤◌, ◌^◌, IsTrue, length};
-ghost use Rattle.af_cblk.specs.Sides.{client_made, server_made};
-ghost use Rattle.af_client.specs.Order.{IsInOrder as IsClientInOrder};
+//! A client and a server on two threads, on a stream block and a command block, that meet between their rounds. In each tenth run the client pokes.
+ghost use Rattle.std.specs.Prelude.{◌≡◌, ◌<◌, ◌≤◌, ◌^◌, IfOk};
 ghost use Rattle.af_model.specs.Merges.{IsStart};
-ghost use Rattle.af_server.specs.Order.{IsInOrder};
+ghost use Rattle.af_server.specs.Rounds.{IsClientOf, IsServerOf};
 
-use crate::{Look, Server};
-use af_base::{ClientEvent, Frame, Memory, Seen, ServerEvent, Steps};
+use crate::Server;
+use crate::calls::Call;
+use crate::causes::note;
+use crate::sides::{Recorded, Side, meet};
+use af_base::{ClientEvent, Memory, ServerEvent, Steps};
 use af_cblk::Block;
-use af_client::{Client, Sent, Wrote};
+use af_client::Client;
 use af_model::{TrackPoint, merge_check};
 use std::alloc::Global;
 use std::marker::Brand;
+use std::sync::atomic::{AtomicU32, Ordering};
 use std::sync::ledger::{Blank, Ledger};
 use std::test::*;
 use std::thread::{Threads, join, yield_now};
 
-// How many turns each thread has. All 48 pokes are made in them.
-const TURNS: u32 = 96;
+const ROUNDS: u32 = 3;
+// How many turns a round has. A client that pokes has more, so that it pokes every word and cell with every value.
+const TURNS: u32 = 8;
 
-const INVALID: u32 = 4;
+const POKED_TURNS: u32 = 270;
 
-// What a client does beside or in place of writing frames.
-#[derive(Clone, Copy)]
-enum Kind {
-    Stream,
-    // Pokes each word and one cell, from this word on.
-    Pokes(u32),
-    Commands,
+// The same of a stream block and of a command block.
+#[derive(Drop)]
+struct Both<T> {
+    stream: T,
+    command: T,
 }
 
-// Adds events to a list.
-fn note<E: Copy>(list: &mut Vec<E>, events: &[E]) -> Result<(), Memory> {
-    if list.extend_from_slice(events).is_err() {
-        return Err(Memory);
-    }
-    Ok(())
-}
+// What the client does, turn by turn, on the stream block and on the command block.
+const CLIENT_TURNS: [(Call, Call); 8] = [
+    (Call::Write(1, 3), Call::Send(1, 0)),
+    (Call::Write(4, 2), Call::Status),
+    (Call::Flush, Call::Send(2, 70)),
+    (Call::Write(6, 4), Call::Send(3, 0)),
+    (Call::Gains(0x0800_0400), Call::Status),
+    (Call::Write(10, 1), Call::Send(4, 5)),
+    (Call::Clear, Call::Send(5, 0)),
+    (Call::Write(11, 4), Call::Status),
+];
 
-// Adds what a write saw and did. An answer Corrupt comes only after a poke, and then no order is asked for.
-fn note_write(list: &mut Vec<ClientEvent>, wrote: &Wrote) -> Result<(), Memory> {
-    let saw = ClientEvent::SawFlags { flags: 0 };
-    match *wrote {
-        Wrote::Put { front, count, .. } => note(
-            list,
-            &[
-                saw,
-                ClientEvent::SawFront { front },
-                ClientEvent::Release { count },
-            ],
-        ),
-        Wrote::Full { front } => note(list, &[saw, ClientEvent::SawFront { front }]),
-        Wrote::Dead { flags } => note(list, &[ClientEvent::SawFlags { flags }]),
-        Wrote::Corrupt { .. } => Ok(()),
-    }
-}
+// The same of the server.
+const SERVER_TURNS: [(Call, Call); 8] = [
+    (Call::Take(3), Call::Take(2)),
+    (Call::Tally(2), Call::SetStatus(257)),
+    (Call::Take(1), Call::Take(2)),
+    (Call::SeeGains, Call::Look(2)),
+    (Call::Take(2), Call::SetStatus(514)),
+    (Call::SetFlags(8), Call::Take(2)),
+    (Call::Take(3), Call::Take(2)),
+    (Call::Look(2), Call::Take(2)),
+];
 
-// Whether a write of so many frames at this rear has the cause of its answer.
-fn has_cause(size: u32, kind: &Kind, rear: u32, asked: u32, wrote: &Wrote) -> bool {
-    let poked = matches!(kind, Kind::Pokes(_));
-    match *wrote {
-        Wrote::Put { front, count, rest } => {
-            let filled = rear.wrapping_sub(front);
-            let all = u64::from(filled) + u64::from(count) + u64::from(rest);
-            count >= 1 && count <= asked && all == u64::from(size)
+// Waits for the other thread, but not forever.
+fn start_together(here: &AtomicU32) {
+    here.fetch_add(1, Ordering::SeqCst);
+    for _ in 0..100_000u32 {
+        if here.load(Ordering::SeqCst) >= 2 {
+            return;
         }
-        Wrote::Full { front } => rear.wrapping_sub(front) == size,
-        Wrote::Dead { flags } => poked && flags & INVALID != 0,
-        Wrote::Corrupt { front, rear: at } => {
-            poked && at == rear && rear.wrapping_sub(front) > size
-        }
-    }
-}
-
-// Writes so many frames, up to four.
-fn write<L: Ledger>(
-    block: &Block,
-    client: &mut Client,
-    kind: &Kind,
-    asked: u32,
-    list: &mut Vec<ClientEvent>,
-    steps: &mut Steps<L>,
-) -> Result<bool, Memory>
-    requires made { client_made client.old.pass ≡ block.now }
-    requires order { IsClientInOrder client.old }
-    ensures made { client_made client.new.pass ≡ block.now }
-    ensures order { IsClientInOrder client.new }
-{
-    let frames = [Frame::unpack(asked); 4];
-    let released = client.released();
-    if asked == 0 || asked > 4 || released > 10_000 {
-        return Ok(false);
-    }
-    let rear = block.base().wrapping_add(released as u32);
-    let wrote = client.write(block, &frames[..asked as usize], steps);
-    if let Wrote::Full { .. } = wrote {
         yield_now();
     }
-    note_write(list, &wrote)?;
-    Ok(has_cause(block.frames(), kind, rear, asked, &wrote))
 }
 
-// Asks for a flush.
-fn flush<L: Ledger>(
-    block: &Block,
-    client: &mut Client,
-    list: &mut Vec<ClientEvent>,
-    steps: &mut Steps<L>,
-) -> Result<bool, Memory>
-    requires made { client_made client.old.pass ≡ block.now }
-    requires order { IsClientInOrder client.old }
-    ensures made { client_made client.new.pass ≡ block.now }
-    ensures order { IsClientInOrder client.new }
-{
-    let flushes = client.flushes();
-    if flushes > 10_000 {
-        return Ok(false);
-    }
-    let count = client.flush(block, steps);
-    note(list, &[ClientEvent::Flush])?;
-    Ok(count == flushes + 1)
-}
-
-// Writes, and now and then flushes, sets gains or clears DISABLED.
-fn play_stream<L: Ledger>(
-    block: &Block,
-    client: &mut Client,
-    kind: &Kind,
-    turn: u32,
-    list: &mut Vec<ClientEvent>,
-    steps: &mut Steps<L>,
-) -> Result<bool, Memory>
-    requires made { client_made client.old.pass ≡ block.now }
-    requires order { IsClientInOrder client.old }
-    ensures made { client_made client.new.pass ≡ block.now }
-    ensures order { IsClientInOrder client.new }
-{
-    match turn % 16 {
-        5 => flush(block, client, list, steps),
-        9 => {
-            client.set_gains(block, turn, steps);
-            note(list, &[ClientEvent::SetGain { word: turn }])?;
-            Ok(true)
-        }
-        13 => {
-            let old = client.clear_disabled(block, steps);
-            note(list, &[ClientEvent::ClearFlags { old }])?;
-            Ok(true)
-        }
-        _ => write(block, client, kind, 1 + turn % 4, list, steps),
-    }
-}
-
-// Pokes one of the eight words with one of six values, by the number of the poke.
-fn poke<L: Ledger>(
-    block: &Block,
-    client: &mut Client,
-    first: u32,
-    number: u32,
-    list: &mut Vec<ClientEvent>,
-    steps: &mut Steps<L>,
-) -> Result<bool, Memory>
-    requires made { client_made client.old.pass ≡ block.now }
-    requires order { IsClientInOrder client.old }
-    ensures made { client_made client.new.pass ≡ block.now }
-    ensures order { IsClientInOrder client.new }
-{
-    let size = block.frames();
-    let values = [0, 1, size, size.wrapping_add(1), 0x8000_0000, 0xffff_ffff];
-    let value = values[(number % 6) as usize];
-    let word = (number / 6).wrapping_add(first) % 8;
-    if word.saturating_sub(7) >= block.cells() {
-        return Ok(false);
-    }
-    client.poke(block, word, value, steps);
-    note(list, &[ClientEvent::Poke { word, value }])?;
-    yield_now();
-    Ok(true)
-}
-
-// Sends a command. It is never Dead nor Corrupt.
-fn send<L: Ledger>(
-    block: &Block,
-    client: &mut Client,
-    code: u32,
-    list: &mut Vec<ClientEvent>,
-    steps: &mut Steps<L>,
-) -> Result<bool, Memory>
-    requires made { client_made client.old.pass ≡ block.now }
-    requires order { IsClientInOrder client.old }
-    ensures made { client_made client.new.pass ≡ block.now }
-    ensures order { IsClientInOrder client.new }
-{
-    if block.frames() != 128 || block.base() != 0 || client.released() > 10_000 {
-        return Ok(false);
-    }
-    let saw = ClientEvent::SawFlags { flags: 0 };
-    match client.send(block, code, 0, steps) {
-        Sent::Sent { front } => {
-            let released = ClientEvent::Release { count: 2 };
-            note(list, &[saw, ClientEvent::SawFront { front }, released])?;
-            Ok(true)
-        }
-        Sent::Full { front } => {
-            note(list, &[saw, ClientEvent::SawFront { front }])?;
-            yield_now();
-            Ok(true)
-        }
-        _ => Ok(false),
-    }
-}
-
-// One turn of the client: whether its answer had its cause.
-fn client_turn<L: Ledger>(
-    block: &Block,
-    client: &mut Client,
-    kind: &Kind,
-    turn: u32,
-    list: &mut Vec<ClientEvent>,
-    steps: &mut Steps<L>,
-) -> Result<bool, Memory>
-    requires made { client_made client.old.pass ≡ block.now }
-    requires order { IsClientInOrder client.old }
-    ensures made { client_made client.new.pass ≡ block.now }
-    ensures order { IsClientInOrder client.new }
-{
-    match *kind {
-        Kind::Pokes(first) if turn % 2 == 1 => poke(block, client, first, turn / 2, list, steps),
-        Kind::Pokes(_) => play_stream(block, client, kind, turn / 2, list, steps),
-        Kind::Commands if turn % 4 == 3 => {
-            let word = client.status(block, steps);
-            note(list, &[ClientEvent::SawStatus { word }])?;
-            Ok(true)
-        }
-        Kind::Commands => send(block, client, turn % 8, list, steps),
-        Kind::Stream => play_stream(block, client, kind, turn, list, steps),
-    }
-}
-
-// All turns of the client: its list, and whether each answer had its cause.
-fn client_side_in<L: Ledger>(
+// Makes the calls in order, each on its block.
+fn play_all<S: Side, L: Ledger>(
     blank: Blank,
-    block: &Block,
-    mut client: Client,
-    kind: &Kind,
-    alloc: Global,
-) -> Result<(Vec<ClientEvent>, bool), Memory>
+    blocks: &Both<Block>,
+    mut sides: Both<S>,
+    calls: &[(Call, Call)],
+) -> Result<Both<S>, Memory>
     requires ledger { (blank.name ≡ L.name) × (blank.parts ≡ L.parts) × (0 < blank.parts) }
-    requires made { client_made client.pass ≡ block.now }
-    requires order { IsClientInOrder client }
+    requires stream { S.is_ready blocks.now.stream sides.stream }
+    requires command { S.is_ready blocks.now.command sides.command }
+    ensures stream { IfOk result (λ s. S.is_ready blocks.now.stream s.stream) }
+    ensures command { IfOk result (λ s. S.is_ready blocks.now.command s.command) }
 {
     let mut steps = Steps::<L>::start(blank);
-    let mut list = Vec::new(alloc);
-    let mut sound = true;
-    for turn in 0..TURNS {
-        let caused = client_turn(block, &mut client, kind, turn, &mut list, &mut steps)?;
-        sound = sound && caused;
+    for (on_stream, on_command) in calls {
+        sides.stream.play(&blocks.stream, on_stream, &mut steps)?;
+        sides.command.play(&blocks.command, on_command, &mut steps)?;
     }
-    Ok((list, sound))
+    Ok(sides)
 }
 
-fn client_side(
-    block: &Block,
-    client: Client,
-    kind: &Kind,
-    alloc: Global,
-) -> Result<(Vec<ClientEvent>, bool), Memory>
-    requires made { client_made client.pass ≡ block.now }
-    requires order { IsClientInOrder client }
+// One thread of a round.
+fn play_round<S: Side>(
+    here: &AtomicU32,
+    blocks: &Both<Block>,
+    sides: Both<S>,
+    calls: &[(Call, Call)],
+) -> Result<Both<S>, Memory>
+    requires stream { S.is_ready blocks.now.stream sides.stream }
+    requires command { S.is_ready blocks.now.command sides.command }
+    ensures stream { IfOk result (λ s. S.is_ready blocks.now.stream s.stream) }
+    ensures command { IfOk result (λ s. S.is_ready blocks.now.command s.command) }
 {
-    client_side_in::<Brand>(Blank::new(1), block, client, kind, alloc)
+    start_together(here);
+    play_all::<S, Brand>(Blank::new(1), blocks, sides, calls)
 }
 
-// Whether a look for so many frames, at the flush count kept and this front, has the cause of its answer.
-fn look_has_cause(size: u32, kind: &Kind, kept: u32, front: u32, ask: u32, look: &Look) -> bool {
-    let there = look.rear.wrapping_sub(front);
-    match (look.seen, kind) {
-        (Seen::Shut { front, rear }, Kind::Pokes(_)) => rear.wrapping_sub(front) > size,
-        (Seen::Flushed { .. }, Kind::Pokes(_)) => look.flush != kept,
-        (Seen::Empty, Kind::Pokes(_)) => look.flush == kept,
-        (Seen::Frames { count }, Kind::Pokes(_)) => {
-            look.flush == kept && count >= 1 && count <= ask
-        }
-        (Seen::Flushed { dropped }, _) => look.flush > kept && dropped == there,
-        (Seen::Empty, _) => look.flush == kept && there == 0,
-        (Seen::Frames { count }, Kind::Commands) => count == 2 && there % 2 == 0,
-        (Seen::Frames { count }, _) => {
-            look.flush == kept && count >= 1 && count == ask.min(there) && there <= size
-        }
-        _ => false,
-    }
-}
+type Clients = Both<Recorded<Client, ClientEvent>>;
 
-// Adds what a look saw at this front, and a drop or a take.
-fn note_look(list: &mut Vec<ServerEvent>, front: u32, look: &Look) -> Result<(), Memory> {
-    let Look { flush, rear, seen } = *look;
-    let saw = [
-        ServerEvent::SawFlush { flush },
-        ServerEvent::SawRear { rear },
-        ServerEvent::SawFront { front },
-    ];
-    note(list, &saw)?;
-    match seen {
-        Seen::Flushed { .. } => note(list, &[ServerEvent::Drop { to: rear }]),
-        Seen::Frames { count } => note(list, &[ServerEvent::Take { count }]),
-        _ => Ok(()),
-    }
-}
+type Servers = Both<Recorded<Server, ServerEvent>>;
 
-// Looks for up to three frames, and takes what was shown.
-fn take<L: Ledger>(
-    block: &Block,
-    server: &mut Server,
-    kind: &Kind,
-    ask: u32,
-    list: &mut Vec<ServerEvent>,
-    steps: &mut Steps<L>,
-) -> Result<bool, Memory>
-    requires made { server_made server.old.pass ≡ block.now }
-    requires order { IsInOrder server.old }
-    ensures made { server_made server.new.pass ≡ block.now }
-    ensures order { IsInOrder server.new }
+// Both threads of a round.
+fn round<R: Threads + Sync>(
+    rt: &R,
+    blocks: &Both<Block>,
+    clients: Clients,
+    servers: Servers,
+    client_calls: &[(Call, Call)],
+    server_calls: &[(Call, Call)],
+) -> Result<(Clients, Servers), Memory>
+    requires clients { IsClientOf blocks.now.stream clients.stream.proxy × IsClientOf blocks.now.command clients.command.proxy }
+    requires servers { IsServerOf blocks.now.stream servers.stream.proxy × IsServerOf blocks.now.command servers.command.proxy }
+    ensures clients { IfOk result (λ r. IsClientOf blocks.now.stream r.0.stream.proxy × IsClientOf blocks.now.command r.0.command.proxy) }
+    ensures servers { IfOk result (λ r. IsServerOf blocks.now.stream r.1.stream.proxy × IsServerOf blocks.now.command r.1.command.proxy) }
 {
-    let mut into = [Frame::unpack(0); 3];
-    if ask == 0 || ask > 3 {
-        return Ok(false);
-    }
-    let consumed = (server.consumed() % 0x1_0000_0000) as u32;
-    let front = block.base().wrapping_add(consumed);
-    let kept = server.flush_seen();
-    let look = server.look(block, ask, steps);
-    match look.seen {
-        Seen::Frames { count } => server.take(block, &mut into[..count as usize], steps),
-        _ => yield_now(),
-    }
-    note_look(list, front, &look)?;
-    Ok(look_has_cause(block.frames(), kind, kept, front, ask, &look))
-}
-
-// One turn of the server: whether its answer had its cause.
-fn server_turn<L: Ledger>(
-    block: &Block,
-    server: &mut Server,
-    kind: &Kind,
-    turn: u32,
-    list: &mut Vec<ServerEvent>,
-    steps: &mut Steps<L>,
-) -> Result<bool, Memory>
-    requires made { server_made server.old.pass ≡ block.now }
-    requires order { IsInOrder server.old }
-    ensures made { server_made server.new.pass ≡ block.now }
-    ensures order { IsInOrder server.new }
-{
-    match turn % 16 {
-        3 => {
-            server.tally(block, 1 + turn, steps);
-            let tally = ServerEvent::Tally { missing: 1 + turn };
-            note(list, &[tally, ServerEvent::SetFlags { bits: 1 }])?;
-        }
-        7 => {
-            server.set_flags(block, 8, steps);
-            note(list, &[ServerEvent::SetFlags { bits: 8 }])?;
-        }
-        11 => {
-            let word = server.gains(block, steps);
-            note(list, &[ServerEvent::SawGain { word }])?;
-        }
-        15 => {
-            server.set_status(block, turn, steps);
-            note(list, &[ServerEvent::SetStatus { word: turn }])?;
-        }
-        _ => {
-            let ask = if let Kind::Commands = *kind {
-                2
-            } else {
-                1 + turn % 3
-            };
-            return take(block, server, kind, ask, list, steps);
-        }
-    }
-    Ok(true)
-}
-
-// All turns of the server: its list, and whether each answer had its cause.
-fn server_side_in<L: Ledger>(
-    blank: Blank,
-    block: &Block,
-    mut server: Server,
-    kind: &Kind,
-    alloc: Global,
-) -> Result<(Vec<ServerEvent>, bool), Memory>
-    requires ledger { (blank.name ≡ L.name) × (blank.parts ≡ L.parts) × (0 < blank.parts) }
-    requires made { server_made server.pass ≡ block.now }
-    requires order { IsInOrder server }
-{
-    let mut steps = Steps::<L>::start(blank);
-    let mut list = Vec::new(alloc);
-    let mut sound = true;
-    for turn in 0..TURNS {
-        let caused = server_turn(block, &mut server, kind, turn, &mut list, &mut steps)?;
-        sound = sound && caused;
-    }
-    Ok((list, sound))
-}
-
-fn server_side(
-    block: &Block,
-    server: Server,
-    kind: &Kind,
-    alloc: Global,
-) -> Result<(Vec<ServerEvent>, bool), Memory>
-    requires made { server_made server.pass ≡ block.now }
-    requires order { IsInOrder server }
-{
-    server_side_in::<Brand>(Blank::new(1), block, server, kind, alloc)
+    let here = AtomicU32::new(0);
+    let at = &here;
+    let (clients, servers) = join(
+        rt,
+        move || -> Result<Clients, Memory>
+            requires { IsClientOf blocks.now.stream clients.stream.proxy × IsClientOf blocks.now.command clients.command.proxy }
+            ensures { IfOk result (λ c. IsClientOf blocks.entry.now.stream c.stream.proxy × IsClientOf blocks.entry.now.command c.command.proxy) }
+        { play_round(at, blocks, clients, client_calls) },
+        move || -> Result<Servers, Memory>
+            requires { IsServerOf blocks.now.stream servers.stream.proxy × IsServerOf blocks.now.command servers.command.proxy }
+            ensures { IfOk result (λ s. IsServerOf blocks.entry.now.stream s.stream.proxy × IsServerOf blocks.entry.now.command s.command.proxy) }
+        { play_round(at, blocks, servers, server_calls) },
+    );
+    Ok((clients?, servers?))
 }
 
 // A block at its base.
@@ -434,48 +155,149 @@ fn fresh(base: u64) -> TrackPoint
     }
 }
 
-// Whether the two lists, each of at most 10,000 events, have a legal order.
-fn has_order(
+// Whether each answer had its cause, and the lists, each of at most 10,000 events, have a legal order if nothing was poked.
+fn is_told(
     alloc: Global,
     base: u32,
-    client: &[ClientEvent],
-    server: &[ServerEvent],
+    client: &Recorded<Client, ClientEvent>,
+    server: &Recorded<Server, ServerEvent>,
 ) -> Result<bool, Memory> {
-    if client.len() > 10_000 || server.len() > 10_000 {
+    let sound = client.sound && server.sound;
+    if client.poked || !sound {
+        return Ok(sound);
+    }
+    if client.list.len() > 10_000 || server.list.len() > 10_000 {
         return Ok(false);
     }
-    merge_check(alloc, client, server, &[], &fresh(u64::from(base)))
+    let from = fresh(u64::from(base));
+    merge_check(
+        alloc,
+        client.list.as_slice(),
+        server.list.as_slice(),
+        &[],
+        &from,
+    )
 }
 
-// Whether each answer of a run had its cause, and the lists have an order exactly where nothing was poked.
-fn run<R: Threads + Sync>(
-    rt: &R,
+// The meetings after a round, and whether all is told as it should be.
+fn meet_both(
     alloc: Global,
+    blocks: &Both<Block>,
+    clients: &mut Clients,
+    servers: &mut Servers,
+) -> Result<bool, Memory>
+    requires clients { IsClientOf blocks.now.stream clients.old.stream.proxy × IsClientOf blocks.now.command clients.old.command.proxy }
+    requires servers { IsServerOf blocks.now.stream servers.old.stream.proxy × IsServerOf blocks.now.command servers.old.command.proxy }
+    ensures clients { IsClientOf blocks.now.stream clients.new.stream.proxy × IsClientOf blocks.now.command clients.new.command.proxy }
+    ensures servers { IsServerOf blocks.now.stream servers.new.stream.proxy × IsServerOf blocks.now.command servers.new.command.proxy }
+{
+    let Both { stream, command } = blocks;
+    meet(stream, &mut clients.stream, &mut servers.stream)?;
+    meet(command, &mut clients.command, &mut servers.command)?;
+    let first = is_told(alloc, stream.base(), &clients.stream, &servers.stream)?;
+    let second = is_told(alloc, 0, &clients.command, &servers.command)?;
+    Ok(first && second)
+}
+
+// A run: the frames and the base of its stream block, and from which word on its client pokes, if it does.
+#[derive(Clone, Copy, Drop)]
+struct Plan {
     frames: u32,
     base: u32,
-    kind: Kind,
+    poked: Option<u32>,
+}
+
+// The poke of a number, from a word on: each word and cell with each of six values.
+fn poke(block: &Block, first: u32, number: u32) -> Call {
+    let size = block.frames();
+    let values = [0, 1, size, size.wrapping_add(1), 0x8000_0000, 0xffff_ffff];
+    let words = 7 + block.cells();
+    let word = first.wrapping_add(number / 6) % words;
+    Call::Poke(word, values[(number % 6) as usize])
+}
+
+// The calls of a client's round: those of the table, and after each a poke.
+fn client_calls(
+    alloc: Global,
+    blocks: &Both<Block>,
+    plan: &Plan,
+    round: u32,
+) -> Result<Vec<(Call, Call)>, Memory> {
+    let mut calls = Vec::new(alloc);
+    let Some(first) = plan.poked else {
+        note(&mut calls, &CLIENT_TURNS)?;
+        return Ok(calls);
+    };
+    for turn in 0..POKED_TURNS {
+        let number = round.wrapping_mul(POKED_TURNS).wrapping_add(turn);
+        let pokes = (
+            poke(&blocks.stream, first, number),
+            poke(&blocks.command, first, number),
+        );
+        note(&mut calls, &[CLIENT_TURNS[(turn % 8) as usize], pokes])?;
+    }
+    Ok(calls)
+}
+
+// The calls of a server's round.
+fn server_calls(alloc: Global, plan: &Plan) -> Result<Vec<(Call, Call)>, Memory> {
+    let mut calls = Vec::new(alloc);
+    let times = match plan.poked {
+        None => 1,
+        Some(_) => POKED_TURNS / 4,
+    };
+    for _ in 0..times {
+        note(&mut calls, &SERVER_TURNS)?;
+    }
+    Ok(calls)
+}
+
+// All rounds of a run, with a meeting after each: whether all is told as it should be.
+fn rounds<R: Threads + Sync>(
+    rt: &R,
+    alloc: Global,
+    plan: &Plan,
+    blocks: &Both<Block>,
+    mut clients: Clients,
+    mut servers: Servers,
 ) -> Result<bool, Memory>
-    requires { (1 ≤ frames) × (frames ≤ 65536) }
+    requires clients { IsClientOf blocks.now.stream clients.stream.proxy × IsClientOf blocks.now.command clients.command.proxy }
+    requires servers { IsServerOf blocks.now.stream servers.stream.proxy × IsServerOf blocks.now.command servers.command.proxy }
 {
-    let (block, client, server) = Block::make(alloc, frames, base)?;
-    let shared = &block;
-    let told = &kind;
-    let client = Client::with(client, shared);
-    let server = Server::with(server, shared);
-    let (client, server) = join(
-        rt,
-        move || -> Result<(Vec<ClientEvent>, bool), Memory>
-            requires { (client_made client.pass ≡ shared.now) × IsClientInOrder client }
-        { client_side(shared, client, told, alloc) },
-        move || -> Result<(Vec<ServerEvent>, bool), Memory>
-            requires { (server_made server.pass ≡ shared.now) × IsInOrder server }
-        { server_side(shared, server, told, alloc) },
-    );
-    let (client, client_sound) = client?;
-    let (server, server_sound) = server?;
-    let ordered = has_order(alloc, base, client.as_slice(), server.as_slice())?;
-    let lawful = !matches!(kind, Kind::Pokes(_));
-    Ok(client_sound && server_sound && ordered == lawful)
+    let theirs = server_calls(alloc, plan)?;
+    let mut all = true;
+    for number in 0..ROUNDS {
+        let ours = client_calls(alloc, blocks, plan, number)?;
+        (clients, servers) = round(
+            rt,
+            blocks,
+            clients,
+            servers,
+            ours.as_slice(),
+            theirs.as_slice(),
+        )?;
+        let told = meet_both(alloc, blocks, &mut clients, &mut servers)?;
+        all = all && told;
+    }
+    Ok(all)
+}
+
+// A run on two new blocks.
+fn run<R: Threads + Sync>(rt: &R, alloc: Global, plan: &Plan) -> Result<bool, Memory>
+    requires { (1 ≤ plan.now.frames) × (plan.now.frames ≤ 65536) }
+{
+    let poked = plan.poked.is_some();
+    let (stream, stream_client, stream_server) = Block::make(alloc, plan.frames, plan.base)?;
+    let (command, client, server) = Block::make(alloc, 128, 0)?;
+    let clients = Both {
+        stream: Recorded::new(alloc, Client::with(stream_client, &stream), poked),
+        command: Recorded::new(alloc, Client::with(client, &command), poked),
+    };
+    let servers = Both {
+        stream: Recorded::new(alloc, Server::with(stream_server, &stream), poked),
+        command: Recorded::new(alloc, Server::with(server, &command), poked),
+    };
+    rounds(rt, alloc, plan, &Both { stream, command }, clients, servers)
 }
 
 // Twenty runs, of which each tenth pokes.
@@ -488,24 +310,24 @@ fn all_runs<R: Threads + Sync>(rt: &R, alloc: Global) -> Result<bool, Memory> {
             2 => (3, 0xffff_fffe),
             _ => (5, 7),
         };
-        let kind = match number % 10 {
-            9 => Kind::Pokes(number / 10 * 4),
-            _ => Kind::Stream,
+        let poked = match number {
+            9 => Some(7),
+            19 => Some(2),
+            _ => None,
         };
-        let held = run(rt, alloc, frames, base, kind)?;
-        all = all && held;
+        let plan = Plan {
+            frames,
+            base,
+            poked,
+        };
+        let told = run(rt, alloc, &plan)?;
+        all = all && told;
     }
     Ok(all)
 }
 
 #[test]
-fn each_answer_has_its_cause_on_two_threads(rt: HostRuntime) {
+fn all_is_told_as_it_should_be_on_two_threads(rt: HostRuntime) {
     let found = all_runs(&rt, rt.alloc());
-    assert!(rt; found == Ok(true));
-}
-
-#[test]
-fn commands_come_whole_on_two_threads(rt: HostRuntime) {
-    let found = run(&rt, rt.alloc(), 128, 0, Kind::Commands);
     assert!(rt; found == Ok(true));
 }

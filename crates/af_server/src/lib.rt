@@ -11,8 +11,14 @@ pub use look::Look;
 pub use server::{MOST_CONSUMED, Server};
 
 #[cfg(test)]
+mod calls;
+#[cfg(test)]
+mod causes;
+#[cfg(test)]
 mod hostile_tests;
 #[cfg(test)]
 mod relay;
+#[cfg(test)]
+mod sides;
 #[cfg(test)]
 mod tests;

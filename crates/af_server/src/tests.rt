@@ -4,156 +4,15 @@ ghost use Rattle.af_cblk.specs.Sides.{client_made, server_made};
 ghost use Rattle.af_client.specs.Order.{IsInOrder as IsClientInOrder};
 ghost use Rattle.af_server.specs.Order.{IsInOrder};
 
-use crate::Server;
-use af_base::{Frame, Memory, Seen, Steps};
+use crate::calls::{Answer, Call, ask_client, ask_server};
+use crate::{Look, Server};
+use af_base::{Memory, Seen, Steps};
 use af_cblk::Block;
 use af_client::{Client, Sent, Wrote};
 use std::alloc::Global;
 use std::marker::Brand;
 use std::sync::ledger::{Blank, Ledger};
 use std::test::*;
-
-// A call on one of the two proxies.
-#[derive(Clone, Copy)]
-enum Call {
-    // Writes `count` of the numbered frames, from this number on.
-    Write(u16, u16),
-    Flush,
-    Gains(u32),
-    Clear,
-    Send(u32, u32),
-    Status,
-    Poke(u32, u32),
-    Look(u32),
-    // Looks, and takes what was shown.
-    Take(u32),
-    SeeGains,
-    Tally(u32),
-    SetFlags(u32),
-    SetStatus(u32),
-}
-
-#[derive(Clone, Copy, PartialEq, Eq)]
-enum Answer {
-    Wrote(Wrote),
-    Sent(Sent),
-    Word(u32),
-    Saw(Seen),
-    // The words of the frames taken.
-    Took(Seen, [u32; 3]),
-    Done,
-}
-
-// The frame of a number.
-fn numbered(number: u16) -> Frame {
-    Frame::unpack(u32::from(number))
-}
-
-// Writes the frames of up to four numbers.
-fn write<L: Ledger>(
-    block: &Block,
-    client: &mut Client,
-    first: u16,
-    count: u16,
-    steps: &mut Steps<L>,
-) -> Answer
-    requires made { client_made client.old.pass ≡ block.now }
-    requires order { IsClientInOrder client.old }
-    ensures made { client_made client.new.pass ≡ block.now }
-    ensures order { IsClientInOrder client.new }
-{
-    let frames = [
-        numbered(first),
-        numbered(first.wrapping_add(1)),
-        numbered(first.wrapping_add(2)),
-        numbered(first.wrapping_add(3)),
-    ];
-    if count == 0 || count > 4 || client.released() > 1000 {
-        return Answer::Done;
-    }
-    Answer::Wrote(client.write(block, &frames[..count as usize], steps))
-}
-
-// What the client's calls answer.
-fn ask_client<L: Ledger>(
-    block: &Block,
-    client: &mut Client,
-    call: &Call,
-    steps: &mut Steps<L>,
-) -> Answer
-    requires made { client_made client.old.pass ≡ block.now }
-    requires order { IsClientInOrder client.old }
-    ensures made { client_made client.new.pass ≡ block.now }
-    ensures order { IsClientInOrder client.new }
-{
-    match *call {
-        Call::Write(first, count) => write(block, client, first, count, steps),
-        Call::Flush if client.flushes() < 1000 => Answer::Word(client.flush(block, steps)),
-        Call::Gains(word) => {
-            client.set_gains(block, word, steps);
-            Answer::Done
-        }
-        Call::Clear => Answer::Word(client.clear_disabled(block, steps)),
-        Call::Send(code, argument)
-            if block.frames() == 128 && block.base() == 0 && client.released() < 1000 => {
-            Answer::Sent(client.send(block, code, argument, steps))
-        }
-        Call::Status => Answer::Word(client.status(block, steps)),
-        Call::Poke(word, value) if word < block.cells() => {
-            client.poke(block, word, value, steps);
-            Answer::Done
-        }
-        _ => Answer::Done,
-    }
-}
-
-// Looks for up to three frames, and takes them.
-fn take<L: Ledger>(block: &Block, server: &mut Server, ask: u32, steps: &mut Steps<L>) -> Answer
-    requires made { server_made server.old.pass ≡ block.now }
-    requires order { IsInOrder server.old }
-    requires ask { (1 ≤ ask) × (ask ≤ 3) }
-    ensures made { server_made server.new.pass ≡ block.now }
-    ensures order { IsInOrder server.new }
-{
-    let mut into = [numbered(0); 3];
-    let seen = server.look(block, ask, steps).seen;
-    if let Seen::Frames { count } = seen {
-        server.take(block, &mut into[..count as usize], steps);
-    }
-    Answer::Took(seen, [into[0].pack(), into[1].pack(), into[2].pack()])
-}
-
-// What the server's calls answer.
-fn ask_server<L: Ledger>(
-    block: &Block,
-    server: &mut Server,
-    call: &Call,
-    steps: &mut Steps<L>,
-) -> Answer
-    requires made { server_made server.old.pass ≡ block.now }
-    requires order { IsInOrder server.old }
-    ensures made { server_made server.new.pass ≡ block.now }
-    ensures order { IsInOrder server.new }
-{
-    match *call {
-        Call::Look(ask) if ask > 0 => Answer::Saw(server.look(block, ask, steps).seen),
-        Call::Take(ask) if ask > 0 && ask <= 3 => take(block, server, ask, steps),
-        Call::SeeGains => Answer::Word(server.gains(block, steps)),
-        Call::Tally(missing) if missing > 0 => {
-            server.tally(block, missing, steps);
-            Answer::Done
-        }
-        Call::SetFlags(bits) => {
-            server.set_flags(block, bits, steps);
-            Answer::Done
-        }
-        Call::SetStatus(word) => {
-            server.set_status(block, word, steps);
-            Answer::Done
-        }
-        _ => Answer::Done,
-    }
-}
 
 fn is_server(call: &Call) -> bool {
     matches!(
@@ -219,16 +78,18 @@ fn put(front: u32, count: u32, rest: u32) -> Answer {
     Answer::Wrote(Wrote::Put { front, count, rest })
 }
 
-fn showed(count: u32) -> Answer {
-    Answer::Saw(Seen::Frames { count })
+// What a look saw: the flush count, the rear, and what they come to.
+fn saw(flush: u32, rear: u32, seen: Seen) -> Answer {
+    Answer::Saw(Look { flush, rear, seen })
 }
 
-fn took(count: u32, words: [u32; 3]) -> Answer {
-    Answer::Took(Seen::Frames { count }, words)
+fn flushed(flush: u32, rear: u32, dropped: u32) -> Answer {
+    saw(flush, rear, Seen::Flushed { dropped })
 }
 
-fn flushed(dropped: u32) -> Answer {
-    Answer::Saw(Seen::Flushed { dropped })
+fn took(flush: u32, rear: u32, count: u32, words: [u32; 3]) -> Answer {
+    let seen = Seen::Frames { count };
+    Answer::Took(Look { flush, rear, seen }, words)
 }
 
 #[test]
@@ -238,9 +99,9 @@ fn positions_wrap(rt: HostRuntime) {
         (Call::Write(1, 4), put(0xffff_fffe, 2, 2)),
         (Call::Write(3, 2), put(0xffff_fffe, 2, 0)),
         (Call::Write(5, 1), full),
-        (Call::Take(3), took(3, [1, 2, 3])),
+        (Call::Take(3), took(0, 2, 3, [1, 2, 3])),
         (Call::Write(5, 1), put(1, 1, 2)),
-        (Call::Take(3), took(2, [4, 5, 0])),
+        (Call::Take(3), took(0, 3, 2, [4, 5, 0])),
     ];
     assert!(rt; plays(rt.alloc(), 4, 0xffff_fffe, &table) == Ok(true));
 }
@@ -251,10 +112,10 @@ fn cells_are_more_than_frames(rt: HostRuntime) {
     let table = [
         (Call::Write(1, 4), put(0, 3, 0)),
         (Call::Write(4, 1), full),
-        (Call::Take(2), took(2, [1, 2, 0])),
+        (Call::Take(2), took(0, 3, 2, [1, 2, 0])),
         (Call::Write(4, 2), put(2, 1, 1)),
         (Call::Write(5, 1), put(2, 1, 0)),
-        (Call::Take(3), took(3, [3, 4, 5])),
+        (Call::Take(3), took(0, 5, 3, [3, 4, 5])),
         (Call::Write(6, 1), put(5, 1, 2)),
     ];
     assert!(rt; plays(rt.alloc(), 3, 0, &table) == Ok(true));
@@ -263,9 +124,9 @@ fn cells_are_more_than_frames(rt: HostRuntime) {
         (Call::Write(1, 4), put(0xffff_fffe, 2, 1)),
         (Call::Write(3, 2), put(0xffff_fffe, 1, 0)),
         (Call::Write(4, 1), full),
-        (Call::Take(2), took(2, [1, 2, 0])),
+        (Call::Take(2), took(0, 1, 2, [1, 2, 0])),
         (Call::Write(4, 2), put(0, 2, 0)),
-        (Call::Take(3), took(3, [3, 4, 5])),
+        (Call::Take(3), took(0, 3, 3, [3, 4, 5])),
         (Call::Write(6, 1), put(3, 1, 2)),
     ];
     assert!(rt; plays(rt.alloc(), 3, 0xffff_fffe, &table) == Ok(true));
@@ -278,13 +139,13 @@ fn each_new_flush_is_noticed_once(rt: HostRuntime) {
         (Call::Write(1, 3), put(0, 3, 5)),
         (Call::Flush, Answer::Word(1)),
         (Call::Write(4, 2), put(0, 2, 3)),
-        (Call::Look(4), flushed(5)),
-        (Call::Look(4), Answer::Saw(Seen::Empty)),
+        (Call::Look(4), flushed(1, 5, 5)),
+        (Call::Look(4), saw(1, 5, Seen::Empty)),
         (Call::Flush, Answer::Word(2)),
         (Call::Flush, Answer::Word(3)),
-        (Call::Look(4), flushed(0)),
+        (Call::Look(4), flushed(3, 5, 0)),
         (Call::Write(6, 1), put(5, 1, 7)),
-        (Call::Take(3), took(1, [6, 0, 0])),
+        (Call::Take(3), took(3, 6, 1, [6, 0, 0])),
         (Call::Gains(0x0800_0400), Answer::Done),
         (Call::SeeGains, Answer::Word(0x0800_0400)),
         (Call::Tally(3), Answer::Done),
@@ -301,14 +162,15 @@ fn each_new_flush_is_noticed_once(rt: HostRuntime) {
 #[test]
 fn a_client_that_pokes_shuts_both(rt: HostRuntime) {
     let corrupt = Answer::Wrote(Wrote::Corrupt { front: 3, rear: 2 });
-    let shut = Answer::Saw(Seen::Shut {
+    let words = Seen::Shut {
         front: 100,
         rear: 3,
-    });
+    };
+    let shut = saw(0, 3, words);
     let table = [
         (Call::Write(1, 2), put(0, 2, 2)),
         (Call::Poke(1, 3), Answer::Done),
-        (Call::Take(3), took(3, [1, 2, 0])),
+        (Call::Take(3), took(0, 3, 3, [1, 2, 0])),
         (Call::Write(3, 1), corrupt),
         (Call::Write(3, 1), corrupt),
         (Call::Poke(0, 100), Answer::Done),
@@ -344,7 +206,7 @@ fn commands_in<L: Ledger>(blank: Blank, alloc: Global) -> Result<bool, Memory>
     let sent = all_sent(&block, &mut client, 64, &mut steps);
     let table = [
         (Call::Send(1, 0), Answer::Sent(Sent::Full { front: 0 })),
-        (Call::Take(2), took(2, [1, 0, 0])),
+        (Call::Take(2), took(0, 128, 2, [1, 0, 0])),
         (Call::SetStatus(514), Answer::Done),
         (Call::Status, Answer::Word(514)),
         (Call::Send(2, 0), Answer::Sent(Sent::Sent { front: 2 })),
