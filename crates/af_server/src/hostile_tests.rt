@@ -19,9 +19,7 @@ use std::test::*;
 use std::thread::{Threads, join, yield_now};
 
 const ROUNDS: u32 = 3;
-// How many turns a round has. A client that pokes has more, so that it pokes every word and cell with every value.
-const TURNS: u32 = 8;
-
+// How many turns a round of a client that pokes has: in all rounds it pokes each of 135 words with each of six values.
 const POKED_TURNS: u32 = 270;
 
 // The same of a stream block and of a command block.
@@ -239,12 +237,12 @@ fn client_calls(
     Ok(calls)
 }
 
-// The calls of a server's round.
+// The calls of a server's round. Beside a client that pokes it has fewer turns, so that the command block is full at times.
 fn server_calls(alloc: Global, plan: &Plan) -> Result<Vec<(Call, Call)>, Memory> {
     let mut calls = Vec::new(alloc);
     let times = match plan.poked {
         None => 1,
-        Some(_) => POKED_TURNS / 4,
+        Some(_) => POKED_TURNS / 16,
     };
     for _ in 0..times {
         note(&mut calls, &SERVER_TURNS)?;
@@ -300,27 +298,32 @@ fn run<R: Threads + Sync>(rt: &R, alloc: Global, plan: &Plan) -> Result<bool, Me
     rounds(rt, alloc, plan, &Both { stream, command }, clients, servers)
 }
 
-// Twenty runs, of which each tenth pokes.
+// The plan of the run of a number. Each tenth pokes.
+fn plan_of(number: u32) -> Plan
+    ensures { (1 ≤ result.frames) × (result.frames ≤ 65536) }
+{
+    let (frames, base) = match number % 3 {
+        0 => (3, 0xffff_fffe),
+        1 => (5, 0xffff_fffa),
+        _ => (4, 7),
+    };
+    let poked = match number {
+        9 => Some(7),
+        19 => Some(2),
+        29 => Some(0),
+        _ => None,
+    };
+    Plan {
+        frames,
+        base,
+        poked,
+    }
+}
+
 fn all_runs<R: Threads + Sync>(rt: &R, alloc: Global) -> Result<bool, Memory> {
     let mut all = true;
-    for number in 0..20u32 {
-        let (frames, base) = match number % 4 {
-            0 => (3, 0),
-            1 => (5, 0xffff_fffe),
-            2 => (3, 0xffff_fffe),
-            _ => (5, 7),
-        };
-        let poked = match number {
-            9 => Some(7),
-            19 => Some(2),
-            _ => None,
-        };
-        let plan = Plan {
-            frames,
-            base,
-            poked,
-        };
-        let told = run(rt, alloc, &plan)?;
+    for number in 0..30 {
+        let told = run(rt, alloc, &plan_of(number))?;
         all = all && told;
     }
     Ok(all)

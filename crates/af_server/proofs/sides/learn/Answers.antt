@@ -1,7 +1,6 @@
 use Rattle.std.proofs.Common.{◌≡◌, ap, ◌∙◌}
 use Rattle.af_cblk.specs.Parts.{client_met}
 use Rattle.af_cblk.specs.Sides.{ClientSide}
-use Rattle.af_cblk.specs.declared.view.ClientPart.{ClientPart}
 use Rattle.af_client.proofs.Kept.{met_keeps}
 use Rattle.af_client.specs.Order.{ClientState}
 use Rattle.af_server.proofs.sides.learn.Goals as goal
