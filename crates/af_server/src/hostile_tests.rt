@@ -19,6 +19,7 @@ use std::test::*;
 use std::thread::{Threads, join, yield_now};
 
 const ROUNDS: u32 = 3;
+
 // How many turns a round of a client that pokes has: in all rounds it pokes each of 135 words with each of six values.
 const POKED_TURNS: u32 = 270;
 
@@ -153,8 +154,8 @@ fn fresh(base: u64) -> TrackPoint
     }
 }
 
-// Whether each answer had its cause, and the lists, each of at most 10,000 events, have a legal order if nothing was poked.
-fn is_told(
+// Whether each answer had its cause, and, where the client does not poke, the lists have a legal order. Each list has at most 10,000 events.
+fn has_causes_and_order(
     alloc: Global,
     base: u32,
     client: &Recorded<Client, ClientEvent>,
@@ -177,7 +178,7 @@ fn is_told(
     )
 }
 
-// The meetings after a round, and whether all is told as it should be.
+// The meetings after a round, and whether on each block the answers have their causes, and the lists an order.
 fn meet_both(
     alloc: Global,
     blocks: &Both<Block>,
@@ -192,8 +193,8 @@ fn meet_both(
     let Both { stream, command } = blocks;
     meet(stream, &mut clients.stream, &mut servers.stream)?;
     meet(command, &mut clients.command, &mut servers.command)?;
-    let first = is_told(alloc, stream.base(), &clients.stream, &servers.stream)?;
-    let second = is_told(alloc, 0, &clients.command, &servers.command)?;
+    let first = has_causes_and_order(alloc, stream.base(), &clients.stream, &servers.stream)?;
+    let second = has_causes_and_order(alloc, 0, &clients.command, &servers.command)?;
     Ok(first && second)
 }
 
@@ -250,7 +251,7 @@ fn server_calls(alloc: Global, plan: &Plan) -> Result<Vec<(Call, Call)>, Memory>
     Ok(calls)
 }
 
-// All rounds of a run, with a meeting after each: whether all is told as it should be.
+// All rounds of a run, with a meeting after each: whether the same holds after each.
 fn rounds<R: Threads + Sync>(
     rt: &R,
     alloc: Global,
@@ -330,7 +331,7 @@ fn all_runs<R: Threads + Sync>(rt: &R, alloc: Global) -> Result<bool, Memory> {
 }
 
 #[test]
-fn all_is_told_as_it_should_be_on_two_threads(rt: HostRuntime) {
+fn each_answer_has_its_cause_and_the_lists_an_order(rt: HostRuntime) {
     let found = all_runs(&rt, rt.alloc());
     assert!(rt; found == Ok(true));
 }

@@ -14,7 +14,7 @@ use std::alloc::Global;
 use std::marker::Brand;
 use std::sync::ledger::{Blank, Ledger};
 
-// A proxy, with what its calls saw and did, and whether each answer had its cause.
+// A proxy, with what its calls saw and did, oldest first, and whether each answer had its cause.
 #[derive(Drop)]
 pub(crate) struct Recorded<P, E> {
     pub proxy: P,
