@@ -275,8 +275,8 @@ fn rounds<R: Threads + Sync>(
             ours.as_slice(),
             theirs.as_slice(),
         )?;
-        let told = meet_both(alloc, blocks, &mut clients, &mut servers)?;
-        all = all && told;
+        let holds = meet_both(alloc, blocks, &mut clients, &mut servers)?;
+        all = all && holds;
     }
     Ok(all)
 }
@@ -324,8 +324,8 @@ fn plan_of(number: u32) -> Plan
 fn all_runs<R: Threads + Sync>(rt: &R, alloc: Global) -> Result<bool, Memory> {
     let mut all = true;
     for number in 0..30 {
-        let told = run(rt, alloc, &plan_of(number))?;
-        all = all && told;
+        let holds = run(rt, alloc, &plan_of(number))?;
+        all = all && holds;
     }
     Ok(all)
 }
