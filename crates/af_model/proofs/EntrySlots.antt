@@ -36,11 +36,11 @@ taken_stay frames more slot inside =
 pub taken_added : (frames more : List Frame) (slot : SlotEntry) → length more ≡ count_seen slot.seen → slot.first ≡ place_of (length frames) slot.seen → frames_taken (frames ++ more) slot ≡ more
 taken_added frames more slot as_many first = by_count (count_seen slot.seen) more slot.first as_many first
   where
-  by_count : (count : ℕ) (added : List Frame) (place : ℕ) → length added ≡ count → place ≡ (if count == 0 then 0 else length frames) → take count (drop place (frames ++ added)) ≡ added
-  by_count zero [] place same at = refl
-  by_count zero (f ∷ added) place same at = absurd (omega (arith, same))
-  by_count (suc n) added place same at =
-      let some : (suc n == 0) ≡ false = ne_eqb (suc n) 0 (λ e. omega (arith, e)) in
-      let end : (if suc n == 0 then 0 else length frames) ≡ length frames = ap (λ (b : Bool). if b then 0 else length frames) some in
-      let there : drop place (frames ++ added) ≡ added = ap (λ (k : ℕ). drop k (frames ++ added)) (at ∙ end) ∙ drop-append_seam frames added in
-      ap (take (suc n)) there ∙ take_all (suc n) added (omega (arith, same))
+    by_count : (count : ℕ) (added : List Frame) (place : ℕ) → length added ≡ count → place ≡ (if count == 0 then 0 else length frames) → take count (drop place (frames ++ added)) ≡ added
+    by_count zero [] place same at = refl
+    by_count zero (f ∷ added) place same at = absurd (omega (arith, same))
+    by_count (suc n) added place same at =
+        let some : (suc n == 0) ≡ false = ne_eqb (suc n) 0 (λ e. omega (arith, e)) in
+        let end : (if suc n == 0 then 0 else length frames) ≡ length frames = ap (λ (b : Bool). if b then 0 else length frames) some in
+        let there : drop place (frames ++ added) ≡ added = ap (λ (k : ℕ). drop k (frames ++ added)) (at ∙ end) ∙ drop-append_seam frames added in
+        ap (take (suc n)) there ∙ take_all (suc n) added (omega (arith, same))
