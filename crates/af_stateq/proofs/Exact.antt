@@ -1,5 +1,5 @@
 -- A look of an end that has learnt of all that the other did sees the last of it.
-use Rattle.std.proofs.Common.{◌≡◌, ℕ, zero, suc, ◌+◌, ◌≤◌, ◌==◌, if◌then◌else◌, List, [], ◌∷◌, ◌++◌, length, Option, Some, None, IfSome, is_some, unwrap_or, Bool, true≢false, eq-eqb, ne_eqb, refl, ap, sym, ◌∙◌, subst, arith, length-append, get_or}
+use Rattle.std.proofs.Common.{◌≡◌, ℕ, ◌+◌, ◌≤◌, ◌==◌, if◌then◌else◌, List, [], ◌∷◌, ◌++◌, length, Option, Some, None, IfSome, is_some, unwrap_or, Bool, true≢false, eq-eqb, ne_eqb, refl, ap, sym, ◌∙◌, subst, arith, length-append, get_or}
 use Rattle.af_model.specs.declared.states.MutatorEvent.{MutatorEvent}
 use Rattle.af_model.specs.declared.states.MutatorEvent.TheVariants.{Push, SawAck}
 use Rattle.af_model.specs.declared.states.MutatorEvent.TheVariants as mutator
@@ -9,7 +9,7 @@ use Rattle.af_model.specs.declared.states.ObserverEvent.TheVariants as observer
 use mathlib.Core.Logic.{dite}
 use native.Mathlib.Decide.{ℕ_discrete}
 use Rattle.af_base.specs.declared.state.FastState.{FastState}
-use Rattle.af_model.specs.Order.{Event, one, two, ones, twos, Legal, after}
+use Rattle.af_model.specs.Order.{Event, one, two, ones, Legal, after}
 use Rattle.af_model.proofs.Splits.{split_at, ones_append, legal_at}
 use Rattle.af_model.specs.StateQueue.{QueuePoint, start, legal, next, HasHistory}
 use Rattle.af_stateq.specs.Laws.{last_number, last_state, pushes_of, SeesTheLast}

@@ -1,9 +1,11 @@
 -- The rule at the start, where the ends take their slots, and where a part changes seats.
-use Rattle.std.proofs.Common.{◌≡◌, ◌≢◌, ℕ, zero, suc, ◌+◌, ◌<◌, true, false, true≢false, List, [], ◌∷◌, length, set, get_or, sym, refl, ap, ◌∙◌, arith, length-set}
+use Rattle.std.proofs.Common.{◌≡◌, ◌≢◌, ℕ, zero, suc, ◌+◌, ◌<◌, true, false, true≢false, List, [], ◌∷◌, length, map, drop, set, get_or, replicate, None, sym, refl, ap, ◌∙◌, arith, length-set}
 use mathlib.Core.Option as maybe
 use lib.ListN.{get_elem?}
-use Rattle.atomic_table.specs.Table.{State, step, takes, chain, Allows, Splits, Joins, opening}
+use Rattle.std.proofs.lemmas.List.{drop-set-lt}
+use Rattle.atomic_table.specs.Table.{State, step, takes, chain, homes_after, Allows, Splits, Joins, opening}
 use Rattle.atomic_table.proofs.Lists.{set_else}
+use Rattle.af_base.specs.declared.state.FastState.{FastState}
 use Rattle.af_stateq.specs.declared.cell.Slot.{Slot}
 use Rattle.af_stateq.specs.declared.rule.Basis.{Basis}
 use Rattle.af_stateq.specs.declared.view.View.{View}
@@ -11,8 +13,9 @@ use Rattle.af_stateq.specs.declared.view.Mutating.{Mutating}
 use Rattle.af_stateq.specs.declared.view.Observing.{Observing}
 use Rattle.af_model.proofs.Holds.{mine, same, none as lacking, joined_none, moved, taken as taken_over}
 use mathlib.Core.Option.{some-injective, some-ne-none}
-use Rattle.af_model.specs.StateQueue.{start}
-use Rattle.af_stateq.specs.Shelved.{cell, nothing, starting, spent, has_mutating, mutating, has_observing, observing, Phase, quiet, shown, taken, InPhase, Kept, Seated, sat_mutator, sat_observer}
+use Rattle.af_model.specs.StateQueue.{slots, start}
+use Rattle.af_stateq.proofs.Acts.{takes_all, carried_takes, takes_else, length_takes, takes_valid}
+use Rattle.af_stateq.specs.Shelved.{cell, cells, starting, spent, has_mutating, mutating, has_observing, observing, Phase, quiet, shown, taken, InPhase, Kept, Seated, sat_mutator, sat_observer}
 
 module _ {P K : Type 0} (fits : K → ℕ → P → Type 0) (basis : Basis K) where
   abbrev Rule : State (Slot P) (View P K) → Type 0
@@ -25,8 +28,9 @@ module _ {P K : Type 0} (fits : K → ℕ → P → Type 0) (basis : Basis K) wh
   alone a zero u e = (refl, some-injective a u e)
   alone a (suc j) u e = absurd (some-ne-none u (sym e))
 
-  pub opens : (x0 x1 x2 x3 r : Slot P) → r.shelves.items ≡ nothing → Rule (opening (0 ∷ 0 ∷ []) (x0 ∷ x1 ∷ x2 ∷ x3 ∷ r ∷ []) (starting basis))
-  opens x0 x1 x2 x3 r empty =
+  pub opens : (x : FastState) → Rule (opening (0 ∷ 0 ∷ []) (replicate (cells + slots) record { state = x; item = None }) (starting basis))
+  opens x =
+      let empty : Slot P = record { state = x; item = None } in
       let v : View P K = starting basis in
       record {
         m = v.mutating;
@@ -43,11 +47,11 @@ module _ {P K : Type 0} (fits : K → ℕ → P → Type 0) (basis : Basis K) wh
         numbers = (refl, refl, refl, refl);
         states = (refl, refl);
         words = refl;
-        five = refl;
+        whole = refl;
         phase = quiet;
-        in_phase = (refl, refl, refl, (x1, refl), λ e. absurd (true≢false e));
-        m_home = λ _. (refl, refl, (x0, refl), (r, refl, empty));
-        o_home = λ _. (refl, (x3, refl), (x2, refl));
+        in_phase = (refl, refl, refl, (empty, refl), λ e. absurd (true≢false e));
+        m_home = λ _. (refl, refl, (empty, refl), (replicate slots empty, refl, refl));
+        o_home = λ _. (refl, (empty, refl), (empty, refl));
       }
 
   pub splits_allowed : (id : ℕ) (v : View P K) → v.observes ≡ true → Splits Rule id v (record v { observes = false }) (record v { mutates = false })
@@ -69,7 +73,7 @@ module _ {P K : Type 0} (fits : K → ℕ → P → Type 0) (basis : Basis K) wh
         numbers = k.numbers;
         states = k.states;
         words = k.words;
-        five = k.five;
+        whole = k.whole;
         phase = k.phase;
         in_phase = k.in_phase;
         m_home = k.m_home;
@@ -94,7 +98,7 @@ module _ {P K : Type 0} (fits : K → ℕ → P → Type 0) (basis : Basis K) wh
         numbers = k.numbers;
         states = k.states;
         words = k.words;
-        five = k.five;
+        whole = k.whole;
         phase = k.phase;
         in_phase = k.in_phase;
         m_home = k.m_home;
@@ -105,19 +109,21 @@ module _ {P K : Type 0} (fits : K → ℕ → P → Type 0) (basis : Basis K) wh
     abbrev Now : Mutating P K → Observing P K → Homes → Phase → Type 0
     Now m o hs = InPhase (fits basis.key) m o k.point hs
 
-    abbrev h1 : Homes
-    h1 = set s.homes 0 maybe.none
+    -- a mutator takes the shelves ys, and then its cell
+    module _ (cs : List (ℕ × Slot P)) (ys : List (Slot P)) where
+      abbrev h1 : Homes
+      h1 = homes_after s.homes cs (takes_all cells ys)
 
-    abbrev h2 : Homes
-    h2 = set h1 4 maybe.none
+      abbrev h2 : Homes
+      h2 = set h1 0 maybe.none
 
-    far : (j : ℕ) (y : Slot P) → 0 < j → j < 4 → get_elem? s.homes j ≡ maybe.some (maybe.some y) → get_elem? h2 j ≡ maybe.some (maybe.some y)
-    far j y pos low at = set_else h1 4 j maybe.none (λ e. omega arith) ∙ set_else s.homes 0 j maybe.none (λ e. omega arith) ∙ at
+      far : (j : ℕ) (y : Slot P) → 0 < j → j < cells → get_elem? s.homes j ≡ maybe.some (maybe.some y) → get_elem? h2 j ≡ maybe.some (maybe.some y)
+      far j y pos low at = set_else h1 0 j maybe.none (λ e. omega arith) ∙ takes_else cells ys s.homes cs j low ∙ at
 
-    seated_m : (p : Phase) → k.m.pushed ≡ 0 → k.m.clear ≡ true → Now k.m k.o s.homes p → Now (record k.m { out = true }) k.o h2 p
-    seated_m quiet z cl i = (i.0, i.1, i.2, (i.3.0, far (cell (k.m.pushed + 2)) i.3.0 (let b : cell (k.m.pushed + 2) ≡ 1 = ap (λ (n : ℕ). cell (n + 2)) z in omega arith) (let b : cell (k.m.pushed + 2) ≡ 1 = ap (λ (n : ℕ). cell (n + 2)) z in omega arith) i.3.1), λ e. absurd (true≢false (sym cl ∙ e)))
-    seated_m shown z cl i = absurd (true≢false (sym cl ∙ i.2))
-    seated_m taken z cl i = absurd (true≢false (sym cl ∙ i.2))
+      seated_m : (p : Phase) → k.m.pushed ≡ 0 → k.m.clear ≡ true → Now k.m k.o s.homes p → Now (record k.m { out = true }) k.o h2 p
+      seated_m quiet z cl i = (i.0, i.1, i.2, (i.3.0, far (cell (k.m.pushed + 2)) i.3.0 (let b : cell (k.m.pushed + 2) ≡ 1 = ap (λ (n : ℕ). cell (n + 2)) z in omega arith) (let b : cell (k.m.pushed + 2) ≡ 1 = ap (λ (n : ℕ). cell (n + 2)) z in omega arith) i.3.1), λ e. absurd (true≢false (sym cl ∙ e)))
+      seated_m shown z cl i = absurd (true≢false (sym cl ∙ i.2))
+      seated_m taken z cl i = absurd (true≢false (sym cl ∙ i.2))
 
     abbrev g1 : Homes
     g1 = set s.homes 2 maybe.none
@@ -125,14 +131,17 @@ module _ {P K : Type 0} (fits : K → ℕ → P → Type 0) (basis : Basis K) wh
     abbrev g2 : Homes
     g2 = set g1 3 maybe.none
 
+    still : (l : List (maybe.Option (Slot P))) → drop cells s.homes ≡ l → drop cells g2 ≡ l
+    still l e = drop-set-lt cells g1 3 maybe.none (omega arith) ∙ drop-set-lt cells s.homes 2 maybe.none (omega arith) ∙ e
+
     near : (j : ℕ) (y : Slot P) → j ≢ 2 → j ≢ 3 → get_elem? s.homes j ≡ maybe.some (maybe.some y) → get_elem? g2 j ≡ maybe.some (maybe.some y)
     near j y a b at = set_else g1 3 j maybe.none b ∙ set_else s.homes 2 j maybe.none a ∙ at
 
     seated_o : (p : Phase) → k.o.current ≡ 0 → Now k.m k.o s.homes p → Now k.m (record k.o { out = true }) g2 p
     seated_o quiet z i = let b : cell (k.m.pushed + 2) ≡ 1 = ap (λ (n : ℕ). cell (n + 2)) (sym i.0 ∙ z) in
-        (i.0, i.1, i.2, (i.3.0, near (cell (k.m.pushed + 2)) i.3.0 (λ e. omega arith) (λ e. omega arith) i.3.1), λ e. let g = i.4 e in ((g.0.0, near 4 g.0.0 (λ e. omega arith) (λ e. omega arith) g.0.1, g.0.2), g.1, g.2))
+        (i.0, i.1, i.2, (i.3.0, near (cell (k.m.pushed + 2)) i.3.0 (λ e. omega arith) (λ e. omega arith) i.3.1), λ e. let g = i.4 e in ((g.0.0, still (map maybe.some g.0.0) g.0.1, g.0.2), g.1, g.2))
     seated_o shown z i = let b : cell k.m.pushed ≡ 0 = ap cell (i.0 ∙ ap (λ (n : ℕ). n + 1) z) in
-        (i.0, i.1, i.2, i.3, (i.4.0, near (cell k.m.pushed) i.4.0 (λ e. omega arith) (λ e. omega arith) i.4.1, i.4.2), (i.5.0, near 4 i.5.0 (λ e. omega arith) (λ e. omega arith) i.5.1, i.5.2), i.6, i.7)
+        (i.0, i.1, i.2, i.3, (i.4.0, near (cell k.m.pushed) i.4.0 (λ e. omega arith) (λ e. omega arith) i.4.1, i.4.2), (i.5.0, still (map maybe.some i.5.0) i.5.1, i.5.2), i.6, i.7)
     seated_o taken z i = i
 
   pub sits_mutator : (slots id : ℕ) (me : Seated P K) → me.0.mutates ≡ true → me.0.mutating.out ≡ false → Allows Rule slots id me 0 (λ n. n) (sat_mutator (step slots 0 0 0 maybe.none) me)
@@ -140,10 +149,11 @@ module _ {P K : Type 0} (fits : K → ℕ → P → Type 0) (basis : Basis K) wh
       let v = me.0 in
       let w : View P K = record v { mutating = record v.mutating { out = true } } in
       let is : v.mutating ≡ k.m = (k.one_mutator id v here ok).1 in
-      let h = k.m_home (ap (λ (m : Mutating P K). m.out) (sym is) ∙ home) in (
+      let h = k.m_home (ap (λ (m : Mutating P K). m.out) (sym is) ∙ home) in
+      let ys : List (Slot P) = h.3.0 in (
         w,
-        chain (takes 0 h.2.0) (takes 4 h.3.0),
-        (h.2.1, set_else s.homes 0 4 maybe.none (λ e. omega arith) ∙ h.3.1),
+        chain (takes_all cells ys) (takes 0 h.2.0),
+        (takes_valid cells ys s.homes me.1 h.3.1, takes_else cells ys s.homes me.1 0 (omega arith) ∙ h.2.1),
         record {
           m = record k.m { out = true };
           o = k.o;
@@ -159,13 +169,13 @@ module _ {P K : Type 0} (fits : K → ℕ → P → Type 0) (basis : Basis K) wh
           numbers = k.numbers;
           states = k.states;
           words = ap (λ (ws : List ℕ). set ws 0 (get_or ws 0 0)) k.words;
-          five = length-set (h1 s k) 4 maybe.none ∙ length-set s.homes 0 maybe.none ∙ k.five;
+          whole = length-set (h1 s k me.1 ys) 0 maybe.none ∙ length_takes cells ys s.homes me.1 ∙ k.whole;
           phase = k.phase;
-          in_phase = seated_m s k k.phase h.0 h.1 k.in_phase;
+          in_phase = seated_m s k me.1 ys k.phase h.0 h.1 k.in_phase;
           m_home = λ e. absurd (true≢false e);
-          o_home = λ e. let b = k.o_home e in (b.0, (b.1.0, far s k 3 b.1.0 (omega arith) (omega arith) b.1.1), (b.2.0, far s k 2 b.2.0 (omega arith) (omega arith) b.2.1));
+          o_home = λ e. let b = k.o_home e in (b.0, (b.1.0, far s k me.1 ys 3 b.1.0 (omega arith) (omega arith) b.1.1), (b.2.0, far s k me.1 ys 2 b.2.0 (omega arith) (omega arith) b.2.1));
         },
-        (h.3.0, h.2.0, h.3.2, refl),
+        (h.2.0, ys, h.3.2, λ i. (w, (0, h.2.0) ∷ carried_takes cells ys me.1 i)),
       )
 
   pub sits_observer : (slots id : ℕ) (me : Seated P K) → me.0.observes ≡ true → me.0.observing.out ≡ false → Allows Rule slots id me 0 (λ n. n) (sat_observer (step slots 0 0 0 maybe.none) me)
@@ -192,10 +202,10 @@ module _ {P K : Type 0} (fits : K → ℕ → P → Type 0) (basis : Basis K) wh
           numbers = k.numbers;
           states = k.states;
           words = ap (λ (ws : List ℕ). set ws 0 (get_or ws 0 0)) k.words;
-          five = length-set (g1 s k) 3 maybe.none ∙ length-set s.homes 2 maybe.none ∙ k.five;
+          whole = length-set (g1 s k) 3 maybe.none ∙ length-set s.homes 2 maybe.none ∙ k.whole;
           phase = k.phase;
           in_phase = seated_o s k k.phase h.0 k.in_phase;
-          m_home = λ e. let b = k.m_home e in (b.0, b.1, (b.2.0, near s k 0 b.2.0 (λ e. omega arith) (λ e. omega arith) b.2.1), (b.3.0, near s k 4 b.3.0 (λ e. omega arith) (λ e. omega arith) b.3.1, b.3.2));
+          m_home = λ e. let b = k.m_home e in (b.0, b.1, (b.2.0, near s k 0 b.2.0 (λ e. omega arith) (λ e. omega arith) b.2.1), (b.3.0, still s k (map maybe.some b.3.0) b.3.1, b.3.2));
           o_home = λ e. absurd (true≢false e);
         },
         (h.1.0, h.2.0, refl),

@@ -1,12 +1,12 @@
 -- Each step of the queue keeps its rule.
-use Rattle.std.proofs.Common.{◌≡◌, ◌≢◌, ℕ, ◌+◌, ◌<◌, ◌≤◌, ◌==◌, ◌&&◌, not, if◌then◌else◌, Bool, true, false, true≢false, List, [], ◌∷◌, ◌++◌, length, set, get_or, sym, refl, ap, ◌∙◌, subst, arith, length-set, length-append, Some, None, Option, unwrap_or, eq-eqb, ne_eqb}
+use Rattle.std.proofs.Common.{◌≡◌, ◌≢◌, ℕ, ◌+◌, ◌<◌, ◌≤◌, ◌==◌, ◌&&◌, if◌then◌else◌, Bool, true, false, true≢false, List, [], ◌∷◌, ◌++◌, length, map, drop, set, get_or, sym, refl, ap, ◌∙◌, subst, arith, length-set, length-append, Some, None, Option, unwrap_or, eq-eqb, ne_eqb}
 use mathlib.Core.Option as maybe
 use mathlib.Core.Logic.{dite}
 use native.Mathlib.Decide.{ℕ_discrete}
 use lib.ListN.{get_elem?}
-use Rattle.atomic_table.specs.Table.{State, step, Act, keeps, takes, gives, chain, rest as left, carried_after, Valid, stepped, Allows}
+use Rattle.std.proofs.lemmas.List.{drop-set-lt, length-map}
+use Rattle.atomic_table.specs.Table.{State, keeps, takes, gives, chain, homes_after, stepped}
 use Rattle.atomic_table.proofs.Lists.{set_here, set_else}
-use Rattle.af_base.specs.declared.state.FastState.{FastState}
 use Rattle.af_stateq.specs.declared.cell.Slot.{Slot}
 use Rattle.af_stateq.specs.declared.rule.Basis.{Basis}
 use Rattle.af_stateq.specs.declared.view.View.{View}
@@ -21,8 +21,9 @@ use Rattle.af_model.specs.declared.states.ObserverEvent.TheVariants as observer
 use Rattle.af_model.specs.Order.{Event, one, two, after}
 use Rattle.af_model.proofs.Orders.{after_end, add_one, add_two}
 use Rattle.af_model.proofs.Holds.{mine, same}
-use Rattle.af_model.specs.StateQueue.{AreOf, AllFit, FitAt, QueuePoint, start, brought, legal, next, HasHistory}
-use Rattle.af_stateq.specs.Shelved.{cell, word, nothing, has_mutating, mutating, has_observing, observing, IsHome, OnRack, Phase, quiet, shown, taken, InPhase, Kept, Seated, saw_mutating, brings, saw_ack, push_mutating, pushed, saw_next, acked, met}
+use Rattle.af_model.specs.StateQueue.{slots, AreOf, AllFit, QueuePoint, start, brought, legal, next}
+use Rattle.af_stateq.proofs.Acts.{takes_all, gives_all, length_takes, length_gives, gives_else, gives_home}
+use Rattle.af_stateq.specs.Shelved.{cell, word, cells, nothing, shelves, items_on, has_mutating, mutating, has_observing, observing, IsHome, OnShelves, Phase, quiet, shown, taken, InPhase, Kept, saw_mutating, push_mutating}
 
 pub word_of : (k : ℕ) → 0 < k → word k ≡ cell k + 1
 word_of k pos = ap (λ (b : Bool). if b then 0 else cell k + 1) (ne_eqb k 0 (λ e. omega arith))
@@ -51,6 +52,10 @@ same_cell c = omega arith
 
 pub some_same : {T : Type 0} (x y : T) → Some x ≡ Some y → x ≡ y
 some_same x y e = ap (λ o. unwrap_or o x) e
+
+-- there are as many shelves as items
+pub many : {P : Type 0} (ys : List (Slot P)) (n : ℕ) → length (items_on ys) ≡ n → length ys ≡ n
+many ys n e = sym (length-map ys (λ (t : Slot _). t.item)) ∙ e
 
 module _ {P K : Type 0} (fits : K → ℕ → P → Type 0) (basis : Basis K) where
   abbrev E : Type 0
@@ -106,8 +111,8 @@ module _ {P K : Type 0} (fits : K → ℕ → P → Type 0) (basis : Basis K) wh
       abbrev pub ack_point : QueuePoint P
       ack_point = next k.point (one (SawAck k.o.current items))
 
-      pub looks : items ≡ brought k.point → (k.o.current == k.point.pushed) ≡ clear → length hs ≡ 5 → (p : Phase) → InPhase (fits basis.key) ack_m k.o ack_point hs p
-          → (k.m.out ≡ false → (k.m.pushed ≡ 0) × (clear ≡ true) × IsHome hs 0 × OnRack hs nothing) → (k.o.out ≡ false → (k.o.current ≡ 0) × IsHome hs 3 × IsHome hs 2)
+      pub looks : items ≡ brought k.point → (k.o.current == k.point.pushed) ≡ clear → length hs ≡ cells + slots → (p : Phase) → InPhase (fits basis.key) ack_m k.o ack_point hs p
+          → (k.m.out ≡ false → (k.m.pushed ≡ 0) × (clear ≡ true) × IsHome hs 0 × OnShelves hs nothing) → (k.o.out ≡ false → (k.o.current ≡ 0) × IsHome hs 3 × IsHome hs 2)
           → Rule record { words = set s.words 1 (get_or s.words 1 0); homes = hs; views = set s.views id ack_view }
       looks legal_items is_clear long p i m_home o_home = record {
         m = ack_m;
@@ -124,7 +129,7 @@ module _ {P K : Type 0} (fits : K → ℕ → P → Type 0) (basis : Basis K) wh
         numbers = (k.numbers.0, k.numbers.1, k.numbers.2, is_clear);
         states = k.states;
         words = stays_1;
-        five = long;
+        whole = long;
         phase = p;
         in_phase = i;
         m_home = m_home;
@@ -132,15 +137,15 @@ module _ {P K : Type 0} (fits : K → ℕ → P → Type 0) (basis : Basis K) wh
       }
 
     -- the mutator shows the next state
-    module _ (ok : v.mutates ≡ true) (x y : Slot P) where
+    module _ (ok : v.mutates ≡ true) (x : Slot P) (ys : List (Slot P)) where
       abbrev push_m : Mutating P K
-      push_m = push_mutating x.state y.shelves.items k.m
+      push_m = push_mutating x.state (items_on ys) k.m
 
       abbrev pub push_view : View P K
       push_view = record v { mutating = push_m }
 
       abbrev push : MutatorEvent P
-      push = Push (k.m.pushed + 1) x.state y.shelves.items
+      push = Push (k.m.pushed + 1) x.state (items_on ys)
 
       -- only an acknowledged state can be followed
       pub at_rest : k.m.clear ≡ true → (p : Phase) → Now p → Now quiet
@@ -148,20 +153,20 @@ module _ {P K : Type 0} (fits : K → ℕ → P → Type 0) (basis : Basis K) wh
       at_rest c shown i = absurd (true≢false (sym c ∙ i.2))
       at_rest c taken i = absurd (true≢false (sym c ∙ i.2))
 
-      pub shows : (q : Now quiet) → k.m.out ≡ true → k.m.clear ≡ true → AreOf x.state k.point.last y.shelves.items → AllFit (fits basis.key) x.state y.shelves.items
+      pub shows : (q : Now quiet) → k.m.out ≡ true → k.m.clear ≡ true → AreOf x.state k.point.last (items_on ys) → AllFit (fits basis.key) x.state (items_on ys)
           → (new : ℕ) → new ≡ word (k.m.pushed + 1) → (c : ℕ) → c ≡ cell (k.m.pushed + 1)
-          → Rule (stepped s 0 new id ((c, x) ∷ (4, y) ∷ []) push_view (chain gives (chain gives (takes (cell (k.m.pushed + 2)) q.3.0))))
-      shows q out clear are fit new is c c_is =
+          → (cs : List (ℕ × Slot P)) → Rule (stepped s 0 new id ((c, x) ∷ shelves ys ++ cs) push_view (chain gives (chain (gives_all ys) (takes (cell (k.m.pushed + 2)) q.3.0))))
+      shows q out clear are fit new is c c_is cs =
           let n : ℕ = k.m.pushed in
           let d : ℕ = cell (n + 2) in
           let h1 : Homes = set s.homes c (maybe.some x) in
-          let h2 : Homes = set h1 4 (maybe.some y) in
-          let c_low : c < 4 = subst (λ (z : ℕ). z < 4) (sym c_is) (small (n + 1)) in
-          let wide : c < length s.homes = subst (λ (z : ℕ). c < z) (sym k.five) (omega arith) in
-          let long1 : length h1 ≡ 5 = length-set s.homes c (maybe.some x) ∙ k.five in
+          let h2 : Homes = homes_after h1 (shelves ys ++ cs) (gives_all ys) in
+          let c_low : c < cells = subst (λ (z : ℕ). z < cells) (sym c_is) (small (n + 1)) in
+          let wide : c < length s.homes = subst (λ (z : ℕ). c < z) (sym k.whole) (omega arith) in
+          let long1 : length h1 ≡ cells + slots = length-set s.homes c (maybe.some x) ∙ k.whole in
           let two_cells : c ≢ d = λ e. apart (n + 1) (n + 2) (omega arith) (omega arith) (sym c_is ∙ e) in
-          let at_c : get_elem? (set h2 d maybe.none) c ≡ maybe.some (maybe.some x) = set_else h2 d c maybe.none two_cells ∙ set_else h1 4 c (maybe.some y) (λ e. omega arith) ∙ set_here s.homes c (maybe.some x) wide in
-          let at_4 : get_elem? (set h2 d maybe.none) 4 ≡ maybe.some (maybe.some y) = set_else h2 d 4 maybe.none (no_cell (n + 2)) ∙ set_here h1 4 (maybe.some y) (subst (λ (z : ℕ). 4 < z) (sym long1) (omega arith)) in
+          let at_c : get_elem? (set h2 d maybe.none) c ≡ maybe.some (maybe.some x) = set_else h2 d c maybe.none two_cells ∙ gives_else cells ys h1 cs c c_low ∙ set_here s.homes c (maybe.some x) wide in
+          let home : drop cells (set h2 d maybe.none) ≡ map maybe.some ys = drop-set-lt cells h2 d maybe.none (small (n + 2)) ∙ gives_home cells ys h1 cs (long1 ∙ ap (λ (z : ℕ). cells + z) (sym (many ys slots are.0))) in
           record {
             m = push_m;
             o = k.o;
@@ -177,14 +182,14 @@ module _ {P K : Type 0} (fits : K → ℕ → P → Type 0) (basis : Basis K) wh
             numbers = (refl, k.numbers.1, k.numbers.2 ∙ ap (λ (b : Bool). if b then n else 0) q.1 ∙ sym (ap (λ (b : Bool). if b then n + 1 else 0) q.1), refl);
             states = (refl, k.states.0);
             words = ap (λ (ws : List ℕ). set ws 0 new) k.words ∙ ap (λ (z : ℕ). z ∷ word k.o.current ∷ []) is;
-            five = length-set h2 d maybe.none ∙ length-set h1 4 (maybe.some y) ∙ long1;
+            whole = length-set h2 d maybe.none ∙ length_gives cells ys h1 cs ∙ long1;
             phase = shown;
-            in_phase = (ap (λ (z : ℕ). z + 1) (sym q.0), q.1, refl, q.2, (x, subst (λ (z : ℕ). get_elem? (set h2 d maybe.none) z ≡ maybe.some (maybe.some x)) c_is at_c, refl), (y, at_4, refl), are, fit);
+            in_phase = (ap (λ (z : ℕ). z + 1) (sym q.0), q.1, refl, q.2, (x, subst (λ (z : ℕ). get_elem? (set h2 d maybe.none) z ≡ maybe.some (maybe.some x)) c_is at_c, refl), (ys, home, refl), are, fit);
             m_home = λ e. absurd (true≢false (sym out ∙ e));
             o_home = λ e. let h = k.o_home e in let z : n ≡ 0 = sym q.0 ∙ h.0 in
                 let far : (j : ℕ) → j < 4 → 1 < j → (w : Slot P) → get_elem? s.homes j ≡ maybe.some (maybe.some w) → get_elem? (set h2 d maybe.none) j ≡ maybe.some (maybe.some w)
                 = λ j lt gt w at. set_else h2 d j maybe.none (λ f. let b : d ≡ 1 = ap (λ (u : ℕ). cell (u + 2)) z in omega arith)
-                ∙ set_else h1 4 j (maybe.some y) (λ f. omega arith) ∙ set_else s.homes c j (maybe.some x) (λ f. let b : c ≡ 0 = c_is ∙ ap (λ (u : ℕ). cell (u + 1)) z in omega arith) ∙ at in
+                ∙ gives_else cells ys h1 cs j lt ∙ set_else s.homes c j (maybe.some x) (λ f. let b : c ≡ 0 = c_is ∙ ap (λ (u : ℕ). cell (u + 1)) z in omega arith) ∙ at in
                 (h.0, (h.1.0, far 3 (omega arith) (omega arith) h.1.0 h.1.1), (h.2.0, far 2 (omega arith) (omega arith) h.2.0 h.2.1));
           }
 
@@ -218,7 +223,7 @@ module _ {P K : Type 0} (fits : K → ℕ → P → Type 0) (basis : Basis K) wh
             numbers = (k.numbers.0, k.numbers.1, ap (λ (b : Bool). if b then 0 else c) eq ∙ sym (ap (λ (b : Bool). if b then k.m.pushed else 0) q.1), k.numbers.3);
             states = k.states;
             words = stays_0;
-            five = k.five;
+            whole = k.whole;
             phase = quiet;
             in_phase = q;
             m_home = k.m_home;
@@ -227,7 +232,7 @@ module _ {P K : Type 0} (fits : K → ℕ → P → Type 0) (basis : Basis K) wh
 
       module _ (q : Now shown) where
         abbrev saw_new : ObserverEvent P
-        saw_new = SawNext (k.o.current + 1) (Some q.4.0.state) q.5.0.shelves.items
+        saw_new = SawNext (k.o.current + 1) (Some q.4.0.state) (items_on q.5.0)
 
         abbrev new_o : Observing P K
         new_o = record k.o { events = k.o.events ++ saw_new ∷ []; due = true; next = q.4.0.state }
@@ -235,7 +240,7 @@ module _ {P K : Type 0} (fits : K → ℕ → P → Type 0) (basis : Basis K) wh
         abbrev pub new_view : View P K
         new_view = record v { observing = new_o }
 
-        pub is_new : k.o.out ≡ true → (cs : List (ℕ × Slot P)) → Rule (stepped s 0 (get_or s.words 0 0) id cs new_view (chain (takes (cell (k.o.current + 1)) q.4.0) (takes 4 q.5.0)))
+        pub is_new : k.o.out ≡ true → (cs : List (ℕ × Slot P)) → Rule (stepped s 0 (get_or s.words 0 0) id cs new_view (chain (takes (cell (k.o.current + 1)) q.4.0) (takes_all cells q.5.0)))
         is_new out cs =
             let c : ℕ = k.o.current in
             let ne : (c + 1 == k.point.acked) ≡ false = ne_eqb (c + 1) k.point.acked (λ e. let f = k.numbers.1 in omega arith) in
@@ -254,7 +259,7 @@ module _ {P K : Type 0} (fits : K → ℕ → P → Type 0) (basis : Basis K) wh
               numbers = (k.numbers.0, k.numbers.1, ap (λ (b : Bool). if b then 0 else c + 1) ne ∙ sym q.0, k.numbers.3);
               states = k.states;
               words = stays_0;
-              five = length-set (set s.homes (cell (c + 1)) maybe.none) 4 maybe.none ∙ length-set s.homes (cell (c + 1)) maybe.none ∙ k.five;
+              whole = length_takes cells q.5.0 (set s.homes (cell (c + 1)) maybe.none) ((cell (c + 1), q.4.0) ∷ cs) ∙ length-set s.homes (cell (c + 1)) maybe.none ∙ k.whole;
               phase = taken;
               in_phase = (q.0, refl, q.2, q.3, q.4.2);
               m_home = λ e. let h = k.m_home e in let b = q.0 in absurd (omega arith);
@@ -262,9 +267,9 @@ module _ {P K : Type 0} (fits : K → ℕ → P → Type 0) (basis : Basis K) wh
             }
 
     -- the observer acknowledges
-    module _ (ok : v.observes ≡ true) (x y : Slot P) where
+    module _ (ok : v.observes ≡ true) (x : Slot P) (ys : List (Slot P)) where
       abbrev ack : ObserverEvent P
-      ack = Ack (k.o.current + 1) y.shelves.items
+      ack = Ack (k.o.current + 1) (items_on ys)
 
       abbrev ackd_o : Observing P K
       ackd_o = record k.o { events = k.o.events ++ ack ∷ []; current = k.o.current + 1; state = k.o.next; due = false }
@@ -272,16 +277,17 @@ module _ {P K : Type 0} (fits : K → ℕ → P → Type 0) (basis : Basis K) wh
       abbrev pub ackd_view : View P K
       ackd_view = record v { observing = ackd_o }
 
-      pub acks : (q : Now taken) → k.o.out ≡ true → AreOf k.point.before k.point.last y.shelves.items → AllFit (fits basis.key) k.point.before y.shelves.items
-          → (new : ℕ) → new ≡ word (k.o.current + 1) → (b : ℕ) → b ≡ cell (k.o.current + 3) → (cs : List (ℕ × Slot P)) → Rule (stepped s 1 new id ((b, x) ∷ (4, y) ∷ cs) ackd_view (chain gives gives))
+      pub acks : (q : Now taken) → k.o.out ≡ true → AreOf k.point.before k.point.last (items_on ys) → AllFit (fits basis.key) k.point.before (items_on ys)
+          → (new : ℕ) → new ≡ word (k.o.current + 1) → (b : ℕ) → b ≡ cell (k.o.current + 3) → (cs : List (ℕ × Slot P)) → Rule (stepped s 1 new id ((b, x) ∷ shelves ys ++ cs) ackd_view (chain gives (gives_all ys)))
       acks q out are fit new is b b_is cs =
           let c : ℕ = k.o.current in
           let h1 : Homes = set s.homes b (maybe.some x) in
-          let b_low : b < 4 = subst (λ (z : ℕ). z < 4) (sym b_is) (small (c + 3)) in
-          let wide : b < length s.homes = subst (λ (z : ℕ). b < z) (sym k.five) (omega arith) in
-          let long1 : length h1 ≡ 5 = length-set s.homes b (maybe.some x) ∙ k.five in
-          let at_b : get_elem? (set h1 4 (maybe.some y)) b ≡ maybe.some (maybe.some x) = set_else h1 4 b (maybe.some y) (λ e. omega arith) ∙ set_here s.homes b (maybe.some x) wide in
-          let at_4 : get_elem? (set h1 4 (maybe.some y)) 4 ≡ maybe.some (maybe.some y) = set_here h1 4 (maybe.some y) (subst (λ (z : ℕ). 4 < z) (sym long1) (omega arith)) in
+          let h2 : Homes = homes_after h1 (shelves ys ++ cs) (gives_all ys) in
+          let b_low : b < cells = subst (λ (z : ℕ). z < cells) (sym b_is) (small (c + 3)) in
+          let wide : b < length s.homes = subst (λ (z : ℕ). b < z) (sym k.whole) (omega arith) in
+          let long1 : length h1 ≡ cells + slots = length-set s.homes b (maybe.some x) ∙ k.whole in
+          let at_b : get_elem? h2 b ≡ maybe.some (maybe.some x) = gives_else cells ys h1 cs b b_low ∙ set_here s.homes b (maybe.some x) wide in
+          let home : drop cells h2 ≡ map maybe.some ys = gives_home cells ys h1 cs (long1 ∙ ap (λ (z : ℕ). cells + z) (sym (many ys slots are.0))) in
           record {
             m = k.m;
             o = ackd_o;
@@ -297,9 +303,9 @@ module _ {P K : Type 0} (fits : K → ℕ → P → Type 0) (basis : Basis K) wh
             numbers = (k.numbers.0, refl, refl, k.numbers.3);
             states = k.states;
             words = ap (λ (ws : List ℕ). set ws 1 new) k.words ∙ ap (λ (z : ℕ). word k.m.pushed ∷ z ∷ []) is;
-            five = length-set h1 4 (maybe.some y) ∙ long1;
+            whole = length_gives cells ys h1 cs ∙ long1;
             phase = quiet;
-            in_phase = (sym q.0, refl, q.4, (x, subst (λ (z : ℕ). get_elem? (set h1 4 (maybe.some y)) z ≡ maybe.some (maybe.some x)) (b_is ∙ same_cell c ∙ ap (λ (z : ℕ). cell (z + 2)) (sym q.0)) at_b), λ _. ((y, at_4, refl), are, fit));
+            in_phase = (sym q.0, refl, q.4, (x, subst (λ (z : ℕ). get_elem? h2 z ≡ maybe.some (maybe.some x)) (b_is ∙ same_cell c ∙ ap (λ (z : ℕ). cell (z + 2)) (sym q.0)) at_b), λ _. ((ys, home, refl), are, fit));
             m_home = λ e. let h = k.m_home e in let f = q.0 in absurd (omega arith);
             o_home = λ e. absurd (true≢false (sym out ∙ e));
           }
@@ -344,7 +350,7 @@ module _ {P K : Type 0} (fits : K → ℕ → P → Type 0) (basis : Basis K) wh
             numbers = (k.numbers.0, k.numbers.1, sym (ap (λ (b : Bool). if b then k.m.pushed else 0) rested), k.numbers.3);
             states = k.states;
             words = stays_0;
-            five = k.five;
+            whole = k.whole;
             phase = k.phase;
             in_phase = still rested k.phase k.in_phase;
             m_home = k.m_home;

@@ -1,6 +1,6 @@
 -- The rule of a state queue with items, and what each step tells.
--- The mutator holds the cell of the next state, and the rack from a look that sees the last state acknowledged to the next push. The observer holds the cells of its state and of the one before, and from the look to the acknowledgement that of the new state and the rack.
-use Rattle.std.specs.Prelude.{◌≡◌, ◌≢◌, ℕ, ◌+◌, ◌%◌, ◌==◌, ◌&&◌, not, Bool, true, false, if◌then◌else◌, List, [], ◌∷◌, ◌++◌, length, Option, Some, None, replicate}
+-- The mutator holds the cell of the next state, and the shelves from a look that sees the last state acknowledged to the next push. The observer holds the cells of its state and of the one before, and from the look to the acknowledgement that of the new state and the shelves.
+use Rattle.std.specs.Prelude.{◌≡◌, ◌≢◌, ℕ, suc, ◌+◌, ◌%◌, ◌==◌, ◌&&◌, not, Bool, true, false, if◌then◌else◌, List, [], ◌∷◌, ◌++◌, length, map, drop, Option, Some, None, replicate}
 use mathlib.Core.Option as maybe
 use lib.ListN.{get_elem?}
 use Rattle.atomic_table.specs.Table.{State, Me, Step}
@@ -27,9 +27,27 @@ cell k = (k + 3) % 4
 abbrev pub word : ℕ → ℕ
 word k = if k == 0 then 0 else cell k + 1
 
--- empty shelves, one for each slot, of which the first is never used
+-- how many slots of the table are cells. After them comes a shelf for each slot of a state
+abbrev pub cells : ℕ
+cells = 4
+
+-- no item for any slot
 abbrev pub nothing : {P : Type 0} → List (Option P)
 nothing = replicate slots None
+
+module _ {P : Type 0} where
+  -- slots of the table side by side, from the number k on
+  abbrev pub slots_from : ℕ → List (Slot P) → List (ℕ × Slot P)
+  slots_from k [] = []
+  slots_from k (x ∷ xs) = (k, x) ∷ slots_from (suc k) xs
+
+  -- the shelves
+  abbrev pub shelves : List (Slot P) → List (ℕ × Slot P)
+  shelves xs = slots_from cells xs
+
+  -- what lies on them
+  abbrev pub items_on : List (Slot P) → List (Option P)
+  items_on xs = map (λ x. x.item) xs
 
 abbrev pub no_state : FastState
 no_state = record { slots = []; mask = 0; tracks_gen = 0; frames = 0; command = Initial; cold_gen = 0 }
@@ -67,9 +85,9 @@ module _ {P : Type 0} where
   abbrev pub IsHome : List (maybe.Option (Slot P)) → ℕ → Type 0
   IsHome homes k = (x : Slot P) × (get_elem? homes k ≡ maybe.some (maybe.some x))
 
-  -- the rack lies at home with these items
-  abbrev pub OnRack : List (maybe.Option (Slot P)) → List (Option P) → Type 0
-  OnRack homes items = (r : Slot P) × (get_elem? homes 4 ≡ maybe.some (maybe.some r)) × (r.shelves.items ≡ items)
+  -- all the shelves lie at home with these items
+  abbrev pub OnShelves : List (maybe.Option (Slot P)) → List (Option P) → Type 0
+  OnShelves homes items = (xs : List (Slot P)) × (drop cells homes ≡ map maybe.some xs) × (items_on xs ≡ items)
 
 -- where the states are: the last one pushed is acknowledged, or it lies in its cell, or the observer took it
 pub data Phase : Type 0 where
@@ -79,9 +97,9 @@ pub data Phase : Type 0 where
 
 module _ {P K : Type 0} (fits : ℕ → P → Type 0) (m : Mutating P K) (o : Observing P K) (p : QueuePoint P) (homes : List (maybe.Option (Slot P))) where
   abbrev pub InPhase : Phase → Type 0
-  InPhase quiet = (o.current ≡ m.pushed) × (o.due ≡ false) × (o.state ≡ p.last) × IsHome homes (cell (m.pushed + 2)) × (m.clear ≡ false → OnRack homes p.given × AreOf p.before p.last p.given × AllFit fits p.before p.given)
+  InPhase quiet = (o.current ≡ m.pushed) × (o.due ≡ false) × (o.state ≡ p.last) × IsHome homes (cell (m.pushed + 2)) × (m.clear ≡ false → OnShelves homes p.given × AreOf p.before p.last p.given × AllFit fits p.before p.given)
   InPhase shown = (m.pushed ≡ o.current + 1) × (o.due ≡ false) × (m.clear ≡ false) × (o.state ≡ p.before)
-      × ((x : Slot P) × (get_elem? homes (cell m.pushed) ≡ maybe.some (maybe.some x)) × (x.state ≡ p.last)) × OnRack homes p.items × AreOf p.last p.before p.items × AllFit fits p.last p.items
+      × ((x : Slot P) × (get_elem? homes (cell m.pushed) ≡ maybe.some (maybe.some x)) × (x.state ≡ p.last)) × OnShelves homes p.items × AreOf p.last p.before p.items × AllFit fits p.last p.items
   InPhase taken = (m.pushed ≡ o.current + 1) × (o.due ≡ true) × (m.clear ≡ false) × (o.state ≡ p.before) × (o.next ≡ p.last)
 
 pub record Kept {P K : Type 0} (fits : K → ℕ → P → Type 0) (basis : Basis K) (s : State (Slot P) (View P K)) : Type 0 where
@@ -99,28 +117,37 @@ pub record Kept {P K : Type 0} (fits : K → ℕ → P → Type 0) (basis : Basi
   pub numbers : (point.pushed ≡ m.pushed) × (point.acked ≡ o.current) × (point.due ≡ (if o.due then m.pushed else 0)) × (point.clear ≡ m.clear)
   pub states : (m.last ≡ point.last) × (m.before ≡ point.before)
   pub words : s.words ≡ word m.pushed ∷ word o.current ∷ []
-  pub five : length s.homes ≡ 5
+  pub whole : length s.homes ≡ cells + slots
   pub phase : Phase
   pub in_phase : InPhase (fits basis.key) m o point s.homes phase
-  pub m_home : m.out ≡ false → (m.pushed ≡ 0) × (m.clear ≡ true) × IsHome s.homes 0 × OnRack s.homes nothing
+  pub m_home : m.out ≡ false → (m.pushed ≡ 0) × (m.clear ≡ true) × IsHome s.homes 0 × OnShelves s.homes nothing
   pub o_home : o.out ≡ false → (o.current ≡ 0) × IsHome s.homes 3 × IsHome s.homes 2
 
 module _ {P : Type 0} where
+  -- of the slots held all the shelves come first
+  abbrev pub BeginsWithShelves : List (ℕ × Slot P) → Type 0
+  BeginsWithShelves held = (xs : List (Slot P)) × (cs : List (ℕ × Slot P)) × (length xs ≡ slots) × (held ≡ shelves xs ++ cs)
+
+  -- the items and what lay on the shelves have changed places, and the shelves have come behind the other slots held
+  abbrev pub AreExchanged : List (ℕ × Slot P) → List (Option P) → List (ℕ × Slot P) → List (Option P) → Type 0
+  AreExchanged held items held' items' =
+      (xs : List (Slot P)) (cs : List (ℕ × Slot P)) → length xs ≡ slots → held ≡ shelves xs ++ cs → (ys : List (Slot P)) × (items_on ys ≡ items) × (held' ≡ cs ++ shelves ys) × (items' ≡ items_on xs)
+
   abbrev pub HoldsNext : Bool → ℕ → List (ℕ × Slot P) → Type 0
-  HoldsNext true n cs = (y : Slot P) × (x : Slot P) × (y.shelves.items ≡ nothing) × (cs ≡ (4, y) ∷ (cell (n + 1), x) ∷ [])
+  HoldsNext true n cs = (x : Slot P) × (ys : List (Slot P)) × (items_on ys ≡ nothing) × (cs ≡ (cell (n + 1), x) ∷ shelves ys)
   HoldsNext false n cs = (x : Slot P) × (cs ≡ (cell (n + 1), x) ∷ [])
 
   abbrev pub HoldsSeen : Bool → ℕ → List (ℕ × Slot P) → Type 0
   HoldsSeen false c cs = (x : Slot P) × (y : Slot P) × (cs ≡ (cell c, x) ∷ (cell (c + 3), y) ∷ [])
-  HoldsSeen true c cs = (z : Slot P) × (x : Slot P) × (y : Slot P) × (r : Slot P) × (r.shelves.items ≡ nothing) × (cs ≡ (cell (c + 1), z) ∷ (cell c, x) ∷ (cell (c + 3), y) ∷ (4, r) ∷ [])
+  HoldsSeen true c cs = (z : Slot P) × (x : Slot P) × (y : Slot P) × (ys : List (Slot P)) × (items_on ys ≡ nothing) × (cs ≡ (cell (c + 1), z) ∷ (cell c, x) ∷ (cell (c + 3), y) ∷ shelves ys)
 
 abbrev pub Seated : Type 0 → Type 0 → Type 0
 Seated P K = Me (Slot P) (View P K)
 
 module _ {P K : Type 0} where
-  -- the mutator's first seat takes its cell and the rack
+  -- the mutator's first seat takes its cell and the shelves
   abbrev pub sat_mutator : Step (Slot P) → Seated P K → ℕ → Seated P K → Type 0
-  sat_mutator st me r me' = (x : Slot P) × (y : Slot P) × (x.shelves.items ≡ nothing) × (me' ≡ (record me.0 { mutating = record me.0.mutating { out = true } }, (4, x) ∷ (0, y) ∷ me.1))
+  sat_mutator st me r me' = (x : Slot P) × (ys : List (Slot P)) × (items_on ys ≡ nothing) × (me' ≡ (record me.0 { mutating = record me.0.mutating { out = true } }, (0, x) ∷ shelves ys ++ me.1))
 
   abbrev pub sat_observer : Step (Slot P) → Seated P K → ℕ → Seated P K → Type 0
   sat_observer st me r me' = (x : Slot P) × (y : Slot P) × (me' ≡ (record me.0 { observing = record me.0.observing { out = true } }, (3, x) ∷ (2, y) ∷ me.1))
@@ -128,17 +155,17 @@ module _ {P K : Type 0} where
   abbrev pub saw_mutating : ℕ → List (Option P) → Bool → Mutating P K → Mutating P K
   saw_mutating a items clear m = record m { events = m.events ++ SawAck a items ∷ []; clear = clear }
 
-  -- the mutator does not have the rack, and the word is that of its last state
+  -- the mutator does not have the shelves, and the word is that of its last state
   abbrev pub brings : Mutating P K → ℕ → Bool
   brings m r = not m.clear && (r == word m.pushed)
 
-  -- the acknowledged number a was seen; where it is first seen that it is the last pushed, the rack was taken
+  -- the acknowledged number a was seen; where it is first seen that it is the last pushed, the shelves were taken
   abbrev pub saw_ack : (K → ℕ → P → Type 0) → Step (Slot P) → Seated P K → ℕ → Seated P K → Type 0
   saw_ack fits st me r me' = let m = me.0.mutating in
       (a : ℕ) × (r ≡ word a) × (r ≡ word m.pushed → a ≡ m.pushed) × (r ≢ word m.pushed → a + 1 ≡ m.pushed)
       × (brings m r ≡ false → me' ≡ (record me.0 { mutating = saw_mutating a [] (r == word m.pushed) m }, me.1))
-      × (brings m r ≡ true → (x : Slot P) × AreOf m.before m.last x.shelves.items × FitAt fits m.key m.before x.shelves.items
-      × (me' ≡ (record me.0 { mutating = saw_mutating a x.shelves.items true m }, (4, x) ∷ me.1)))
+      × (brings m r ≡ true → (ys : List (Slot P)) × AreOf m.before m.last (items_on ys) × FitAt fits m.key m.before (items_on ys)
+      × (me' ≡ (record me.0 { mutating = saw_mutating a (items_on ys) true m }, shelves ys ++ me.1)))
       × (m.clear ≡ true → (r == word m.pushed) ≡ true)
 
   abbrev pub push_mutating : FastState → List (Option P) → Mutating P K → Mutating P K
@@ -146,20 +173,20 @@ module _ {P K : Type 0} where
 
   abbrev pub pushed : Step (Slot P) → Seated P K → ℕ → Seated P K → Type 0
   pushed st me r me' = let m = me.0.mutating in
-      (x : Slot P) (y : Slot P) → me.1 ≡ (cell (m.pushed + 1), x) ∷ (4, y) ∷ []
-      → (z : Slot P) × (me' ≡ (record me.0 { mutating = push_mutating x.state y.shelves.items m }, (cell (m.pushed + 2), z) ∷ []))
+      (x : Slot P) (ys : List (Slot P)) (cs : List (ℕ × Slot P)) → length ys ≡ slots → me.1 ≡ (cell (m.pushed + 1), x) ∷ shelves ys ++ cs
+      → (z : Slot P) × (me' ≡ (record me.0 { mutating = push_mutating x.state (items_on ys) m }, (cell (m.pushed + 2), z) ∷ cs))
 
-  -- nothing new, or the cell of the new state was taken with the rack
+  -- nothing new, or the cell of the new state was taken with the shelves
   abbrev pub saw_next : (K → ℕ → P → Type 0) → Step (Slot P) → Seated P K → ℕ → Seated P K → Type 0
   saw_next fits st me r me' = let o = me.0.observing in
       (r ≡ word o.current → me' ≡ (record me.0 { observing = record o { events = o.events ++ SawNext o.current None [] ∷ [] } }, me.1))
-      × (r ≢ word o.current → (x : Slot P) × (y : Slot P) × (r ≡ word (o.current + 1)) × AreOf x.state o.state y.shelves.items × FitAt fits o.key x.state y.shelves.items
-      × (me' ≡ (record me.0 { observing = record o { events = o.events ++ SawNext (o.current + 1) (Some x.state) y.shelves.items ∷ []; due = true; next = x.state } }, (4, y) ∷ (cell (o.current + 1), x) ∷ me.1)))
+      × (r ≢ word o.current → (x : Slot P) × (ys : List (Slot P)) × (r ≡ word (o.current + 1)) × AreOf x.state o.state (items_on ys) × FitAt fits o.key x.state (items_on ys)
+      × (me' ≡ (record me.0 { observing = record o { events = o.events ++ SawNext (o.current + 1) (Some x.state) (items_on ys) ∷ []; due = true; next = x.state } }, shelves ys ++ (cell (o.current + 1), x) ∷ me.1)))
 
   abbrev pub acked : Step (Slot P) → Seated P K → ℕ → Seated P K → Type 0
   acked st me r me' = let o = me.0.observing in
-      (x : Slot P) (y : Slot P) (cs : List (ℕ × Slot P)) → me.1 ≡ (cell (o.current + 3), x) ∷ (4, y) ∷ cs
-      → me' ≡ (record me.0 { observing = record o { events = o.events ++ Ack (o.current + 1) y.shelves.items ∷ []; current = o.current + 1; state = o.next; due = false } }, cs)
+      (x : Slot P) (ys : List (Slot P)) (cs : List (ℕ × Slot P)) → length ys ≡ slots → me.1 ≡ (cell (o.current + 3), x) ∷ shelves ys ++ cs
+      → me' ≡ (record me.0 { observing = record o { events = o.events ++ Ack (o.current + 1) (items_on ys) ∷ []; current = o.current + 1; state = o.next; due = false } }, cs)
 
   -- both parties' lists so far have a history, and each learns how many events the other has
   abbrev pub met : Step (Slot P) → Seated P K → ℕ → Seated P K → Type 0
@@ -173,7 +200,7 @@ module _ {P K : Type 0} where
         me.1,
       ))
 
-  -- a mutator holds the cell of the next state, and the rack where the last state was seen acknowledged
+  -- a mutator holds the cell of the next state, and the shelves where the last state was seen acknowledged
   pub record IsMutator (me : Seated P K) (n : ℕ) (clear : Bool) : Type 0 where
     pub mutates : me.0.mutates ≡ true
     pub alone : me.0.observes ≡ false
@@ -183,7 +210,7 @@ module _ {P K : Type 0} where
     pub begins : n ≡ 0 → clear ≡ true
     pub holds : HoldsNext clear n me.1
 
-  -- an observer holds the cells of its state and of the one before, and where it took the next one that cell and the rack
+  -- an observer holds the cells of its state and of the one before, and where it took the next one that cell and the shelves
   pub record IsObserver (me : Seated P K) (c : ℕ) (due : Bool) : Type 0 where
     pub observes : me.0.observes ≡ true
     pub alone : me.0.mutates ≡ false

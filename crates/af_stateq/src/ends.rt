@@ -1,4 +1,4 @@
-//! The two ends on the table: each call is one word step, with the cells and the rack that change hands by it.
+//! The two ends on the table: each call is one word step, with the cells and the shelves that change hands by it.
 ghost use Rattle.std.specs.Prelude.{◌≡◌, ◌+◌, ◌^◌, ◌<◌, true, false, Some};
 ghost use Rattle.af_model.specs.StateQueue.{AreOf, FitAt};
 ghost use Rattle.af_stateq.specs.Shelved.{word, nothing, IsMutator, IsObserver};
@@ -7,11 +7,11 @@ ghost use Rattle.af_stateq.specs.Ends.{Pushes, Polls, SawAcked, pushes, acknowle
 use crate::cell::Slot;
 use crate::plays::{Acknowledge, Push, SeeAck, SeeNext};
 use crate::rule::{Fits, Queue};
+use crate::shelves::exchange;
 use crate::view::View;
 use af_base::{FastState, Steps};
 use atomic_table::Seat;
 use std::marker::Model;
-use std::mem;
 use std::sync::ledger::Ledger;
 
 /// The end that pushes states, with the turns of the slots that it holds.
@@ -70,13 +70,12 @@ impl<P: Drop, N: Fits<P>> MutatorEnd<P, N> {
         steps.tick();
         let seen = shared.load::<SeeAck<N>>(&mut self.seat, 1);
         let clear = seen == word_of(self.number);
-        let has_rack = self.clear;
+        let has_shelves = self.clear;
         self.clear = clear;
-        if has_rack || !clear {
+        if has_shelves || !clear {
             return seen;
         }
-        let rack = self.seat.slot_mut(shared, 4);
-        mem::swap(&mut rack.shelves, items);
+        exchange(queue, &mut self.seat, items);
         seen
     }
 
@@ -97,9 +96,8 @@ impl<P: Drop, N: Fits<P>> MutatorEnd<P, N> {
         ensures steps { steps.new ≡ steps.old + 1 }
     {
         let shared = &queue.table.shared;
-        let rack = self.seat.slot_mut(shared, 4);
-        mem::swap(&mut rack.shelves, items);
         self.seat.turn();
+        exchange(queue, &mut self.seat, items);
         let cell = self.seat.slot_mut(shared, (self.number % 4) as usize);
         cell.state = *state;
         let number = self.number + 1;
@@ -131,9 +129,7 @@ impl<P: Drop, N: Fits<P>> ObserverEnd<P, N> {
         if seen == word_of(self.number) {
             return None;
         }
-        let rack = self.seat.slot_mut(shared, 4);
-        mem::swap(&mut rack.shelves, items);
-        self.seat.turn();
+        exchange(queue, &mut self.seat, items);
         let state = self.seat.slot_mut(shared, (self.number % 4) as usize).state;
         self.due = true;
         Some(state)
@@ -158,9 +154,7 @@ impl<P: Drop, N: Fits<P>> ObserverEnd<P, N> {
         self.seat.turn();
         self.seat.turn();
         self.seat.turn();
-        let rack = self.seat.slot_mut(shared, 4);
-        mem::swap(&mut rack.shelves, items);
-        self.seat.turn();
+        exchange(queue, &mut self.seat, items);
         self.seat.turn();
         self.seat.turn();
         let number = self.number + 1;

@@ -1,7 +1,7 @@
 //! A queue of states for one mutator and one observer, in which nobody waits (AOSP's StateQueue), and the items of the slots travel with the states.
 //!
 //! Word 0 names the last state pushed, and word 1 the last one acknowledged. State k lies in cell (k - 1) mod 4, and its word is that number and 1; 0 stands for none.
-//! Slots 0 to 3 are the cells. Slot 4 is the rack, whose shelves hold the items that are on their way.
+//! Slots 0 to 3 of the table are the cells. After them comes a shelf for each slot of a state, which holds the item of that slot while it is on its way. The shelves change hands together with the words, all in one step.
 #![tactic(auto)]
 
 mod cell;
@@ -12,6 +12,7 @@ mod mutator;
 mod observer;
 mod plays;
 mod rule;
+mod shelves;
 #[cfg(test)]
 mod tests;
 #[cfg(test)]

@@ -1,14 +1,14 @@
 //! How a queue is made, and how its ends meet.
-ghost use Rattle.std.specs.Prelude.{◌≡◌, [], ◌∷◌, ◌++◌, ◌+◌, length, true, false, None, Some, IfOk};
-ghost use Rattle.af_model.specs.StateQueue.{HasHistory};
+ghost use Rattle.std.specs.Prelude.{◌≡◌, [], ◌∷◌, ◌++◌, ◌+◌, length, true, false, None, Some, IfOk, replicate};
 ghost use Rattle.af_model.specs.Draft.{initial};
+ghost use Rattle.af_model.specs.StateQueue.{slots, HasHistory};
 ghost use Rattle.af_stateq.specs.Mutates.{IsNewMutator};
 ghost use Rattle.af_stateq.specs.Observes.{IsNewObserver, InOrder};
-ghost use Rattle.af_stateq.specs.Shelved.{nothing};
+ghost use Rattle.af_stateq.specs.Shelved.{cells, nothing};
 ghost use Rattle.af_model.specs.declared.states.MutatorEvent.TheVariants as mutates;
 ghost use Rattle.af_model.specs.declared.states.ObserverEvent.TheVariants as observes;
 
-use crate::cell::Slot;
+use crate::cell::{CELLS, Slot};
 use crate::ends::{MutatorEnd, ObserverEnd};
 use crate::mutator::Mutator;
 use crate::observer::Observer;
@@ -19,26 +19,30 @@ use atomic_table::Table;
 use std::alloc::Global;
 use std::sync::ledger::Ledger;
 
-/// Empty shelves, one for each slot.
-pub(crate) fn shelves<P: Drop>(alloc: Global) -> Result<Vec<Option<P>>, Memory>
+/// No item for any slot.
+pub(crate) fn no_items<P: Drop>(alloc: Global) -> Result<Vec<Option<P>>, Memory>
     ensures { IfOk result (λ v. v.items ≡ nothing) }
 {
-    let Ok(mut shelves) = Vec::with_capacity(alloc, SLOTS) else {
+    let Ok(mut items) = Vec::with_capacity(alloc, SLOTS) else {
         return Err(Memory);
     };
     for _slot in 0..SLOTS {
-        shelves.push_reserved(None);
+        items.push_reserved(None);
     }
-    Ok(shelves)
+    Ok(items)
 }
 
-fn cell<P: Drop>(alloc: Global, state: FastState) -> Slot<P>
-    ensures { result.state ≡ state }
+/// The cells and the empty shelves, all with the first state.
+fn table_slots<P: Drop>(alloc: Global, state: FastState) -> Result<Vec<Slot<P>>, Memory>
+    ensures { IfOk result (λ v. v.items ≡ replicate (cells + slots) record { state = state; item = None }) }
 {
-    Slot {
-        state,
-        shelves: Vec::new(alloc),
+    let Ok(mut places) = Vec::with_capacity(alloc, CELLS + SLOTS) else {
+        return Err(Memory);
+    };
+    for _slot in 0..CELLS + SLOTS {
+        places.push_reserved(Slot { state, item: None });
     }
+    Ok(places)
 }
 
 pub(crate) fn first_state(frames: u32) -> FastState
@@ -71,20 +75,9 @@ pub(crate) fn ends_of<P: Drop, N: Fits<P>>(
     ensures mutator { IfOk result (λ l. (l.1.key ≡ Some key) × (l.1.first ≡ first) × (l.1.last ≡ first) × (l.1.number ≡ 0) × (l.1.clear ≡ true) × (l.1.events ≡ [])) }
     ensures observer { IfOk result (λ l. (l.2.key ≡ Some key) × (l.2.state ≡ first) × (l.2.number ≡ 0) × (l.2.due ≡ false) × (l.2.events ≡ [])) }
 {
-    let rack = Slot {
-        state: first,
-        shelves: shelves(alloc)?,
-    };
-    let Ok(mut slots) = Vec::with_capacity(alloc, 5) else {
-        return Err(Memory);
-    };
-    slots.push_reserved(cell(alloc, first));
-    slots.push_reserved(cell(alloc, first));
-    slots.push_reserved(cell(alloc, first));
-    slots.push_reserved(cell(alloc, first));
-    slots.push_reserved(rack);
+    let places = table_slots(alloc, first)?;
     let basis = Basis { first, key };
-    let Ok((table, mut seat)) = Table::new(alloc, &[0, 0], slots, &basis) else {
+    let Ok((table, mut seat)) = Table::new(alloc, &[0, 0], places, &basis) else {
         return Err(Memory);
     };
     let mut other = table.shared.split_seat::<Part>(&mut seat);
@@ -141,11 +134,11 @@ pub fn queue<P: Drop, N: Fits<P>>(
     ensures observer { IfOk result (λ l. IsNewObserver key (initial frames) l.2 × InOrder N.fits l.2) }
 {
     let first = first_state(frames);
-    let pending = shelves(alloc)?;
-    let returned = shelves(alloc)?;
-    let spare = shelves(alloc)?;
-    let items = shelves(alloc)?;
-    let rack = shelves(alloc)?;
+    let pending = no_items(alloc)?;
+    let returned = no_items(alloc)?;
+    let spare = no_items(alloc)?;
+    let items = no_items(alloc)?;
+    let rack = no_items(alloc)?;
     let (queue, pushes, polls) = ends_of(alloc, first, key)?;
     let mutator = Mutator {
         end: pushes,

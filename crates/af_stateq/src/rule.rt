@@ -43,12 +43,14 @@ pub struct Queue<P: Drop, N: Fits<P>> {
 }
 
 impl<P: Drop, N: Fits<P>> Model for Queue<P, N> {
-    ghost use Rattle.std.specs.Prelude.{◌≡◌};
+    ghost use Rattle.std.specs.Prelude.{◌≡◌, ◌+◌};
     ghost use Rattle.atomic_table.specs.Seated.{TableId};
+    ghost use Rattle.af_model.specs.StateQueue.{slots};
+    ghost use Rattle.af_stateq.specs.Shelved.{cells};
 
     ghost Value = { TableId };
 
     ghost view = { λ q. q.table.shared.table_id };
 
-    ghost invariant = { λ q. (q.table.shared.table_id.words ≡ 2) × (q.table.shared.table_id.slots ≡ 5) };
+    ghost invariant = { λ q. (q.table.shared.table_id.words ≡ 2) × (q.table.shared.table_id.slots ≡ cells + slots) };
 }

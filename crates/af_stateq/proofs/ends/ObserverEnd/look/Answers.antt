@@ -1,45 +1,55 @@
-use Rattle.std.proofs.Common.{rules, ℕ, ◌+◌, Bool, ◌∷◌, ap, sym, ◌∙◌, subst}
-use Rattle.af_stateq.specs.Shelved.{cell, word, HoldsSeen}
+use Rattle.std.proofs.Common.{rules, ◌≢◌, Bool, true, Some, ◌+◌, [], ◌∷◌, ◌++◌, ap, sym, ◌∙◌, subst}
+use mathlib.Core.Option.{none}
+use Rattle.atomic_table.specs.Table.{step}
+use Rattle.af_model.specs.declared.states.ObserverEvent.TheVariants.{SawNext}
+use Rattle.af_stateq.specs.Shelved.{word, IsObserver}
 use Rattle.af_stateq.proofs.Allowed.{polls_allowed}
-use Rattle.af_stateq.proofs.Hands.{headed, turned_once, numbered, this_cell}
+use Rattle.af_stateq.proofs.Hands.{are_moved, fit_moved}
+use Rattle.af_stateq.proofs.Looks.{took, came_held, seen_first, seen_cell, seen_look}
 use Rattle.af_stateq.proofs.ends.ObserverEnd.look.Goals as goal
 
 pub load-seen-requires : goal.load-seen-requires
 load-seen-requires g c = let i = c.self.invariant in (search rules, search rules, polls_allowed _ _ _ _ _ i.observes (i.is_due ∙ ap (λ v. v.due) c.self.view_is ∙ c.requires.due) i.out)
 
-pub slot_mut-rack-requires : goal.slot_mut-rack-requires
-slot_mut-rack-requires g c =
-    let i = c.self.invariant in
-    let n : ℕ = c.self.inside.number in
-    let h = subst (λ (b : Bool). HoldsSeen b n c.self.inside.seat.me.1) (ap (λ v. v.due) c.self.view_is ∙ c.requires.due) i.holds in
-    let l = c.load-seen.ensures.2.1 (λ same. c.if-seen-word_of.false (same ∙ ap word i.number ∙ sym c.word_of.ensures)) in
-    let held = ap (λ m. m.1) l.5 ∙ ap (λ (k : ℕ). (4, l.1) ∷ (cell (k + 1), l.0) ∷ c.self.inside.seat.me.1) i.number ∙ ap (λ z. (4, l.1) ∷ (cell (n + 1), l.0) ∷ z) h.2 in
-    (search rules, (l.1, headed _ _ _ held))
-
 pub slot_mut-requires : goal.slot_mut-requires
 slot_mut-requires g c =
-    let i = c.self.invariant in
-    let n : ℕ = c.self.inside.number in
-    let h = subst (λ (b : Bool). HoldsSeen b n c.self.inside.seat.me.1) (ap (λ v. v.due) c.self.view_is ∙ c.requires.due) i.holds in
-    let l = c.load-seen.ensures.2.1 (λ same. c.if-seen-word_of.false (same ∙ ap word i.number ∙ sym c.word_of.ensures)) in
-    let held = ap (λ m. m.1) l.5 ∙ ap (λ (k : ℕ). (4, l.1) ∷ (cell (k + 1), l.0) ∷ c.self.inside.seat.me.1) i.number ∙ ap (λ z. (4, l.1) ∷ (cell (n + 1), l.0) ∷ z) h.2 in
-    let t = turned_once _ _ _ _ _ held (ap (λ m. m.1) c.turn.ensures.2) in
-    (search rules, (l.0, headed _ _ _ (numbered _ _ _ _ _ (this_cell n) t)))
+    let i = subst (λ (b : Bool). IsObserver c.self.inside.seat.me c.self.inside.number b) (ap (λ v. v.due) c.self.view_is ∙ c.requires.due) c.self.invariant in
+    let l = c.load-seen.ensures.2 in
+    let new : c.load-seen.result ≢ word c.self.inside.number = λ same. c.if-seen-word_of.false (same ∙ sym c.word_of.ensures) in
+    let h = came_held g.N.Fits.fits (step 0 0 0 0 none) _ _ _ _ i l new in
+    let x = c.exchange.ensures.exchanged _ _ h.0 h.1 in
+    (search rules, (_, seen_first g.N.Fits.fits (step 0 0 0 0 none) _ _ _ _ i l new _ x.0 c.exchange.ensures.same.2 x.2))
 
 pub invariant_of-self-2 : goal.invariant_of-self-2
 invariant_of-self-2 g c =
-    let i = c.self.invariant in
-    let n : ℕ = c.self.inside.number in
-    let h = subst (λ (b : Bool). HoldsSeen b n c.self.inside.seat.me.1) (ap (λ v. v.due) c.self.view_is ∙ c.requires.due) i.holds in
-    let l = c.load-seen.ensures.2.1 (λ same. c.if-seen-word_of.false (same ∙ ap word i.number ∙ sym c.word_of.ensures)) in
-    let held = ap (λ m. m.1) l.5 ∙ ap (λ (k : ℕ). (4, l.1) ∷ (cell (k + 1), l.0) ∷ c.self.inside.seat.me.1) i.number ∙ ap (λ z. (4, l.1) ∷ (cell (n + 1), l.0) ∷ z) h.2 in
-    let t = turned_once _ _ _ _ _ held (ap (λ m. m.1) c.turn.ensures.2) in
-    let v = ap (λ m. m.0.observing) c.turn.ensures.2 ∙ ap (λ m. m.0.observing) l.5 in
-    record {
-      observes = ap (λ m. m.0.observes) c.turn.ensures.2 ∙ ap (λ m. m.0.observes) l.5 ∙ i.observes;
-      alone = ap (λ m. m.0.mutates) c.turn.ensures.2 ∙ ap (λ m. m.0.mutates) l.5 ∙ i.alone;
-      out = ap (λ o. o.out) v ∙ i.out;
-      number = ap (λ o. o.current) v ∙ i.number;
-      is_due = ap (λ o. o.due) v;
-      holds = (l.0, h.0, h.1, _, ap (λ x. x.items) c.swap.ensures.x_after ∙ c.requires.empty, sym c.slot_mut.ensures.value ∙ t);
-    }
+    let i = subst (λ (b : Bool). IsObserver c.self.inside.seat.me c.self.inside.number b) (ap (λ v. v.due) c.self.view_is ∙ c.requires.due) c.self.invariant in
+    let l = c.load-seen.ensures.2 in
+    let new : c.load-seen.result ≢ word c.self.inside.number = λ same. c.if-seen-word_of.false (same ∙ sym c.word_of.ensures) in
+    let h = came_held g.N.Fits.fits (step 0 0 0 0 none) _ _ _ _ i l new in
+    let x = c.exchange.ensures.exchanged _ _ h.0 h.1 in
+    subst (λ cs. IsObserver (c.exchange.new.seat.me.0, cs) c.self.inside.number true) c.slot_mut.ensures.value
+    (seen_look g.N.Fits.fits (step 0 0 0 0 none) _ _ _ _ i l new _ x.0 c.exchange.ensures.same.2 x.2 (x.1 ∙ c.requires.empty))
+
+pub returns-clause-seen : goal.returns-clause-seen
+returns-clause-seen g c =
+    let i = subst (λ (b : Bool). IsObserver c.self.inside.seat.me c.self.inside.number b) (ap (λ v. v.due) c.self.view_is ∙ c.requires.due) c.self.invariant in
+    let l = c.load-seen.ensures.2 in
+    let new : c.load-seen.result ≢ word c.self.inside.number = λ same. c.if-seen-word_of.false (same ∙ sym c.word_of.ensures) in
+    let h = came_held g.N.Fits.fits (step 0 0 0 0 none) _ _ _ _ i l new in
+    let x = c.exchange.ensures.exchanged _ _ h.0 h.1 in
+    let t = took g.N.Fits.fits (step 0 0 0 0 none) _ _ _ _ i l new in
+    let is = seen_cell g.N.Fits.fits (step 0 0 0 0 none) _ _ _ _ i l new _ x.0 c.exchange.ensures.same.2 x.2 _ c.slot_mut.ensures.value in
+    let w = ap (λ v. v.observing) (c.exchange.ensures.same.2 ∙ ap (λ m. m.0) t.3) in
+    let view = c.self.view_is in (
+      λ j. record {
+        queue = (c.exchange.ensures.same.0 ∙ c.load-seen.ensures.0 ∙ ap (λ v. v.queue) view) j;
+        key = (ap (λ o. o.key) w ∙ ap (λ v. v.key) view) j;
+        number = ap (λ v. v.number) view j;
+        state = (ap (λ o. o.state) w ∙ ap (λ v. v.state) view) j;
+        due = true;
+        next = (ap (λ o. o.next) w ∙ ap (λ y. y.state) (sym is)) j;
+        events = (ap (λ o. o.events) w ∙ (λ k. c.self.inside.seat.me.0.observing.events ++ SawNext (i.number k + 1) (Some (sym is k).state) (sym x.3 k) ∷ []) ∙ ap (λ v. v.events ++ SawNext (v.number + 1) (Some c.slot_mut.result.now.state) c.exchange.new.items.items ∷ []) view) j;
+      },
+      are_moved _ _ _ _ _ _ (ap (λ y. y.state) (sym is)) (ap (λ v. v.state) view) x.3 t.1,
+      fit_moved g.N.Fits.fits _ _ _ _ _ _ (ap (λ v. v.key) view) (ap (λ y. y.state) (sym is)) x.3 t.2,
+    )

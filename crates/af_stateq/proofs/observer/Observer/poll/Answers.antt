@@ -53,3 +53,9 @@ returns-clause-order g c =
       held = holds_all x o.state c.self.inside.items.items c.look.new.items.items items' R r.held l.1 c.settle.ensures.each;
       fit = fits_all x o.state c.self.inside.items.items c.look.new.items.items items' R r.held l.1 c.settle.ensures.each g.N.Fits.fits o.key l.2 r.fit;
     }
+
+pub returns-in_default-clause-order : goal.returns-in_default-clause-order
+returns-in_default-clause-order g c =
+    let r = subst (λ z. InOrder g.N.Fits.fits z) (sym c.self.view_is) c.requires.order in
+    subst (λ (z : Polls g.row.P.Denot g.row.N-Key.Denot). InOrder g.N.Fits.fits record { past = z; current = c.self.inside.current; previous = c.self.inside.previous; items = c.self.inside.items.items }) (sym c.in_default.ensures.seen.0)
+    record { state = r.state; whole = r.whole; held = r.held; fit = r.fit }

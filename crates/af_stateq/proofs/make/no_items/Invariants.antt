@@ -1,7 +1,7 @@
 use Rattle.std.proofs.Common.{◌≡◌, ◌≤◌}
 use Rattle.std.specs.Prelude.{replicate, None, vec_capacity}
 use Rattle.af_model.specs.StateQueue.{slots}
-use Rattle.af_stateq.proofs.make.shelves.Given as goal
+use Rattle.af_stateq.proofs.make.no_items.Given as goal
 
 abbrev pub invariant-loop-slot : goal.invariant-loop-slot
-invariant-loop-slot g l = (l.shelves.items ≡ replicate l._slot None) × (slots ≤ vec_capacity l.shelves)
+invariant-loop-slot g l = (l.items.items ≡ replicate l._slot None) × (slots ≤ vec_capacity l.items)
