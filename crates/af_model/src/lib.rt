@@ -15,6 +15,7 @@ mod mixing_tests;
 mod newest;
 mod pieces;
 mod plain_calls;
+mod plain_places;
 mod plain_queue;
 #[cfg(test)]
 mod plain_queue_tests;

@@ -6,7 +6,8 @@ ghost use Rattle.af_model.specs.Draft.{initial, attached, detached, commanded};
 ghost use Rattle.af_model.specs.PlainQueue.{QueueState, new_queue, place_at, is_placed, held_of, returned_of, let_go, left, moved, moved_from, readiness, is_allowed, is_acked, after_look, push_answer, shown, after_push, poll_answer, after_poll, allowed_step, step, answers_of, state_after};
 ghost use Rattle.af_model.specs.declared.plain_calls.Place.TheVariants.{Nowhere, Pending};
 
-use crate::plain_calls::{Move, Place, Poll, QueueAnswer, QueueCall, Readiness, carries_item};
+use crate::plain_calls::{Move, Place, Poll, QueueAnswer, QueueCall, Readiness};
+use crate::plain_places::{detach_from, empty, move_all, placed, take_from};
 use af_base::{Command, FastState, FastTrack, Memory, Push, SLOTS};
 use std::alloc::Global;
 use std::marker::Model;
@@ -69,118 +70,6 @@ fn word_of(number: u64) -> u32
     } else {
         ((number - 1) % 4) as u32 + 1
     }
-}
-
-impl<P: Drop> Place<P> {
-    /// Whether there is an item.
-    fn is_placed(&self) -> bool
-        ensures { result ≡ is_placed self.now }
-    {
-        !matches!(self, Place::Nowhere)
-    }
-
-    /// Where the item of the slot is once it is detached.
-    fn let_go(self) -> Place<P>
-        ensures { result ≡ let_go self }
-    {
-        match self {
-            Place::Pending { item } => Place::Returned { item },
-            place => place,
-        }
-    }
-
-    /// Where the item of the slot is after a take back, and the item.
-    fn taken(self) -> (Place<P>, Option<P>)
-        ensures place { result.0 ≡ left self }
-        ensures item { result.1 ≡ returned_of self }
-    {
-        match self {
-            Place::Returned { item } => (Place::Nowhere, Some(item)),
-            place => (place, None),
-        }
-    }
-
-    /// Where the item of the slot is after a move.
-    fn moved(self, step: &Move, slot: usize) -> Place<P>
-        requires { slot < slots }
-        ensures { result ≡ moved step.now slot self }
-    {
-        match (step, self) {
-            (Move::Send, Place::Pending { item }) => Place::Going { item },
-            (Move::SeeAck, Place::Coming { item }) => Place::Returned { item },
-            (Move::Take { .. }, Place::Going { item }) => Place::Held { item },
-            (Move::Take { state }, Place::Held { item }) => {
-                if carries_item(state, slot) {
-                    Place::Held { item }
-                } else {
-                    Place::Coming { item }
-                }
-            }
-            (_, place) => place,
-        }
-    }
-}
-
-/// Takes the item of a slot out of its place.
-fn empty<P: Drop>(places: &mut Vec<Place<P>>, slot: usize) -> Place<P>
-    requires { slot < length places.old.items }
-    ensures place { result ≡ place_at places.old.items slot }
-    ensures places { places.new.items ≡ slice_set places.old.items slot Nowhere }
-{
-    mem::replace(&mut places[slot], Place::Nowhere)
-}
-
-/// The item of a slot is where a detach leaves it.
-fn detach_from<P: Drop>(places: &mut Vec<Place<P>>, slot: usize)
-    requires { slot < length places.old.items }
-    ensures { places.new.items ≡ slice_set places.old.items slot (let_go (place_at places.old.items slot)) }
-{
-    let place = empty(places, slot);
-    places[slot] = place.let_go();
-}
-
-/// The item of a slot, where it is in the mutator's hand.
-fn take_from<P: Drop>(places: &mut Vec<Place<P>>, slot: usize) -> Option<P>
-    requires { slot < length places.old.items }
-    ensures item { result ≡ returned_of (place_at places.old.items slot) }
-    ensures places { places.new.items ≡ slice_set places.old.items slot (left (place_at places.old.items slot)) }
-{
-    let (place, item) = empty(places, slot).taken();
-    places[slot] = place;
-    item
-}
-
-/// Moves the item of a slot.
-fn move_at<P: Drop>(places: &mut Vec<Place<P>>, slot: usize, step: &Move)
-    requires slot { slot < slots }
-    requires place { slot < length places.old.items }
-    ensures { places.new.items ≡ slice_set places.old.items slot (moved step.now slot (place_at places.old.items slot)) }
-{
-    let place = empty(places, slot);
-    places[slot] = place.moved(step, slot);
-}
-
-/// Moves the item of each slot.
-fn move_all<P: Drop>(places: &mut Vec<Place<P>>, step: &Move)
-    requires { length places.old.items ≡ slots }
-    ensures whole { length places.new.items ≡ slots }
-    ensures moved { places.new.items ≡ moved_from step.now 0 places.old.items }
-{
-    for i in 0..SLOTS {
-        move_at(places, i, step);
-    }
-}
-
-/// Which slots have an item.
-fn placed<P: Drop>(places: &Vec<Place<P>>) -> [bool; SLOTS]
-    requires { length places.now.items ≡ slots }
-    ensures { result ≡ map is_placed places.now.items }
-{
-    let mut out = [false; SLOTS];
-    for i in 0..SLOTS {
-        out[i] = places[i].is_placed();
-    }
-    out
 }
 
 impl<P: Drop> PlainQueue<P> {

@@ -1,7 +1,7 @@
 use Rattle.std.proofs.Common.{◌≡◌, ℕ, ◌<◌, length, false, slice_index_or}
 use Rattle.af_model.specs.StateQueue.{slots}
 use Rattle.af_model.specs.PlainQueue.{place_at, is_placed}
-use Rattle.af_model.proofs.plain_queue.placed.Given as goal
+use Rattle.af_model.proofs.plain_places.placed.Given as goal
 
 abbrev pub invariant-loop-i : goal.invariant-loop-i
 invariant-loop-i g l = (length l.out ≡ slots)

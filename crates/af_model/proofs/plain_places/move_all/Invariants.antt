@@ -1,7 +1,7 @@
 use Rattle.std.proofs.Common.{◌≡◌, ℕ, ◌<◌, ◌≤◌, length}
 use Rattle.af_model.specs.StateQueue.{slots}
 use Rattle.af_model.specs.PlainQueue.{place_at, moved}
-use Rattle.af_model.proofs.plain_queue.move_all.Given as goal
+use Rattle.af_model.proofs.plain_places.move_all.Given as goal
 
 abbrev pub invariant-loop-i : goal.invariant-loop-i
 invariant-loop-i g l = (length l.places.items ≡ slots)

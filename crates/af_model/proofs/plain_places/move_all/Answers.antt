@@ -1,7 +1,7 @@
 use Rattle.std.proofs.Common.{arith, sym, ◌∙◌, ap, length, length-set, List}
 use Rattle.af_model.specs.declared.plain_calls.Place.{Place}
 use Rattle.af_model.proofs.Places.{all_moved, one_more}
-use Rattle.af_model.proofs.plain_queue.move_all.Goals as goal
+use Rattle.af_model.proofs.plain_places.move_all.Goals as goal
 
 pub loop-i-preserved : goal.loop-i-preserved
 loop-i-preserved g c =

@@ -2,7 +2,7 @@ use Rattle.std.proofs.Common.{ap, ◌∙◌, List, slice_set}
 use Rattle.std.proofs.lemmas.List.{set-set}
 use Rattle.af_model.specs.declared.plain_calls.Place.{Place}
 use Rattle.af_model.specs.PlainQueue.{left}
-use Rattle.af_model.proofs.plain_queue.take_from.Goals as goal
+use Rattle.af_model.proofs.plain_places.take_from.Goals as goal
 
 pub returns-clause-places : goal.returns-clause-places
 returns-clause-places g c =

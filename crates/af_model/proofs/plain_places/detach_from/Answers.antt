@@ -2,7 +2,7 @@ use Rattle.std.proofs.Common.{ap, ◌∙◌, List, slice_set}
 use Rattle.std.proofs.lemmas.List.{set-set}
 use Rattle.af_model.specs.declared.plain_calls.Place.{Place}
 use Rattle.af_model.specs.PlainQueue.{let_go}
-use Rattle.af_model.proofs.plain_queue.detach_from.Goals as goal
+use Rattle.af_model.proofs.plain_places.detach_from.Goals as goal
 
 pub returns : goal.returns
 returns g c =

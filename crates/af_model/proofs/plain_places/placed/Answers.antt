@@ -2,7 +2,7 @@ use Rattle.std.proofs.Common.{◌<◌, arith, sym, ◌∙◌, false, length, map
 use Rattle.std.proofs.lemmas.List.{ext_get_or, get_or-map, length-map}
 use Rattle.af_model.specs.declared.plain_calls.Place.TheVariants.{Nowhere}
 use Rattle.af_model.specs.PlainQueue.{is_placed}
-use Rattle.af_model.proofs.plain_queue.placed.Goals as goal
+use Rattle.af_model.proofs.plain_places.placed.Goals as goal
 
 pub returns : goal.returns
 returns g c =
