@@ -31,7 +31,7 @@ impl Model for PipeIn {
 
     ghost view = { λ p. record { pass = p.pass; room = p.room } };
 
-    ghost invariant = { λ p. IsPutting p.pass p.rear p.room };
+    ghost invariant = { λ p. IsPutting p.pass.part p.rear p.room };
 }
 
 /// The end of a pipe from which frames are taken: AOSP's `MonoPipeReader`, which the fast mixer has in its slot 0.
@@ -47,13 +47,14 @@ pub struct PipeOut {
 }
 
 impl Model for PipeOut {
+    ghost use Rattle.std.specs.Prelude.{◌≡◌, true};
     ghost use Rattle.af_link.specs.PipeEnds.{OutSide, IsTaking};
 
     ghost Value = { OutSide };
 
     ghost view = { λ p. record { pass = p.pass; shown = p.shown } };
 
-    ghost invariant = { λ p. IsTaking p.pass p.front p.rear p.shown };
+    ghost invariant = { λ p. (p.pass.has_hand ≡ true) × IsTaking p.pass.part p.front p.rear p.shown };
 }
 
 /// An empty pipe for `frames` frames, from 1 to 65,536, and its two ends. Each begins with no events. The only refusal is want of memory.

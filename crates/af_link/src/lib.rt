@@ -15,3 +15,6 @@ pub use links::Links;
 pub use meetings::{meet_all, meet_flag, meet_track};
 pub use names::{StreamNames, stream_names};
 pub use reports::{ReportCell, ReportReader, ReportWriter, meet_report, report};
+
+#[cfg(test)]
+mod tests;
