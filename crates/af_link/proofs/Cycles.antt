@@ -45,7 +45,7 @@ next_later first x [] rest r = r.0
 next_later first x (Store y ∷ done) rest r = next_later y x done rest r.1
 next_later first x (writes.Learn c ∷ done) rest r = next_later first x done rest r
 
-last-store : (first x : Report) (done : List (WriterEvent Report)) → last_of first (done ++ Store x ∷ []) ≡ x
+pub last-store : (first x : Report) (done : List (WriterEvent Report)) → last_of first (done ++ Store x ∷ []) ≡ x
 last-store first x [] = refl
 last-store first x (Store y ∷ done) = last-store y x done
 last-store first x (writes.Learn c ∷ done) = last-store first x done

@@ -16,5 +16,3 @@ pub use meetings::{meet_all, meet_flag, meet_track};
 pub use names::{StreamNames, stream_names};
 pub use reports::{ReportCell, ReportReader, ReportWriter, meet_report, report};
 
-#[cfg(test)]
-mod tests;

@@ -95,6 +95,7 @@ impl ReportWriter {
         requires later { last_cycle self.old.events < report.now.cycle }
         ensures together { self.new.cell ≡ self.old.cell }
         ensures list { self.new.events ≡ self.old.events ++ writes.Store report.now ∷ [] }
+        ensures last { last_cycle self.new.events ≡ report.now.cycle }
         ensures steps { steps.new ≡ steps.old + 1 }
     {
         self.writer.store(&cell.cell, report, steps);

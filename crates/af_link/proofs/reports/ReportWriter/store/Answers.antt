@@ -2,7 +2,7 @@ use Rattle.std.proofs.Common.{arith, ◌≡◌, ◌<◌, ℕ, List, sym, ap, ◌
 use Rattle.af_model.specs.declared.newest.WriterEvent.{WriterEvent}
 use Rattle.af_base.specs.declared.report.Report.{Report}
 use Rattle.af_link.specs.Reports.{no_report, last_cycle, Rises, WriterSide}
-use Rattle.af_link.proofs.Cycles.{rises_on}
+use Rattle.af_link.proofs.Cycles.{rises_on, last-store}
 use Rattle.af_link.proofs.reports.ReportWriter.store.Goals as goal
 
 pub invariant_of-self : goal.invariant_of-self
@@ -13,3 +13,6 @@ invariant_of-self g c =
       first = c.store.ensures.together.1 ∙ k.first;
       rises = subst (λ (ws : List (WriterEvent Report)). Rises 0 ws) (sym c.store.ensures.list) (rises_on no_report c.args.report.now c.self.inside.writer.events k.rises later);
     }
+
+pub returns-clause-last : goal.returns-clause-last
+returns-clause-last g c = ap last_cycle c.store.ensures.list ∙ ap (λ (x : Report). x.cycle) (last-store no_report c.args.report.now c.self.inside.writer.events)
