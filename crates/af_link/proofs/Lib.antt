@@ -1,3 +1,4 @@
 mod Puts
 mod Releases
 mod Cycles
+mod Fronts

@@ -55,9 +55,10 @@ module _ (cells put m : ℕ) (frames before behind : List Frame) (some : 1 ≤ l
       let f = first in
       let left : ℕ = cells - put % cells in
       let a : left ≡ length before = omega arith in
-      let b : length frames - left ≡ length behind = omega arith in
-      (ap (λ (x : List Frame × List Frame). x.0 ++ x.1) (λ i. (front i, back i)) ∙ take-append-drop m frames,
-      releases-two cells put (length frames) (omega arith) ∙ ap (λ (x : ℕ × ℕ). client.Release x.0 ∷ client.Release x.1 ∷ []) (λ i. (a i, b i)))
+      let b : length frames - left ≡ length behind = omega arith in (
+        ap (λ (x : List Frame × List Frame). x.0 ++ x.1) (λ i. (front i, back i)) ∙ take-append-drop m frames,
+        releases-two cells put (length frames) (omega arith) ∙ ap (λ (x : ℕ × ℕ). client.Release x.0 ∷ client.Release x.1 ∷ []) (λ i. (a i, b i)),
+      )
 
 -- one release
 pub whole_put : (p q : ClientPart) (frames before : List Frame) → before ≡ frames → releases_of p.shape.cells (length p.frames) (length frames) ≡ client.Release (length before) ∷ []

@@ -1,6 +1,7 @@
 -- What contracts see of the two ends of a pipe, and what always holds of them.
 use Rattle.std.specs.Prelude.{◌≡◌, ℕ, ◌+◌, ◌≤◌, true, false, List, [], ◌∷◌, ◌++◌, length, map}
 use Rattle.af_base.specs.declared.frame.Frame.{Frame}
+use Rattle.af_base.specs.declared.event.ServerEvent.{ServerEvent}
 use Rattle.af_base.specs.declared.event.ServerEvent.TheVariants as server
 use Rattle.af_base.specs.Sample.{packed_word}
 use Rattle.af_model.specs.Point.{wrapped}
@@ -72,3 +73,10 @@ pub record IsTaking (s : ServerPart) (front rear shown : ℕ) : Type 0 where
   pub front_is : front ≡ s.front
   pub rear_is : rear ≡ s.rear
   pub ready : 1 ≤ shown → IsReady s front shown
+
+-- each front that the end saw is the number of frames that it took before
+abbrev pub SeesTaken : ℕ → List ServerEvent → Type 0
+SeesTaken taken [] = Unit {0}
+SeesTaken taken (server.SawFront front ∷ es) = (front ≡ wrapped taken) × SeesTaken taken es
+SeesTaken taken (server.Take count ∷ es) = SeesTaken (taken + count) es
+SeesTaken taken (_ ∷ es) = SeesTaken taken es

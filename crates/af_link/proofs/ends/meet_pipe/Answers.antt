@@ -7,6 +7,7 @@ use Rattle.af_model.proofs.PipeOrders.{pipe_history}
 use Rattle.af_cblk.specs.Sides.{Made, ServerSide}
 use Rattle.af_link.specs.PipeEnds.{IsPutting, InSide}
 use Rattle.af_link.proofs.Puts.{met_keeps, takes_met}
+use Rattle.af_link.proofs.Fronts.{sees_taken}
 use Rattle.af_link.proofs.ends.meet_pipe.Goals as goal
 
 pub invariant_of-from : goal.invariant_of-from
@@ -25,3 +26,9 @@ returns-clause-history g c =
     let takes : IsTakeList s.events =
     subst (λ (x : ServerSide). IsTakeList x.part.events) (sym c.meet.ensures.server) (takes_met c.to.inside.pass.part.events (length c.from.inside.pass.part.events) c.to.invariant.1.list) in
     subst (λ (n : ℕ). HasPipeHistory n p.events p.frames s.events s.frames) (ap (λ (m : Made). m.shape.frames) c.meet.ensures.made) (pipe_history p.shape.frames k.shape.few p.events p.frames s.events s.frames h k.list takes)
+
+pub returns-clause-fronts : goal.returns-clause-fronts
+returns-clause-fronts g c =
+    let p = c.meet.new.client.part in
+    let s = c.meet.new.server.part in
+    sees_taken c.args.block.now.shape.frames p.events p.frames s.events s.frames (returns-clause-history g c)
