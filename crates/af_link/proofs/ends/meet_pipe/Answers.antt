@@ -1,11 +1,10 @@
 use Rattle.std.proofs.Common.{◌≡◌, ℕ, List, [], length, ap, ◌∙◌, sym, subst}
 use Rattle.af_base.specs.declared.event.HandEvent.{HandEvent}
-use Rattle.af_base.specs.declared.event.ServerEvent.{ServerEvent}
 use Rattle.af_model.specs.History.{HasHistory}
-use Rattle.af_model.specs.PipeHistory.{IsPutList, IsTakeList, HasPipeHistory}
+use Rattle.af_model.specs.PipeHistory.{IsTakeList, HasPipeHistory}
 use Rattle.af_model.proofs.PipeOrders.{pipe_history}
 use Rattle.af_cblk.specs.Sides.{Made, ServerSide}
-use Rattle.af_link.specs.PipeEnds.{IsPutting, InSide}
+use Rattle.af_link.specs.PipeEnds.{IsPutting}
 use Rattle.af_link.proofs.Puts.{met_keeps, takes_met}
 use Rattle.af_link.proofs.Fronts.{sees_taken}
 use Rattle.af_link.proofs.ends.meet_pipe.Goals as goal

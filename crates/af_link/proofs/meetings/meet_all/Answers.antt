@@ -1,10 +1,8 @@
-use Rattle.std.proofs.Common.{◌≡◌, ℕ, length, ap, ◌∙◌, subst, sym}
+use Rattle.std.proofs.Common.{◌≡◌, ℕ, length, ap, ◌∙◌}
 use Rattle.af_base.specs.declared.event.ServerEvent.TheVariants as server
-use Rattle.af_cblk.specs.declared.view.ServerPart.{ServerPart}
 use Rattle.af_cblk.specs.Parts.{client_met, server_did}
 use Rattle.af_cblk.specs.Sides.{ClientSide, ServerSide}
 use Rattle.af_client.proofs.Kept.{met_keeps}
-use Rattle.af_server.specs.Order.{Keeps}
 use Rattle.af_server.proofs.Kept.{met_keeps as server_met}
 use Rattle.af_link.proofs.meetings.meet_all.Goals as goal
 

@@ -1,4 +1,4 @@
-use Rattle.std.proofs.Common.{◌≡◌, ℕ, ap, ◌∙◌}
+use Rattle.std.proofs.Common.{◌≡◌, ap, ◌∙◌}
 use Rattle.af_cblk.specs.Parts.{client_met}
 use Rattle.af_cblk.specs.Sides.{ClientSide}
 use Rattle.af_client.proofs.Kept.{met_keeps}

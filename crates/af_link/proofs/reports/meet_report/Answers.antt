@@ -1,4 +1,4 @@
-use Rattle.std.proofs.Common.{◌≡◌, ℕ, List, length, sym, ap, ◌∙◌, subst}
+use Rattle.std.proofs.Common.{List, length, sym, ◌∙◌, subst}
 use Rattle.af_model.specs.declared.newest.WriterEvent.{WriterEvent}
 use Rattle.af_base.specs.declared.report.Report.{Report}
 use Rattle.af_link.specs.Reports.{no_report, Rises, CyclesNeverFall, WriterSide, ReaderSide}

@@ -1,4 +1,4 @@
-use Rattle.std.proofs.Common.{arith, ◌≡◌, ◌<◌, ℕ, List, sym, ap, ◌∙◌, subst}
+use Rattle.std.proofs.Common.{◌<◌, List, sym, ap, ◌∙◌, subst}
 use Rattle.af_model.specs.declared.newest.WriterEvent.{WriterEvent}
 use Rattle.af_base.specs.declared.report.Report.{Report}
 use Rattle.af_link.specs.Reports.{no_report, last_cycle, Rises, WriterSide}
