@@ -1,6 +1,7 @@
 -- What contracts see of the two ends of a pipe, and what always holds of them.
 use Rattle.std.specs.Prelude.{◌≡◌, ℕ, ◌+◌, ◌≤◌, true, false, List, [], ◌∷◌, ◌++◌, length, map}
 use Rattle.af_base.specs.declared.frame.Frame.{Frame}
+use Rattle.af_base.specs.declared.event.ServerEvent.{ServerEvent}
 use Rattle.af_base.specs.declared.event.ServerEvent.TheVariants as server
 use Rattle.af_base.specs.Sample.{packed_word}
 use Rattle.af_model.specs.Point.{wrapped}
@@ -54,22 +55,28 @@ taken_by s frames =
     }
 
 -- An end puts frames, looks at front and meets, and does nothing else. It keeps the word of the number of frames put, and the room
-pub record IsPutting (pass : ClientSide) (rear room : ℕ) : Type 0 where
-  pub shape : IsShape pass.part.shape
-  pub from_zero : pass.part.shape.base ≡ 0
-  pub list : IsPutList pass.part.shape.frames pass.part.events
-  pub kept : put_kept pass.part.shape.frames pass.part.events ≡ (record { put = length pass.part.frames; front = pass.part.front })
-  pub lawful : is_lawful pass.part.events ≡ true
-  pub rear_is : rear ≡ wrapped (length pass.part.frames)
-  pub room_is : room ≡ room_of pass.part
+pub record IsPutting (p : ClientPart) (rear room : ℕ) : Type 0 where
+  pub shape : IsShape p.shape
+  pub from_zero : p.shape.base ≡ 0
+  pub list : IsPutList p.shape.frames p.events
+  pub kept : put_kept p.shape.frames p.events ≡ (record { put = length p.frames; front = p.front })
+  pub lawful : is_lawful p.events ≡ true
+  pub rear_is : rear ≡ wrapped (length p.frames)
+  pub room_is : room ≡ room_of p
 
 -- An end looks, takes frames and meets, and does nothing else. It keeps the front and the rear last seen, and how many frames may be taken
-pub record IsTaking (pass : ServerSide) (front rear shown : ℕ) : Type 0 where
-  pub shape : IsShape pass.part.shape
-  pub from_zero : pass.part.shape.base ≡ 0
-  pub whole : pass.has_hand ≡ true
-  pub list : IsTakeList pass.part.events
-  pub settled : pass.part.noticed ≡ false
-  pub front_is : front ≡ pass.part.front
-  pub rear_is : rear ≡ pass.part.rear
-  pub ready : 1 ≤ shown → IsReady pass.part front shown
+pub record IsTaking (s : ServerPart) (front rear shown : ℕ) : Type 0 where
+  pub shape : IsShape s.shape
+  pub from_zero : s.shape.base ≡ 0
+  pub list : IsTakeList s.events
+  pub settled : s.noticed ≡ false
+  pub front_is : front ≡ s.front
+  pub rear_is : rear ≡ s.rear
+  pub ready : 1 ≤ shown → IsReady s front shown
+
+-- each front that the end saw is the number of frames that it took before
+abbrev pub SeesTaken : ℕ → List ServerEvent → Type 0
+SeesTaken taken [] = Unit {0}
+SeesTaken taken (server.SawFront front ∷ es) = (front ≡ wrapped taken) × SeesTaken taken es
+SeesTaken taken (server.Take count ∷ es) = SeesTaken (taken + count) es
+SeesTaken taken (_ ∷ es) = SeesTaken taken es

@@ -5,7 +5,7 @@ ghost use Rattle.af_model.specs.PipeHistory.{HasPipeHistory};
 ghost use Rattle.af_cblk.specs.Parts.{client_met, server_did};
 ghost use Rattle.af_cblk.specs.Rule.{new_client, new_server};
 ghost use Rattle.af_cblk.specs.Shape.{IsShape};
-ghost use Rattle.af_link.specs.PipeEnds.{in_made, out_made};
+ghost use Rattle.af_link.specs.PipeEnds.{in_made, out_made, SeesTaken};
 
 use af_base::{Memory, Steps};
 use af_cblk::{Block, ClientPass, ServerPass};
@@ -31,7 +31,7 @@ impl Model for PipeIn {
 
     ghost view = { λ p. record { pass = p.pass; room = p.room } };
 
-    ghost invariant = { λ p. IsPutting p.pass p.rear p.room };
+    ghost invariant = { λ p. IsPutting p.pass.part p.rear p.room };
 }
 
 /// The end of a pipe from which frames are taken: AOSP's `MonoPipeReader`, which the fast mixer has in its slot 0.
@@ -47,13 +47,14 @@ pub struct PipeOut {
 }
 
 impl Model for PipeOut {
+    ghost use Rattle.std.specs.Prelude.{◌≡◌, true};
     ghost use Rattle.af_link.specs.PipeEnds.{OutSide, IsTaking};
 
     ghost Value = { OutSide };
 
     ghost view = { λ p. record { pass = p.pass; shown = p.shown } };
 
-    ghost invariant = { λ p. IsTaking p.pass p.front p.rear p.shown };
+    ghost invariant = { λ p. (p.pass.has_hand ≡ true) × IsTaking p.pass.part p.front p.rear p.shown };
 }
 
 /// An empty pipe for `frames` frames, from 1 to 65,536, and its two ends. Each begins with no events. The only refusal is want of memory.
@@ -82,7 +83,7 @@ pub fn pipe(alloc: Global, frames: u32) -> Result<(Block, PipeIn, PipeOut), Memo
 
 /// Each end learns what the other has done so far: all of it stands before its own next event. It appends Learn to each list, in five steps.
 ///
-/// Whatever the order in which their steps came, the two ends' lists have a history of the pipe.
+/// Whatever the order in which their steps came, the two ends' lists have a history of the pipe: the frames taken are a beginning of those put, and what a look shows is what was put and not taken at its place.
 pub fn meet_pipe<L: Ledger>(
     block: &Block,
     from: &mut PipeIn,
@@ -95,6 +96,7 @@ pub fn meet_pipe<L: Ledger>(
     ensures from { from.new ≡ (record from.old { pass = record from.old.pass { part = client_met from.old.pass.part to.old.pass.part.events } }) }
     ensures to { to.new ≡ (record to.old { pass = record to.old.pass { part = server_did to.old.pass.part (server_event.Learn (length from.old.pass.part.events)) } }) }
     ensures history { HasPipeHistory block.now.shape.frames from.new.pass.part.events from.new.pass.part.frames to.new.pass.part.events to.new.pass.part.frames }
+    ensures fronts { SeesTaken 0 to.new.pass.part.events }
     ensures steps { steps.new ≡ steps.old + 5 }
 {
     block.meet(&mut from.pass, &mut to.pass, steps);

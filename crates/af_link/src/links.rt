@@ -6,6 +6,7 @@ use af_server::Server;
 use af_stateq::Queue;
 
 /// The shared objects of a run, which each mixer is handed at each call. The number of a track is its place in `streams` and in `commands`.
+#[derive(Clone, Copy, Drop)]
 pub struct Links<'a> {
     /// The states that the normal mixer pushes and the fast mixer polls, with the stream proxies that travel by them.
     pub queue: &'a Queue<Server, StreamNames>,

@@ -35,26 +35,6 @@ fn store_frames<L: Ledger>(
     }
 }
 
-// Stores these frames and releases them at once, where none of them lies past the last cell.
-fn release<L: Ledger>(
-    block: &Block,
-    pass: &mut ClientPass,
-    rear: u32,
-    frames: &[Frame],
-    steps: &mut Steps<L>,
-)
-    requires made { client_made pass.old ≡ block.now }
-    requires rear { rear ≡ wrapped (released pass.old.part) }
-    requires room { length frames.now ≤ block_room pass.old.part }
-    requires few { length frames.now ≤ 65536 }
-    ensures made { client_made pass.new ≡ block.now }
-    ensures put { PutOn pass.old.part (length frames.now) (map packed_word frames.now) pass.new.part }
-    ensures steps { steps.new ≡ steps.old + length frames.now + 1 }
-{
-    store_frames(block, pass, rear, frames, steps);
-    block.store_rear(pass, frames.len() as u32, steps);
-}
-
 impl PipeIn {
     /// The free frames by the front that this call sees: the pipe's size without the frames put and not taken there. It appends SawFront. One step.
     pub fn room<L: Ledger>(&mut self, block: &Block, steps: &mut Steps<L>) -> u32
@@ -84,12 +64,26 @@ impl PipeIn {
         }
         let to_end = (block.cells() - self.rear % block.cells()) as usize;
         let (before, behind) = frames.split_at(frames.len().min(to_end));
-        release(block, &mut self.pass, self.rear, before, steps);
-        self.rear = self.rear.wrapping_add(before.len() as u32);
-        if !behind.is_empty() {
-            release(block, &mut self.pass, self.rear, behind, steps);
-            self.rear = self.rear.wrapping_add(behind.len() as u32);
+        self.release(block, before, steps);
+        if behind.is_empty() {
+            return;
         }
-        self.room -= frames.len() as u32;
+        self.release(block, behind, steps);
+    }
+
+    // Stores these frames and releases them at once.
+    fn release<L: Ledger>(&mut self, block: &Block, frames: &[Frame], steps: &mut Steps<L>)
+        requires made { in_made self.old ≡ block.now }
+        requires room { length frames.now ≤ self.old.room }
+        ensures made { in_made self.new ≡ block.now }
+        ensures put { PutOn self.old.pass.part (length frames.now) (map packed_word frames.now) self.new.pass.part }
+        ensures room { self.new.room ≡ self.old.room - length frames.now }
+        ensures steps { steps.new ≡ steps.old + length frames.now + 1 }
+    {
+        store_frames(block, &mut self.pass, self.rear, frames, steps);
+        let count = frames.len() as u32;
+        block.store_rear(&mut self.pass, count, steps);
+        self.rear = self.rear.wrapping_add(count);
+        self.room -= count;
     }
 }

@@ -56,8 +56,8 @@ impl Model for ReportReader {
     ghost view = { λ r. record { cell = r.reader.cell; events = r.reader.events } };
 }
 
-// The report before any cycle.
-fn zeros() -> Report
+/// The report before any cycle, of cycle 0: all zeros.
+pub fn first_report() -> Report
     ensures { result ≡ no_report }
 {
     let slot = SlotReport {
@@ -80,7 +80,7 @@ pub fn report(alloc: Global) -> Result<(ReportCell, ReportWriter, ReportReader),
     ensures together { IfOk result (λ r. (r.1.cell ≡ r.0) × (r.2.cell ≡ r.0)) }
     ensures lists { IfOk result (λ r. (r.1.events ≡ []) × (r.2.events ≡ [])) }
 {
-    let (cell, writer, reader) = latest(alloc, zeros())?;
+    let (cell, writer, reader) = latest(alloc, first_report())?;
     Ok((
         ReportCell { cell },
         ReportWriter { writer },
@@ -95,6 +95,7 @@ impl ReportWriter {
         requires later { last_cycle self.old.events < report.now.cycle }
         ensures together { self.new.cell ≡ self.old.cell }
         ensures list { self.new.events ≡ self.old.events ++ writes.Store report.now ∷ [] }
+        ensures last { last_cycle self.new.events ≡ report.now.cycle }
         ensures steps { steps.new ≡ steps.old + 1 }
     {
         self.writer.store(&cell.cell, report, steps);

@@ -1,0 +1,4 @@
+mod Puts
+mod Releases
+mod Cycles
+mod Fronts
