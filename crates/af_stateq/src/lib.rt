@@ -23,7 +23,7 @@ mod waits;
 pub use af_base::Push;
 pub use af_model::{Poll, QueueAnswer, QueueCall};
 pub use laws::{
-    a_look_after_a_meeting_sees_the_last_push, each_item_has_one_holder, polled_are_pushed,
+    a_look_after_a_meeting_sees_the_last_acknowledgement, a_look_after_a_meeting_sees_the_last_push, each_item_has_one_holder, polled_are_pushed,
 };
 pub use make::{meet, queue};
 pub use mutator::Mutator;
