@@ -41,12 +41,12 @@ module _ {P : Type 0} where
   coming_of _ = None
 
   -- of one slot: its item stands at this place, so each holder has it exactly where the place says so
-  pub record InPlace (place : Place P) (pending going held coming returned : Option P) : Type 0 where
-    pub pending : pending ≡ pending_of place
-    pub going : going ≡ going_of place
-    pub held : held ≡ held_of place
-    pub coming : coming ≡ coming_of place
-    pub returned : returned ≡ returned_of place
+  pub record InPlace (place : Place P) (pends goes here comes back : Option P) : Type 0 where
+    pub pending : pends ≡ pending_of place
+    pub going : goes ≡ going_of place
+    pub held : here ≡ held_of place
+    pub coming : comes ≡ coming_of place
+    pub returned : back ≡ returned_of place
 
 module _ {P K : Type 0} where
   -- the items of the last push, as long as its state is not polled

@@ -10,6 +10,7 @@ mod laws;
 mod make;
 mod mutator;
 mod observer;
+mod one_hand;
 mod plays;
 mod rule;
 mod shelves;
