@@ -32,7 +32,7 @@ use Rattle.af_model.proofs.Places.{length-moved_from, place_at-moved_from}
 use Rattle.af_stateq.specs.Shelved.{word, nothing}
 use Rattle.af_stateq.specs.Ends.{Pushes, Polls, saw, looked, took, acknowledged}
 use Rattle.af_stateq.specs.Mutates.{Mutates, at, is_out, InDraft}
-use Rattle.af_stateq.specs.Observes.{Observes, IsSettled}
+use Rattle.af_stateq.specs.Observes.{Observes, InOrder, IsSettled}
 use Rattle.af_stateq.specs.Answers.{SeesIt, SeesOlder, shows, WasPushed, WasAcked, WasPolled, sees_same}
 use Rattle.af_stateq.specs.Laws.{last_items, last_given}
 use Rattle.af_stateq.specs.OneHand.{InPlace, AreInStep, AreAt, HaveMet, plain_of, Agrees, ready_of, Made, Tried, items_going, items_coming}
@@ -407,3 +407,11 @@ pub call_answers : {P K : Type 0} (fits : K → ℕ → P → Type 0) (q : Queue
     → Agrees q m o → InDraft fits m → HaveMet m.past o.past → Tried c m o a m' o' → HasHistory m'.past.first m'.past.events o'.past.events → (a ≡ (step q c).0) × Agrees (step q c).1 m' o'
 call_answers {P = P} {K = K} fits queue c m o a m' o' agrees draft met tried h =
     subst (λ (z : QueueState P). (a ≡ (step z c).0) × Agrees (step z c).1 m' o') (sym agrees.0) (tried_call fits m o queue.places agrees.1 draft met c a m' o' tried h)
+
+-- and a meeting leaves them so
+pub meeting_agrees : {P K : Type 0} (q : QueueState P) (m : Mutates P K) (o : Observes P K) (m' : Mutates P K) (o' : Observes P K) (c d : ℕ) → Agrees q m o
+    → m' ≡ record m { past = record m.past { events = m.past.events ++ mutator.Learn d ∷ [] } } → o' ≡ record o { past = record o.past { events = o.past.events ++ observer.Learn c ∷ [] } } → Agrees q m' o'
+meeting_agrees {P = P} {K = K} queue m o m' o' c d agrees em eo = subst (λ (t : Mutates P K × Observes P K). Agrees queue t.0 t.1) (λ i. (sym em i, sym eo i)) (agrees.0, meets m o queue.places agrees.1 c d)
+
+pub order_learns : {P K : Type 0} (fits : K → ℕ → P → Type 0) (o : Observes P K) (o' : Observes P K) (es : List (ObserverEvent P)) → InOrder fits o → o' ≡ record o { past = record o.past { events = es } } → InOrder fits o'
+order_learns {P = P} {K = K} fits o o' es r e = subst (λ (z : Observes P K). InOrder fits z) (sym e) record { state = r.state; whole = r.whole; held = r.held; fit = r.fit }

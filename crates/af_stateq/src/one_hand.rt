@@ -103,3 +103,68 @@ fn try_call<P: Drop, N: Fits<P>, L: Ledger>(
         QueueAnswer::NotAllowed { call }
     }
 }
+
+/// Makes a call where it is allowed, and meets.
+fn answer_one<P: Drop, N: Fits<P>, L: Ledger>(
+    queue: &Queue<P, N>,
+    mutator: &mut Mutator<P, N>,
+    observer: &mut Observer<P, N>,
+    call: QueueCall<P>,
+    steps: &mut Steps<L>,
+) -> QueueAnswer<P>
+    requires together { (mutator.old.past.queue ≡ queue.now) × (observer.old.past.queue ≡ queue.now) }
+    requires order { InOrder N.fits observer.old }
+    requires fits { CallFits N.fits mutator.old.past.key call }
+    requires met { HaveMet mutator.old.past observer.old.past }
+    ensures answer { (q : QueueState P) → Agrees q mutator.old observer.old → (result ≡ (step q call).0) × Agrees (step q call).1 mutator.new observer.new }
+    ensures met { HaveMet mutator.new.past observer.new.past }
+    ensures order { InOrder N.fits observer.new }
+    ensures same { SameEnds mutator.old observer.old mutator.new observer.new }
+{
+    let answer = try_call(queue, mutator, observer, call, steps);
+    meet(queue, mutator, observer, steps);
+    answer
+}
+
+/// Makes a list of calls with both ends, each where it is allowed, and meets before the first and after each. So each look sees the last push, and each look at the acknowledgement the last one: the answers are those of the plain queue that the ends are, and after the calls they are the plain queue that these leave. The one error is want of memory for the answers: then no call is made.
+pub fn answer_each<P: Drop, N: Fits<P>, L: Ledger>(
+    alloc: Global,
+    queue: &Queue<P, N>,
+    mutator: &mut Mutator<P, N>,
+    observer: &mut Observer<P, N>,
+    calls: Vec<QueueCall<P>>,
+    steps: &mut Steps<L>,
+) -> Result<Vec<QueueAnswer<P>>, Memory>
+    requires together { (mutator.old.past.queue ≡ queue.now) × (observer.old.past.queue ≡ queue.now) }
+    requires order { InOrder N.fits observer.old }
+    requires fits { All (CallFits N.fits mutator.old.past.key) calls.items }
+    ensures answers { (q : QueueState P) → Agrees q mutator.old observer.old → IfOk result (λ v. v.items ≡ answers_of q calls.items) }
+    ensures state { (q : QueueState P) → Agrees q mutator.old observer.old → OnOk result (Agrees (state_after q calls.items) mutator.new observer.new) }
+    ensures err { OnErr result ((mutator.new ≡ mutator.old) × (observer.new ≡ observer.old)) }
+    ensures order { InOrder N.fits observer.new }
+    ensures same { SameEnds mutator.old observer.old mutator.new observer.new }
+{
+    let Ok(mut answers) = Vec::with_capacity(alloc, calls.len()) else {
+        return Err(Memory);
+    };
+    meet(queue, mutator, observer, steps);
+    for call in calls {
+        answers.push_reserved(answer_one(queue, mutator, observer, call, steps));
+    }
+    Ok(answers)
+}
+
+/// What a list of calls on a new queue answers, with both ends in one hand and a meeting after each call: what the plain queue answers.
+pub fn answer_from_start<P: Drop, N: Fits<P>, L: Ledger>(
+    alloc: Global,
+    frames: u32,
+    key: N::Key,
+    calls: Vec<QueueCall<P>>,
+    steps: &mut Steps<L>,
+) -> Result<Vec<QueueAnswer<P>>, Memory>
+    requires fits { All (CallFits N.fits (Some key)) calls.items }
+    ensures { IfOk result (λ v. v.items ≡ answers_of (new_queue frames) calls.items) }
+{
+    let (line, mut mutator, mut observer) = queue::<P, N>(alloc, frames, key)?;
+    answer_each(alloc, &line, &mut mutator, &mut observer, calls, steps)
+}
