@@ -183,10 +183,12 @@ module _ {P K : Type 0} (m : Pushes P K) (o : Polls P K) (s : AreInStep m o) whe
       let e = sees_the_ack m.first o.events met.os (observer.Learn met.c ∷ []) met.ms rest met.d a items (subst (λ (ms : List (MutatorEvent P)). HasHistory m.first (ms ++ SawAck a items ∷ rest) o.events) met.mutator h) met.observer met.mutator_knows refl in
       let clear : is_clear 0 true met.ms ≡ m.clear = sym (clear_learn 0 met.d true met.ms) ∙ ap (is_clear 0 true) (sym met.mutator) ∙ s.clear in
       let number : last_number 0 met.ms ≡ m.number = sym (number_append 0 met.ms (mutator.Learn met.d ∷ []) refl) ∙ ap (last_number 0) (sym met.mutator) ∙ s.pushed in
-      let acked : a ≡ o.number = e.0 ∙ s.acked in
-      (acked, λ same. e.1
-          ∙ (λ i. if not (clear i) && (acked i == number i) then last_given [] o.events else [])
-          ∙ either m.clear (o.number == m.number))
+      let acked : a ≡ o.number = e.0 ∙ s.acked in (
+        acked,
+        λ same. e.1
+            ∙ (λ i. if not (clear i) && (acked i == number i) then last_given [] o.events else [])
+            ∙ either m.clear (o.number == m.number),
+      )
     where
       either : (b c : Bool) → (if not b && c then last_given [] o.events else []) ≡ (if b || not c then [] else last_given [] o.events)
       either true c = refl

@@ -149,8 +149,7 @@ module _ {P : Type 0} where
       let given : p.given ≡ last_given [] os = after_given (start first) es ∙ sym (given_append [] zs us rest_none) ∙ ap (last_given []) all in
       let clear : p.clear ≡ is_clear 0 true ms = after_clear (start first) es ∙ ap (is_clear 0 true) s.first ∙ clear_learn 0 c true ms in
       let pushed : p.pushed ≡ last_number 0 ms = after_pushed (start first) es ∙ ap (last_number 0) s.first ∙ number_append 0 ms (mutator.Learn c ∷ []) refl in
-      let seen : a ≡ p.acked = l.1.0 in
-      (
+      let seen : a ≡ p.acked = l.1.0 in (
         seen ∙ acked,
         l.1.1 ∙ (λ i. if not (clear i) && (sym seen i == pushed i) then given i else []),
       )

@@ -44,15 +44,18 @@ module _ {P K : Type 0} (frames : ℕ) (key : K) (m : Mutates P K) (o : Observes
   }
 
   pub new_agree : Agrees (new_queue frames) m o
-  new_agree = (λ i. record {
-    draft = sym n.begins.2 i;
-    dirty = sym n.idle.0 i;
-    editing = sym n.idle.1 i;
-    edited = sym n.idle.2 i;
-    pushed = sym n.silent.0 i;
-    last = sym n.begins.1 i;
-    number = sym p.silent.0 i;
-    current = sym p.empty.0 i;
-    previous = sym p.empty.1 i;
-    places = replicate slots Nowhere;
-  }, are_at)
+  new_agree = (
+    λ i. record {
+      draft = sym n.begins.2 i;
+      dirty = sym n.idle.0 i;
+      editing = sym n.idle.1 i;
+      edited = sym n.idle.2 i;
+      pushed = sym n.silent.0 i;
+      last = sym n.begins.1 i;
+      number = sym p.silent.0 i;
+      current = sym p.empty.0 i;
+      previous = sym p.empty.1 i;
+      places = replicate slots Nowhere;
+    },
+    are_at,
+  )

@@ -56,10 +56,10 @@ module _ {P : Type 0} (places : List (Place P)) (pending goes here comes returne
       → InPlace pl pe (at goes slot) (at here slot) (at comes slot) re → Each (slice_set places slot pl) (slice_set pending slot pe) (slice_set returned slot re)
   set_each whole wp wr each slot lt pl pe re h i li = dite (ℕ_discrete i slot)
       (λ e. subst (λ k. InPlace (place_at (slice_set places slot pl) k) (at (slice_set pending slot pe) k) (at goes k) (at here k) (at comes k) (at (slice_set returned slot re) k)) (sym e)
-          (subst (λ (t : Place P × Option P × Option P). InPlace t.0 t.1 (at goes slot) (at here slot) (at comes slot) t.2)
-              (λ j. (sym (get_or-set_same places slot pl Nowhere (omega arith)) j, sym (get_or-set_same pending slot pe None (omega arith)) j, sym (get_or-set_same returned slot re None (omega arith)) j)) h))
+      (subst (λ (t : Place P × Option P × Option P). InPlace t.0 t.1 (at goes slot) (at here slot) (at comes slot) t.2)
+      (λ j. (sym (get_or-set_same places slot pl Nowhere (omega arith)) j, sym (get_or-set_same pending slot pe None (omega arith)) j, sym (get_or-set_same returned slot re None (omega arith)) j)) h))
       (λ ne. subst (λ (t : Place P × Option P × Option P). InPlace t.0 t.1 (at goes i) (at here i) (at comes i) t.2)
-          (λ j. (sym (get_or-set_other places slot i pl Nowhere ne) j, sym (get_or-set_other pending slot i pe None ne) j, sym (get_or-set_other returned slot i re None ne) j)) (each i li))
+      (λ j. (sym (get_or-set_other places slot i pl Nowhere ne) j, sym (get_or-set_other pending slot i pe None ne) j, sym (get_or-set_other returned slot i re None ne) j)) (each i li))
 
 module _ {P K : Type 0} (m : Mutates P K) (o : Observes P K) (places : List (Place P)) (here : AreAt places m o) where
   abbrev s : AreInStep m.past o.past
@@ -237,29 +237,29 @@ module _ {P K : Type 0} (m : Mutates P K) (o : Observes P K) (places : List (Pla
         (λ i. answer.Pushed (pushing.Busy ((w.3.1 ∙ ap word f) i) (w.1 i))) older.2 refl (places, sees_older m o places here a f older.1, λ i. push_by (sym w.0 i) (sym e i))
     push_call begins (pushing.Pushed number) st st' m' w h = dite (ℕ_discrete m.past.number 0)
         (λ z.
-            let same : o.past.number ≡ m.past.number = (let l = here.in_step.level in omega arith) in
-            let e = eq-eqb o.past.number m.past.number same in
-            let clear = begins z in
-            let none : items_coming m.past o.past ≡ [] = ap (λ b. if b || not (o.past.number == m.past.number) then [] else last_given [] o.past.events) clear in
-            kept_as call.Push _ m' o (answer.Pushed (pushing.Pushed (m.past.number + 1))) (shows m) o (ap (λ k. answer.Pushed (pushing.Pushed k)) w.1) (w.2 z).0 refl (
-              moved_from Send 0 (moved_from SeeAck 0 places),
-              shows_it m o (moved_from SeeAck 0 places) (sees_nothing m o places here none) same clear,
-              λ i. push_by (sym w.0 i) (sym e i),
-            ))
+        let same : o.past.number ≡ m.past.number = (let l = here.in_step.level in omega arith) in
+        let e = eq-eqb o.past.number m.past.number same in
+        let clear = begins z in
+        let none : items_coming m.past o.past ≡ [] = ap (λ b. if b || not (o.past.number == m.past.number) then [] else last_given [] o.past.events) clear in
+        kept_as call.Push _ m' o (answer.Pushed (pushing.Pushed (m.past.number + 1))) (shows m) o (ap (λ k. answer.Pushed (pushing.Pushed k)) w.1) (w.2 z).0 refl (
+          moved_from Send 0 (moved_from SeeAck 0 places),
+          shows_it m o (moved_from SeeAck 0 places) (sees_nothing m o places here none) same clear,
+          λ i. push_by (sym w.0 i) (sym e i),
+        ))
         (λ nz.
-            let t = w.3 (omega arith) in
-            let x = t.0 in
-            let items = t.1.0 in
-            let m0 : Mutates P K = record m { past = saw m.past.number items m.past; returned = x.returned } in
-            let em : m' ≡ shows m0 = t.2 ∙ ap shows t.1.1 in
-            let f = found_it items (Push (m.past.number + 1) m.draft m.pending ∷ [])
-            (subst (λ (l : List (MutatorEvent P)). HasHistory m.past.first l o.past.events) (append_assoc m.past.events (SawAck m.past.number items ∷ []) (Push (m.past.number + 1) m.draft m.pending ∷ [])) (subst (λ (z : Mutates P K). HasOrder z.past o.past) em h)) in
-            let e = eq-eqb o.past.number m.past.number f.0 in
-            kept_as call.Push _ m' o (answer.Pushed (pushing.Pushed (m.past.number + 1))) (shows m0) o (ap (λ k. answer.Pushed (pushing.Pushed k)) w.1) em refl (
-              moved_from Send 0 (moved_from SeeAck 0 places),
-              shows_it m0 o (moved_from SeeAck 0 places) (sees_it m o places here items x.returned t.1.2 f.0 f.1) f.0 (eq-eqb (word m.past.number) (word m.past.number) refl),
-              λ i. push_by (sym w.0 i) (sym e i),
-            ))
+        let t = w.3 (omega arith) in
+        let x = t.0 in
+        let items = t.1.0 in
+        let m0 : Mutates P K = record m { past = saw m.past.number items m.past; returned = x.returned } in
+        let em : m' ≡ shows m0 = t.2 ∙ ap shows t.1.1 in
+        let f = found_it items (Push (m.past.number + 1) m.draft m.pending ∷ [])
+        (subst (λ (l : List (MutatorEvent P)). HasHistory m.past.first l o.past.events) (append_assoc m.past.events (SawAck m.past.number items ∷ []) (Push (m.past.number + 1) m.draft m.pending ∷ [])) (subst (λ (z : Mutates P K). HasOrder z.past o.past) em h)) in
+        let e = eq-eqb o.past.number m.past.number f.0 in
+        kept_as call.Push _ m' o (answer.Pushed (pushing.Pushed (m.past.number + 1))) (shows m0) o (ap (λ k. answer.Pushed (pushing.Pushed k)) w.1) em refl (
+          moved_from Send 0 (moved_from SeeAck 0 places),
+          shows_it m0 o (moved_from SeeAck 0 places) (sees_it m o places here items x.returned t.1.2 f.0 f.1) f.0 (eq-eqb (word m.past.number) (word m.past.number) refl),
+          λ i. push_by (sym w.0 i) (sym e i),
+        ))
 
     abbrev poll_by : Bool → Bool → QueueAnswer P × QueueState P
     poll_by acked none = (
@@ -317,8 +317,7 @@ module _ {P K : Type 0} (fits : K → ℕ → P → Type 0) (m : Mutates P K) (o
       → Stays (call.Attach slot mono scale track item) answer.Done record m { draft = attached slot mono scale track m.draft; edited = true; pending = slice_set m.pending slot (Some item); out = slice_set m.out slot true } o
   attach_call slot mono scale track item lt free =
       let pl = place_at places slot in
-      let nowhere : is_placed pl ≡ false = sym (out_is m o places here slot lt) ∙ free in
-      (
+      let nowhere : is_placed pl ≡ false = sym (out_is m o places here slot lt) ∙ free in (
         slice_set places slot (Pending item),
         record {
           in_step = here.in_step;
@@ -350,8 +349,7 @@ module _ {P K : Type 0} (fits : K → ℕ → P → Type 0) (m : Mutates P K) (o
   take_call slot lt =
       let pl = place_at places slot in
       let back : at m.returned slot ≡ returned_of pl = (here.each slot lt).returned in
-      let rests : is_placed (left pl) ≡ (is_out m.out slot && not (is_some (at m.returned slot))) = is_placed-left pl ∙ (λ i. sym (out_is m o places here slot lt) i && not (is_some (sym back i))) in
-      (
+      let rests : is_placed (left pl) ≡ (is_out m.out slot && not (is_some (at m.returned slot))) = is_placed-left pl ∙ (λ i. sym (out_is m o places here slot lt) i && not (is_some (sym back i))) in (
         slice_set places slot (left pl),
         record {
           in_step = here.in_step;

@@ -50,18 +50,18 @@ loop-call-preserved g c =
     let steps : into_iter_items c.loop-call.call-iterator ≡ call ∷ left = c.in-Some.ensures.steps.0 in
     let same = c.answer_one.ensures.same in (
       (λ q a.
-        let t = at.0 q a in
-        let w = c.answer_one.ensures.answer t.0 t.1 in
-        let next = (step t.0 call).1 in (
-          next,
-          w.1,
-          ap (λ (l : List (QueueAnswer g.row.P.Denot)). l ++ answers_of next left) c.push_reserved.ensures.items
-          ∙ append_assoc done (c.answer_one.result ∷ []) (answers_of next left)
-          ∙ ap (λ (x : QueueAnswer g.row.P.Denot). done ++ x ∷ answers_of next left) w.0
-          ∙ ap (λ (l : List (QueueCall g.row.P.Denot)). done ++ answers_of t.0 l) (sym steps)
-          ∙ t.2,
-          ap (λ (l : List (QueueCall g.row.P.Denot)). state_after t.0 l) (sym steps) ∙ t.3,
-        )),
+          let t = at.0 q a in
+          let w = c.answer_one.ensures.answer t.0 t.1 in
+          let next = (step t.0 call).1 in (
+            next,
+            w.1,
+            ap (λ (l : List (QueueAnswer g.row.P.Denot)). l ++ answers_of next left) c.push_reserved.ensures.items
+                ∙ append_assoc done (c.answer_one.result ∷ []) (answers_of next left)
+                ∙ ap (λ (x : QueueAnswer g.row.P.Denot). done ++ x ∷ answers_of next left) w.0
+                ∙ ap (λ (l : List (QueueCall g.row.P.Denot)). done ++ answers_of t.0 l) (sym steps)
+                ∙ t.2,
+            ap (λ (l : List (QueueCall g.row.P.Denot)). state_after t.0 l) (sym steps) ∙ t.3,
+          )),
       c.answer_one.ensures.met,
       c.answer_one.ensures.order,
       (same.0 ∙ at.3.0, same.1 ∙ at.3.1, same.2 ∙ at.3.2, same.3 ∙ at.3.3),

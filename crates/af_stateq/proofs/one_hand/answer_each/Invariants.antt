@@ -8,10 +8,10 @@ use Rattle.af_stateq.proofs.one_hand.answer_each.Given as goal
 
 abbrev pub invariant-loop-call : goal.invariant-loop-call
 invariant-loop-call g l = (
-  (q : QueueState g.row.P.Denot) → Agrees q l.fn.mutator l.fn.observer → (r : QueueState g.row.P.Denot) × Agrees r l.mutator l.observer
-      × (l.answers.items ++ answers_of r (into_iter_items l.call-iterator) ≡ answers_of q (into_iter_items l.initial.call-iterator))
-      × (state_after r (into_iter_items l.call-iterator) ≡ state_after q (into_iter_items l.initial.call-iterator))
-)
+    (q : QueueState g.row.P.Denot) → Agrees q l.fn.mutator l.fn.observer → (r : QueueState g.row.P.Denot) × Agrees r l.mutator l.observer
+    × (l.answers.items ++ answers_of r (into_iter_items l.call-iterator) ≡ answers_of q (into_iter_items l.initial.call-iterator))
+    × (state_after r (into_iter_items l.call-iterator) ≡ state_after q (into_iter_items l.initial.call-iterator))
+    )
     × HaveMet l.mutator.past l.observer.past
     × InOrder g.N.Fits.fits l.observer
     × SameEnds l.fn.mutator l.fn.observer l.mutator l.observer
