@@ -1,5 +1,5 @@
 -- What the ends' events say after each call and each meeting.
-use Rattle.std.proofs.Common.{◌≡◌, ◌≢◌, ℕ, ◌+◌, ◌%◌, ◌<◌, ◌≤◌, ◌==◌, ◌&&◌, ◌||◌, not, if◌then◌else◌, Bool, true, false, true≢false, List, [], ◌∷◌, ◌++◌, length, Option, Some, None, IfSome, refl, ap, sym, ◌∙◌, subst, arith, eq-eqb, ne_eqb, append_assoc}
+use Rattle.std.proofs.Common.{◌≡◌, ◌≢◌, ℕ, ◌+◌, ◌%◌, ◌==◌, ◌&&◌, ◌||◌, not, if◌then◌else◌, Bool, true, false, true≢false, List, [], ◌∷◌, ◌++◌, Option, Some, None, IfSome, refl, ap, sym, ◌∙◌, subst, arith, eq-eqb, ne_eqb}
 use mathlib.Core.Logic.{dite}
 use native.Mathlib.Decide.{ℕ_discrete}
 use Rattle.af_base.specs.declared.state.FastState.{FastState}
@@ -12,7 +12,7 @@ use Rattle.af_model.specs.declared.states.ObserverEvent.TheVariants as observer
 use Rattle.af_model.specs.StateQueue.{HasHistory}
 use Rattle.af_stateq.specs.Shelved.{word}
 use Rattle.af_stateq.specs.Ends.{Pushes, Polls, saw, pushes, looked, took, acknowledged}
-use Rattle.af_stateq.specs.Laws.{last_number, last_state, last_items, pushes_of, is_clear, last_acked, last_given, acks_of}
+use Rattle.af_stateq.specs.Laws.{last_number, last_state, last_items, is_clear, last_acked, last_given}
 use Rattle.af_stateq.specs.OneHand.{AreInStep, HaveMet, items_going, items_coming}
 use Rattle.af_stateq.proofs.Exact.{number_append, state_append, items_append, sees_the_last}
 use Rattle.af_stateq.proofs.ExactAck.{acked_append, given_append, clear_learn, sees_the_ack}

@@ -1,5 +1,5 @@
 -- A look at the acknowledgement of a mutator that has learnt of all that the observer did sees the last one.
-use Rattle.std.proofs.Common.{◌≡◌, ℕ, zero, suc, ◌+◌, ◌≤◌, ◌==◌, ◌&&◌, not, if◌then◌else◌, List, [], ◌∷◌, ◌++◌, length, Option, Bool, true, refl, ap, sym, ◌∙◌, subst, arith, length-append, get_or}
+use Rattle.std.proofs.Common.{◌≡◌, ℕ, ◌+◌, ◌≤◌, ◌==◌, ◌&&◌, not, if◌then◌else◌, List, [], ◌∷◌, ◌++◌, length, Option, Bool, true, refl, ap, sym, ◌∙◌, subst, arith, length-append, get_or}
 use Rattle.af_model.specs.declared.states.MutatorEvent.{MutatorEvent}
 use Rattle.af_model.specs.declared.states.MutatorEvent.TheVariants.{Push, SawAck}
 use Rattle.af_model.specs.declared.states.MutatorEvent.TheVariants as mutator
@@ -9,7 +9,7 @@ use Rattle.af_model.specs.declared.states.ObserverEvent.TheVariants as observer
 use Rattle.af_base.specs.declared.state.FastState.{FastState}
 use Rattle.af_model.specs.Order.{Event, one, two, ones, twos, Legal, after}
 use Rattle.af_model.proofs.Splits.{legal_at}
-use Rattle.af_model.specs.StateQueue.{QueuePoint, start, legal, next, HasHistory}
+use Rattle.af_model.specs.StateQueue.{QueuePoint, start, legal, next}
 use Rattle.af_stateq.specs.Laws.{last_number, is_clear, last_acked, last_given, acks_of, SeesTheAck}
 use Rattle.af_stateq.proofs.Exact.{after_pushed, number_append}
 

@@ -7,7 +7,7 @@ use Rattle.af_model.specs.declared.plain_calls.Move.{Move}
 use Rattle.af_model.specs.declared.plain_calls.Move.TheVariants.{Send, SeeAck, Take}
 use Rattle.af_model.specs.StateQueue.{carries}
 use Rattle.af_model.specs.PlainQueue.{is_placed, returned_of, held_of, let_go, left, moved}
-use Rattle.af_stateq.specs.OneHand.{pending_of, going_of, coming_of, InPlace}
+use Rattle.af_stateq.specs.OneHand.{going_of, InPlace}
 
 some_none : {P : Type 0} (x : Option P) (p : P) → x ≡ Some p → x ≡ None → ⊥
 some_none x p s n = true≢false (sym (ap is_some s) ∙ ap is_some n)

@@ -1,11 +1,11 @@
 -- The two ends of a new queue are the new plain queue.
-use Rattle.std.proofs.Common.{◌≡◌, ℕ, ◌<◌, ◌==◌, ◌||◌, not, if◌then◌else◌, Bool, false, true, List, [], map, Option, None, replicate, refl, ap, sym, ◌∙◌, subst, arith}
+use Rattle.std.proofs.Common.{◌≡◌, ℕ, ◌<◌, ◌==◌, ◌||◌, not, if◌then◌else◌, true, List, [], Option, None, replicate, ap, sym, ◌∙◌, subst, arith}
 use Rattle.std.proofs.lemmas.List.{get_or-replicate, length-replicate}
 use Rattle.af_model.specs.declared.plain_calls.Place.{Place}
 use Rattle.af_model.specs.declared.plain_calls.Place.TheVariants.{Nowhere}
 use Rattle.af_model.specs.StateQueue.{slots}
 use Rattle.af_model.specs.Draft.{initial}
-use Rattle.af_model.specs.PlainQueue.{new_queue, place_at, is_placed}
+use Rattle.af_model.specs.PlainQueue.{new_queue}
 use Rattle.af_stateq.specs.Mutates.{Mutates, IsNewMutator, at}
 use Rattle.af_stateq.specs.Observes.{Observes, IsNewObserver}
 use Rattle.af_stateq.specs.Laws.{last_number, last_state, is_clear, last_acked, last_given}

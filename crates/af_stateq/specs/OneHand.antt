@@ -1,7 +1,6 @@
 -- Both ends of a queue in one hand, against the plain queue.
-use Rattle.std.specs.Prelude.{◌≡◌, ◌≢◌, ℕ, ◌+◌, ◌<◌, ◌≤◌, ◌==◌, ◌&&◌, ◌||◌, not, if◌then◌else◌, Bool, true, false, List, [], ◌∷◌, ◌++◌, length, map, Option, Some, None, is_some, slice_set}
+use Rattle.std.specs.Prelude.{◌≡◌, ℕ, ◌+◌, ◌<◌, ◌≤◌, ◌==◌, ◌&&◌, ◌||◌, not, if◌then◌else◌, Bool, true, false, List, [], ◌∷◌, ◌++◌, length, map, Option, Some, None, is_some, slice_set}
 use Rattle.af_base.specs.declared.state.Push.{Push}
-use Rattle.af_base.specs.declared.state.FastState.{FastState}
 use Rattle.af_base.specs.Command.{code_of}
 use Rattle.af_model.specs.declared.states.MutatorEvent.{MutatorEvent}
 use Rattle.af_model.specs.declared.states.MutatorEvent.TheVariants as mutator
@@ -9,7 +8,7 @@ use Rattle.af_model.specs.declared.states.ObserverEvent.{ObserverEvent}
 use Rattle.af_model.specs.declared.states.ObserverEvent.TheVariants as observer
 use Rattle.af_model.specs.declared.plain_calls.Poll.{Poll}
 use Rattle.af_model.specs.declared.plain_calls.Place.{Place}
-use Rattle.af_model.specs.declared.plain_calls.Place.TheVariants.{Pending, Going, Held, Coming, Returned}
+use Rattle.af_model.specs.declared.plain_calls.Place.TheVariants.{Pending, Going, Coming}
 use Rattle.af_model.specs.declared.plain_calls.Readiness.{Readiness}
 use Rattle.af_model.specs.declared.plain_calls.QueueCall.{QueueCall}
 use Rattle.af_model.specs.declared.plain_calls.QueueCall.TheVariants as call

@@ -1,4 +1,4 @@
-use Rattle.std.proofs.Common.{◌≡◌, ◌<◌, suc, List, [], ◌∷◌, ◌++◌, length, refl, sym, ap, ◌∙◌, subst, append_assoc, append-nil, arith, rules, All}
+use Rattle.std.proofs.Common.{◌≡◌, suc, List, [], ◌∷◌, ◌++◌, length, refl, sym, ap, ◌∙◌, subst, append_assoc, append-nil, arith, rules, All}
 use Rattle.std.specs.Vec.Iter.{into_iter_items}
 use Rattle.af_model.specs.declared.plain_calls.QueueCall.{QueueCall}
 use Rattle.af_model.specs.declared.plain_calls.QueueAnswer.{QueueAnswer}
