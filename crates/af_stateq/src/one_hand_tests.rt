@@ -59,9 +59,9 @@ fn calls_of(alloc: Global, list: &[Told]) -> Result<Vec<QueueCall<u32>>, Memory>
 {
     let mut calls = Vec::new(alloc);
     for told in list {
-        if calls.push(call_of(*told)).is_err() {
+        let Ok(()) = calls.push(call_of(*told)) else {
             return Err(Memory);
-        }
+        };
     }
     Ok(calls)
 }
