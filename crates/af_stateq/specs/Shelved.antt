@@ -17,15 +17,8 @@ use Rattle.af_model.specs.declared.states.ObserverEvent.TheVariants.{SawNext, Ac
 use Rattle.af_model.specs.declared.states.ObserverEvent.TheVariants as observer
 use Rattle.af_model.specs.Order.{after}
 use Rattle.af_model.specs.Held.{Held}
+pub use Rattle.af_model.specs.StateQueue.{cell, word}
 use Rattle.af_model.specs.StateQueue.{slots, AreOf, AllFit, FitAt, QueuePoint, start, legal, next, HasHistory}
-
--- the cell of the state k, also of the state 0 and, for k + 3, of the state k - 1
-abbrev pub cell : ℕ → ℕ
-cell k = (k + 3) % 4
-
--- the word of the state k
-abbrev pub word : ℕ → ℕ
-word k = if k == 0 then 0 else cell k + 1
 
 -- how many slots of the table are cells. After them comes a shelf for each slot of a state
 abbrev pub cells : ℕ
