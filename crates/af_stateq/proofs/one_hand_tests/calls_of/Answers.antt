@@ -1,4 +1,4 @@
-use Rattle.std.proofs.Common.{◌≡◌, ℕ, All, List, Option, sym, subst}
+use Rattle.std.proofs.Common.{◌≡◌, ℕ, All, List, sym, subst}
 use Rattle.std.proofs.lemmas.List.Elements.{All-push}
 use Rattle.af_model.specs.declared.plain_calls.QueueCall.{QueueCall}
 use Rattle.af_stateq.specs.OneHand.{CallFits}
