@@ -1,0 +1,4 @@
+mod Played
+mod HeldFacts
+mod SlotSteps
+mod SlotsDone
