@@ -1,5 +1,5 @@
 -- How the slots of a mix are played, one after the other.
-use Rattle.std.proofs.Common.{◌≡◌, ℕ, zero, suc, ◌+◌, ◌≤◌, ◌<◌, ◌==◌, ◌⊎◌, inl, inr, Bool, true, false, true≢false, ne_eqb, if◌then◌else◌, List, [], ◌∷◌, ◌++◌, length, length-set, map, Option, Some, None, slice_set, slice_index_or, refl, sym, ap, subst, ◌∙◌, append_assoc, arith}
+use Rattle.std.proofs.Common.{◌≡◌, ℕ, zero, suc, ◌+◌, ◌≤◌, ◌<◌, ◌==◌, ◌⊎◌, inl, inr, Bool, true, false, true≢false, ne_eqb, if◌then◌else◌, List, ◌++◌, length, length-set, map, Option, Some, None, slice_set, refl, sym, ap, subst, ◌∙◌, append_assoc, arith}
 use Rattle.std.proofs.lemmas.Bool.{cases_eq}
 use Rattle.std.proofs.lemmas.List.{get_or-set_same, get_or-set_other, length-append}
 use Rattle.af_base.specs.declared.frame.Frame.{Frame}
@@ -7,7 +7,7 @@ use Rattle.af_base.specs.declared.log.CycleEntry.{CycleEntry}
 use Rattle.af_base.specs.declared.log.SlotEntry.{SlotEntry}
 use Rattle.af_base.specs.declared.seen.Seen.{Seen}
 use Rattle.af_base.specs.declared.state.FastState.{FastState}
-use Rattle.af_base.specs.Log.{slots, absent, entry_slot, count_seen, frames_taken}
+use Rattle.af_base.specs.Log.{slots, absent, entry_slot, count_seen}
 use Rattle.af_base.specs.Sample.{packed_word}
 use Rattle.af_model.specs.Cycles.{place_of, taken_before}
 use Rattle.af_model.specs.StateQueue.{carries}
@@ -28,9 +28,9 @@ up_to P i before here j lt = elim (below i j lt) [ inl less ↦ before j less | 
 pub place_within : (n : ℕ) (answer : Seen) → place_of n answer + count_seen answer ≤ n + count_seen answer
 place_within n answer = by_count (count_seen answer)
   where
-  by_count : (count : ℕ) → (if count == 0 then 0 else n) + count ≤ n + count
-  by_count zero = omega arith
-  by_count (suc k) = elim (cases_eq (suc k) 0) [ inl e ↦ absurd (omega (arith, e)) | inr other ↦ subst (λ (b : Bool). (if b then 0 else n) + suc k ≤ n + suc k) (sym (ne_eqb (suc k) 0 other)) (omega arith) ]
+    by_count : (count : ℕ) → (if count == 0 then 0 else n) + count ≤ n + count
+    by_count zero = omega arith
+    by_count (suc k) = elim (cases_eq (suc k) 0) [ inl e ↦ absurd (omega (arith, e)) | inr other ↦ subst (λ (b : Bool). (if b then 0 else n) + suc k ≤ n + suc k) (sym (ne_eqb (suc k) 0 other)) (omega arith) ]
 
 module _ (asked : ℕ) (x : FastState) (place : ℕ) (o : Observes ServerState StreamNames) (first : List Frame) (entry : CycleEntry) where
   abbrev Played : Observes ServerState StreamNames → List Frame → CycleEntry → ℕ → Type 0
@@ -141,10 +141,22 @@ module _ (asked : ℕ) (x : FastState) (place : ℕ) (o : Observes ServerState S
         | inr same ↦ absurd (true≢false (sym on ∙ ap (carries x) (sym same) ∙ no))
       ]);
       rest = (λ j le less.
-        let other : j ≡ i → ⊥ = (λ same. omega (arith, same)) in
-        let old = p.rest j (omega arith) less in
-        (item_there j other ∙ old.0, slot_there j other ∙ old.1));
+          let other : j ≡ i → ⊥ = (λ same. omega (arith, same)) in
+          let old = p.rest j (omega arith) less in
+          (item_there j other ∙ old.0, slot_there j other ∙ old.1));
     }
 
     pub play_step : Played o'' frames'' filled (suc i)
     play_step = subst (λ (y : Observes ServerState StreamNames × List Frame). Played y.0 y.1 filled (suc i)) (λ k. (sym q.plays.is k, sym q.grown k)) step
+
+  -- any slot, by what its call says
+  pub slot_step : (o' o'' : Observes ServerState StreamNames) (frames frames'' : List Frame) (entry' entry'' : CycleEntry) (i : ℕ) → Played o' frames entry' i → 0 < i → i < slots → length o'.items ≡ slots
+      → (carries x i ≡ true → (e : SlotEntry) × LogsSlot asked i o' o'' frames frames'' e × (entry'' ≡ with_slot entry' i e))
+      → (carries x i ≡ false → (o'' ≡ o') × (frames'' ≡ frames) × (entry'' ≡ entry'))
+      → (b : Bool) → carries x i ≡ b → Played o'' frames'' entry'' (suc i)
+  slot_step o' o'' frames frames'' entry' entry'' i p low lt long plays rests true on =
+      let found = plays on in
+      subst (λ (y : CycleEntry). Played o'' frames'' y (suc i)) (sym found.2) (play_step o' o'' frames frames'' entry' i found.0 p low lt on long found.1)
+  slot_step o' o'' frames frames'' entry' entry'' i p low lt long plays rests false off =
+      let same = rests off in
+      subst (λ (y : Observes ServerState StreamNames × List Frame × CycleEntry). Played y.0 y.1 y.2 (suc i)) (λ k. (sym same.0 k, sym same.1 k, sym same.2 k)) (rest_step o' frames entry' i p low lt off)

@@ -1,5 +1,5 @@
 -- What contracts see of a fast mixer, and when it is in order.
-use Rattle.std.specs.Prelude.{◌≡◌, ℕ, ◌+◌, ◌-◌, ◌*◌, ◌^◌, ◌≤◌, ◌<◌, Bool, true, false, List, [], length, Option, Some, None}
+use Rattle.std.specs.Prelude.{◌≡◌, ℕ, ◌+◌, ◌-◌, ◌*◌, ◌^◌, ◌≤◌, ◌<◌, Bool, false, List, length, Option}
 use Rattle.af_base.specs.declared.report.SlotReport.{SlotReport}
 use Rattle.af_base.specs.declared.state.FastState.{FastState}
 use Rattle.af_base.specs.Log.{slots, Logged}

@@ -1,4 +1,4 @@
-use Rattle.std.proofs.Common.{rules, length, take, ◌∙◌, ap, is_some}
+use Rattle.std.proofs.Common.{rules, length, take}
 use Rattle.af_base.specs.Log.{count_seen}
 use Rattle.af_fast.proofs.Played.{played_by}
 use Rattle.af_fast.proofs.slot.play.Goals as goal

@@ -1,6 +1,4 @@
-use Rattle.std.proofs.Common.{◌≡◌, ◌+◌, ◌-◌, ◌*◌, ◌≤◌, ◌<◌, length}
-use Rattle.af_base.specs.Log.{slots}
-use Rattle.af_link.specs.PipeEnds.{out_made}
+use Rattle.std.proofs.Common.{◌≡◌, ◌+◌, ◌*◌, ◌≤◌, ◌<◌, length}
 use Rattle.af_stateq.specs.Observes.{InOrder}
 use Rattle.af_fast.specs.Held.{stream_fits}
 use Rattle.af_fast.specs.Slots.{PlayedTo}
