@@ -1,10 +1,10 @@
 -- What contracts see of a fast mixer, and when it is in order.
-use Rattle.std.specs.Prelude.{◌≡◌, ℕ, ◌+◌, ◌-◌, ◌*◌, ◌^◌, ◌≤◌, ◌<◌, Bool, false, List, length, Option}
+use Rattle.std.specs.Prelude.{◌≡◌, ℕ, ◌+◌, ◌-◌, ◌*◌, ◌^◌, ◌≤◌, ◌<◌, Bool, false, List, [], length, replicate, Option, None}
 use Rattle.af_base.specs.declared.report.SlotReport.{SlotReport}
 use Rattle.af_base.specs.declared.state.FastState.{FastState}
 use Rattle.af_base.specs.Log.{slots, Logged}
 use Rattle.af_model.specs.Cycles.{state_of, last_used, has_exit, cold_done, UseUpTo}
-use Rattle.af_model.specs.Reports.{no_report, report_at}
+use Rattle.af_model.specs.Reports.{no_slot, no_report, report_at}
 use Rattle.af_latest.specs.Laws.{last_of}
 use Rattle.af_server.specs.Order.{ServerState}
 use Rattle.af_stateq.specs.Laws.{polled_states}
@@ -40,7 +40,7 @@ pub record HasRoom (m : MixerState) : Type 0 where
   pub frames : (1 ≤ m.frames) × (m.frames ≤ 2 ^ 21)
   pub cycles : m.cycles ≤ 100000
   pub entries : (length m.log.entries ≤ m.cycles) × (m.log.room ≡ m.cycles)
-  pub rest : length m.log.frames + slots * m.frames * (m.cycles - length m.log.entries) ≤ m.log.frame_room
+  pub rest : length m.log.frames + slots * ((m.cycles - length m.log.entries) * m.frames) ≤ m.log.frame_room
 
 -- the state adopted is that of the last entry or the next one, and the latter only where a mix is still to use it
 pub record Follows (m : MixerState) : Type 0 where
@@ -72,3 +72,25 @@ pub record IsInOrder (m : MixerState) : Type 0 where
 -- its ends were made together with these links
 abbrev pub IsLinked : Links → MixerState → Type 0
 IsLinked links m = AreLinked links m.observer.past.key m.observer.past.queue m.writer.cell (out_made m.pipe)
+
+-- nothing was done on the three ends
+pub record IsUnused (observer : Observes ServerState StreamNames) (writer : WriterSide) (pipe : OutSide) : Type 0 where
+  pub observed : (observer.past.number ≡ 0) × (observer.past.events ≡ []) × (observer.current ≡ None)
+  pub stored : writer.events ≡ []
+  pub taken : pipe.pass.part.events ≡ []
+
+-- a new mixer over its ends
+abbrev pub made_of : Observes ServerState StreamNames → WriterSide → OutSide → ℕ → ℕ → MixerState
+made_of observer writer pipe cycles frames = record {
+  observer = observer;
+  writer = writer;
+  pipe = pipe;
+  log = record { entries = []; frames = []; room = cycles; frame_room = slots * (cycles * frames) };
+  frames = frames;
+  cycles = cycles;
+  adopted = false;
+  exited = false;
+  cold = 0;
+  last = None;
+  reports = replicate slots no_slot;
+}

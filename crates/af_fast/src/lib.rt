@@ -2,6 +2,10 @@
 #![tactic(auto)]
 
 mod held;
+mod mixer;
+mod report;
 mod slot;
 mod slots;
 mod submix;
+
+pub use mixer::FastMixer;

@@ -1,0 +1,15 @@
+-- What a mixer ends as, once a part that it lent comes back.
+use Rattle.std.specs.Borrow.{Lends, Fml, MutBor}
+use Rattle.af_server.specs.Order.{ServerState}
+use Rattle.af_stateq.specs.Observes.{Observes}
+use Rattle.af_link.specs.declared.names.StreamNames.{StreamNames}
+use Rattle.af_server.specs.contracts.server.Server.{the_row as server_row}
+use Rattle.af_link.specs.contracts.names.StreamNames.{the_row as names_row}
+use Rattle.af_stateq.specs.contracts.observer.Observer.{the_row as observer_row}
+use Rattle.af_fast.specs.contracts.mixer.FastMixer.{the_row}
+use Rattle.af_fast.specs.Held.{stream_fits}
+use Rattle.af_fast.specs.Mixer.{MixerState}
+
+-- its observer is the last value written through r
+abbrev pub lends_observer : MutBor MixerState → MutBor (Observes ServerState StreamNames) → Fml
+lends_observer m r = Lends the_row (observer_row server_row names_row names_row (record { fits = stream_fits })) m r (λ o. record m.now { observer = o })
