@@ -2,3 +2,4 @@ mod Played
 mod HeldFacts
 mod SlotSteps
 mod SlotsDone
+mod Parts

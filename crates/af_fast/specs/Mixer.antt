@@ -52,12 +52,16 @@ pub record Follows (m : MixerState) : Type 0 where
   pub still : m.adopted ≡ false → m.observer.past.number ≡ last_used m.log.entries
   pub few : last_used m.log.entries ≤ length m.log.entries
 
+-- the counts of the reports are below a bound
+abbrev pub AreFew : ℕ → List SlotReport → Type 0
+AreFew bound reports = (i : ℕ) → i < slots → ((report_at reports i).fulls < bound) × ((report_at reports i).partials < bound) × ((report_at reports i).empties < bound)
+
 -- the last report stored is that of the last entry, and its counts are those of entries
-pub record Reports (m : MixerState) : Type 0 where
+pub record Reported (m : MixerState) : Type 0 where
   pub number : (last_of no_report m.writer.events).cycle ≡ length m.log.entries
   pub slots_are : (last_of no_report m.writer.events).slots ≡ m.reports
   pub whole : length m.reports ≡ slots
-  pub few : (i : ℕ) → i < slots → ((report_at m.reports i).fulls ≤ length m.log.entries) × ((report_at m.reports i).partials ≤ length m.log.entries) × ((report_at m.reports i).empties ≤ length m.log.entries)
+  pub few : AreFew (length m.log.entries + 1) m.reports
 
 -- the kept values are those that the lists of its parts give, and each item that the observer holds fits the track of its slot
 pub record IsInOrder (m : MixerState) : Type 0 where
@@ -67,7 +71,7 @@ pub record IsInOrder (m : MixerState) : Type 0 where
   pub exited : m.exited ≡ has_exit m.log.entries
   pub cold : m.cold ≡ cold_done (adopted_states m) m.log.entries
   pub last : m.last ≡ state_of (adopted_states m) (last_used m.log.entries)
-  pub reports : Reports m
+  pub reports : Reported m
 
 -- its ends were made together with these links
 abbrev pub IsLinked : Links → MixerState → Type 0

@@ -1,21 +1,23 @@
 -- What the calls of a cycle do.
-use Rattle.std.specs.Prelude.{◌≡◌, ℕ, ◌+◌, ◌<◌, ◌==◌, ◌||◌, ◌++◌, ◌∷◌, [], Bool, true, false, List, length, map, Some}
+use Rattle.std.specs.Prelude.{◌≡◌, ℕ, ◌+◌, ◌<◌, ◌==◌, ◌||◌, ◌++◌, ◌∷◌, [], Bool, true, false, if◌then◌else◌, List, length, map, Option, Some}
 use Rattle.af_base.specs.declared.frame.Frame.{Frame}
 use Rattle.af_base.specs.declared.log.Cycle.{Cycle}
 use Rattle.af_base.specs.declared.log.Cycle.TheVariants as cycle
 use Rattle.af_base.specs.declared.log.CycleEntry.{CycleEntry}
 use Rattle.af_base.specs.declared.report.Report.{Report}
+use Rattle.af_base.specs.declared.report.SlotReport.{SlotReport}
 use Rattle.af_base.specs.declared.state.FastState.{FastState}
 use Rattle.af_base.specs.Log.{slots, entry_slot, frames_taken, takes_of}
 use Rattle.af_base.specs.Mix.{mix}
 use Rattle.af_base.specs.Sample.{packed_word}
 use Rattle.af_model.specs.declared.newest.WriterEvent.TheVariants.{Store}
-use Rattle.af_model.specs.Cycles.{LegalCycle, is_mixed, taken_before}
-use Rattle.af_model.specs.Reports.{IsNextReport}
+use Rattle.af_model.specs.Cycles.{LegalCycle, is_mixed, is_exit, is_cold, cold_of, taken_before}
+use Rattle.af_model.specs.Reports.{IsNextReport, report_at, slot_report}
 use Rattle.af_model.specs.StateQueue.{carries}
 use Rattle.af_model.specs.declared.plain_calls.Poll.{Poll}
 use Rattle.af_stateq.specs.Answers.{WasPolled}
 use Rattle.af_stateq.specs.Mutates.{at}
+use Rattle.af_link.specs.Reports.{WriterSide}
 use Rattle.af_fast.specs.Known.{known}
 use Rattle.af_fast.specs.Mixer.{MixerState, adopted_states}
 use Rattle.af_fast.specs.Slots.{SlotPlayed, found}
@@ -56,3 +58,23 @@ pub record MixesOnce (m : MixerState) (out : List Frame) (answer : Cycle) (m' : 
   pub exited : m.exited ≡ true → (answer ≡ cycle.Exit) × (m' ≡ record m { adopted = false }) × (out' ≡ out)
   pub spent : m.exited ≡ false → length m.log.entries ≡ m.cycles → (answer ≡ cycle.Spent m.cycles) × (m' ≡ record m { adopted = false }) × (out' ≡ out)
   pub adds : is_over m ≡ false → (entry : CycleEntry) × (answer ≡ entry.cycle) × AddsCycle m m' entry × Writes m' entry out out'
+
+-- a mixer with one entry more, under a state
+abbrev pub notes : Option FastState → CycleEntry → WriterSide → List SlotReport → MixerState → MixerState
+notes state entry writer reports m = record m {
+  writer = writer;
+  log = record m.log { entries = m.log.entries ++ entry ∷ [] };
+  exited = is_exit entry.cycle;
+  cold = if is_cold entry.cycle then cold_of state else m.cold;
+  last = state;
+  reports = reports;
+}
+
+-- the report after an entry under a state is stored
+pub record Reports (state : Option FastState) (entry : CycleEntry) (m m' : MixerState) : Type 0 where
+  pub report : Report
+  pub stored : m'.writer.events ≡ m.writer.events ++ Store report ∷ []
+  pub number : report.cycle ≡ length m.log.entries + 1
+  pub slots_are : report.slots ≡ m'.reports
+  pub whole : length m'.reports ≡ slots
+  pub each : (i : ℕ) → i < slots → report_at m'.reports i ≡ slot_report m.frames state m.last entry (known m.observer i) i (report_at m.reports i)
