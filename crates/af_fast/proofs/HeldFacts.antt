@@ -13,7 +13,7 @@ use Rattle.af_link.specs.Names.{IsStreamOf}
 use Rattle.af_link.specs.declared.names.StreamNames.{StreamNames}
 use Rattle.af_fast.specs.Held.{stream_fits, NamesBlocks}
 
-some_same : {X : Type 0} (x y : X) → Some x ≡ Some y → x ≡ y
+pub some_same : {X : Type 0} (x y : X) → Some x ≡ Some y → x ≡ y
 some_same x y e = ap (λ o. unwrap_or o x) e
 
 module _ (o : Observes ServerState StreamNames) (blocks : List Made) (slot track : ℕ) (order : InOrder stream_fits o) (names : NamesBlocks o.past.key blocks) (inside : slot < slots)

@@ -3,3 +3,6 @@ mod HeldFacts
 mod SlotSteps
 mod SlotsDone
 mod Parts
+mod Adopted
+mod Noted
+mod Added

@@ -1,5 +1,5 @@
 -- What contracts see of a fast mixer, and when it is in order.
-use Rattle.std.specs.Prelude.{◌≡◌, ℕ, ◌+◌, ◌-◌, ◌*◌, ◌^◌, ◌≤◌, ◌<◌, Bool, false, List, [], length, replicate, Option, None}
+use Rattle.std.specs.Prelude.{◌≡◌, ℕ, ◌+◌, ◌-◌, ◌*◌, ◌^◌, ◌≤◌, ◌<◌, ◌==◌, ◌||◌, Bool, true, false, List, [], length, replicate, Option, None}
 use Rattle.af_base.specs.declared.report.SlotReport.{SlotReport}
 use Rattle.af_base.specs.declared.state.FastState.{FastState}
 use Rattle.af_base.specs.Log.{slots, Logged}
@@ -35,6 +35,10 @@ pub record MixerState : Type 0 where
 abbrev pub adopted_states : MixerState → List FastState
 adopted_states m = polled_states no_state m.observer.past.events
 
+-- Exit was answered, or the log is full
+abbrev pub is_over : MixerState → Bool
+is_over m = m.exited || (length m.log.entries == m.cycles)
+
 -- the sizes that it was made with, and room for all entries and frames that are still to come
 pub record HasRoom (m : MixerState) : Type 0 where
   pub frames : (1 ≤ m.frames) × (m.frames ≤ 2 ^ 21)
@@ -50,6 +54,7 @@ pub record Follows (m : MixerState) : Type 0 where
   pub low : last_used m.log.entries ≤ m.observer.past.number
   pub high : m.observer.past.number ≤ last_used m.log.entries + 1
   pub still : m.adopted ≡ false → m.observer.past.number ≡ last_used m.log.entries
+  pub over : is_over m ≡ true → m.observer.past.number ≡ last_used m.log.entries
   pub few : last_used m.log.entries ≤ length m.log.entries
 
 -- the counts of the reports are below a bound

@@ -19,12 +19,8 @@ use Rattle.af_stateq.specs.Answers.{WasPolled}
 use Rattle.af_stateq.specs.Mutates.{at}
 use Rattle.af_link.specs.Reports.{WriterSide}
 use Rattle.af_fast.specs.Known.{known}
-use Rattle.af_fast.specs.Mixer.{MixerState, adopted_states}
+use Rattle.af_fast.specs.Mixer.{MixerState, adopted_states, is_over}
 use Rattle.af_fast.specs.Slots.{SlotPlayed, found}
-
--- Exit was answered, or the log is full
-abbrev pub is_over : MixerState → Bool
-is_over m = m.exited || (length m.log.entries == m.cycles)
 
 -- a state is polled for, unless it is over
 pub record Adopts (m m' : MixerState) : Type 0 where
