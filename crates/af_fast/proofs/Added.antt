@@ -1,5 +1,5 @@
 -- The entry that a cycle adds is a legal one, and what it says was done.
-use Rattle.std.proofs.Common.{◌≡◌, ℕ, ◌+◌, ◌<◌, ◌≤◌, ◌==◌, ◌||◌, eq-eqb, Bool, true, false, true≢false, List, [], ◌∷◌, ◌++◌, length, Option, Some, None, unwrap_or, refl, sym, ap, subst, ◌∙◌, append-nil, arith}
+use Rattle.std.proofs.Common.{◌≡◌, ℕ, ◌+◌, ◌^◌, ◌<◌, ◌≤◌, ◌==◌, ◌||◌, eq-eqb, ne_eqb, MatchOption, option_copied, Bor, Bool, true, false, true≢false, List, [], ◌∷◌, ◌++◌, length, Option, Some, None, refl, sym, ap, subst, ◌∙◌, append-nil, arith}
 use Rattle.std.proofs.Math.Nat.{add-zero}
 use Rattle.af_base.specs.declared.frame.Frame.{Frame}
 use Rattle.af_base.specs.declared.log.Cycle.{Cycle}
@@ -8,15 +8,16 @@ use Rattle.af_base.specs.declared.log.CycleEntry.{CycleEntry}
 use Rattle.af_base.specs.declared.report.SlotReport.{SlotReport}
 use Rattle.af_base.specs.declared.state.FastState.{FastState}
 use Rattle.af_base.specs.Log.{slots}
-use Rattle.af_model.specs.declared.newest.WriterEvent.{WriterEvent}
 use Rattle.af_model.specs.declared.newest.WriterEvent.TheVariants.{Store}
-use Rattle.af_model.specs.Cycles.{LegalCycle, Mixes, state_of, last_used, cycle_of, is_mixed, still_entry, taken_before}
+use Rattle.af_model.specs.Cycles.{Mixes, state_of, cycle_of, is_mixed, still_entry, taken_before}
 use Rattle.af_model.specs.Reports.{IsNextReport, report_at, slot_report}
-use Rattle.af_stateq.specs.Observes.{InOrder}
+use Rattle.af_server.specs.Order.{ServerState}
+use Rattle.af_stateq.specs.Observes.{Observes, InOrder}
+use Rattle.af_link.specs.declared.names.StreamNames.{StreamNames}
 use Rattle.af_fast.specs.Held.{stream_fits}
 use Rattle.af_fast.specs.Known.{known}
-use Rattle.af_fast.specs.Mixer.{MixerState, IsInOrder, adopted_states, is_over}
-use Rattle.af_fast.specs.Mixing.{Reports, notes, AddsCycle, Takes}
+use Rattle.af_fast.specs.Mixer.{MixerState, IsInOrder, AreFew, adopted_states, is_over}
+use Rattle.af_fast.specs.Mixing.{Reports, notes, AddsCycle, Takes, Writes, MixesOnce}
 use Rattle.af_fast.specs.Slots.{PlaysSlots, found}
 use Rattle.af_fast.proofs.HeldFacts.{some_same}
 use Rattle.af_fast.proofs.SlotsDone.{taken_few}
@@ -129,8 +130,7 @@ mix_step m n l entry x answer k goes is answer_is mixed same order log p noted r
     let played : IsPlayed m n = record { same = same; observer = p.same; order = order; entries = log; few = omega (arith, p.total, taken_few m.frames entry slots p.within) } in
     let noted_so = subst (λ (y : Option FastState). l ≡ notes y entry l.writer l.reports n) (sym is) noted in
     let reports = subst (λ (y : Option FastState). Reports y entry n l) (sym is) r in
-    let cycle_is : answer ≡ entry.cycle = mixed_is answer mixed ∙ sym (mixed_is entry.cycle p.mixed) in
-    (
+    let cycle_is : answer ≡ entry.cycle = mixed_is answer mixed ∙ sym (mixed_is entry.cycle p.mixed) in (
       noted_order m n l entry k open_log runs played p.state noted_so reports,
       cycle_is,
       adds_mix m n l entry k open_log runs played p.state noted_so reports (sym cycle_is ∙ answer_is ∙ ap (cycle_of m.cold) (sym is)) x is p,
@@ -147,9 +147,40 @@ still_step m l entry answer k goes answer_is dry is noted r =
     let played : IsPlayed m n = record { same = refl; observer = refl; order = k.observer; entries = (refl, refl, omega arith); few = omega arith } in
     let state = ap (λ (e : CycleEntry). e.state) is in
     let cycle_is : answer ≡ entry.cycle = sym (ap (λ (e : CycleEntry). e.cycle) is) in
-    let still : entry ≡ still_entry entry.state entry.cycle = is ∙ ap (λ (y : ℕ × Cycle). still_entry y.0 y.1) (λ i. (sym state i, cycle_is i)) in
-    (
+    let still : entry ≡ still_entry entry.state entry.cycle = is ∙ ap (λ (y : ℕ × Cycle). still_entry y.0 y.1) (λ i. (sym state i, cycle_is i)) in (
       noted_order m n l entry k open_log runs played state noted r,
       cycle_is,
       adds_still m n l entry k open_log runs played state noted r (sym cycle_is ∙ answer_is) (ap is_mixed (sym cycle_is) ∙ dry) still refl,
     )
+
+-- an entry was added, so nothing else comes to pass
+pub adds_so : (m m' : MixerState) (out out' : List Frame) (answer : Cycle) (entry : CycleEntry) → is_over m ≡ false → answer ≡ entry.cycle → AddsCycle m m' entry → Writes m' entry out out' → MixesOnce m out answer m' out'
+adds_so m m' out out' answer entry goes same adds writes =
+    let parts = either m.exited (length m.log.entries == m.cycles) goes in
+    record {
+      exited = (λ over. absurd (true≢false (sym over ∙ parts.0)));
+      spent = (λ _ full. absurd (true≢false (sym (eq-eqb (length m.log.entries) m.cycles full) ∙ parts.1)));
+      adds = (λ _. (entry, same, adds, writes));
+    }
+
+-- there are no more looks than entries
+pub few_reports : (m : MixerState) → IsInOrder m → AreFew (2 ^ 31) m.reports
+few_reports m k i lt =
+    let few = k.reports.few i lt in
+    (omega (arith, few, k.room.entries, k.room.cycles), omega (arith, few, k.room.entries, k.room.cycles), omega (arith, few, k.room.entries, k.room.cycles))
+
+-- the copy of what the observer lends is its current state
+pub current_copied : (o : Observes ServerState StreamNames) (lent : Option (Bor FastState)) (copied : Option FastState) → (o.past.number ≡ 0 → o.current ≡ None)
+    → MatchOption lent (o.past.number ≡ 0) (λ s. (0 < o.past.number) × (s.now ≡ o.past.state) × (o.current ≡ Some s.now)) → copied ≡ option_copied lent → copied ≡ o.current
+current_copied o None copied none lends same = same ∙ sym (none lends)
+current_copied o (Some s) copied none lends same = same ∙ sym lends.2
+
+-- before the first state there is none
+pub none_current : (m : MixerState) → IsInOrder m → m.observer.past.number ≡ 0 → m.observer.current ≡ None
+none_current m k none = sym k.follows.current ∙ ap (state_of (adopted_states m)) none
+
+pub goes_on : (m : MixerState) → m.exited ≡ false → (length m.log.entries ≡ m.cycles → ⊥) → is_over m ≡ false
+goes_on m runs apart = ap (λ (x : Bool × Bool). x.0 || x.1) (λ i. (runs i, ne_eqb (length m.log.entries) m.cycles apart i))
+
+pub is_full : (m : MixerState) → m.exited ≡ false → length m.log.entries ≡ m.cycles → is_over m ≡ true
+is_full m runs full = ap (λ (x : Bool × Bool). x.0 || x.1) (λ i. (runs i, eq-eqb (length m.log.entries) m.cycles full i))

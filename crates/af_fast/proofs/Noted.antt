@@ -1,8 +1,7 @@
 -- A mixer with one entry more is in order, and the entry is a legal one.
-use Rattle.std.proofs.Common.{◌≡◌, ◌≢◌, ℕ, suc, ◌+◌, ◌-◌, ◌*◌, ◌^◌, ◌<◌, ◌≤◌, ◌||◌, Bool, true, false, true≢false, if◌then◌else◌, List, [], ◌∷◌, ◌++◌, length, Option, Some, None, refl, sym, ap, subst, ◌∙◌, append-nil, arith}
+use Rattle.std.proofs.Common.{◌≡◌, ℕ, suc, ◌+◌, ◌-◌, ◌*◌, ◌<◌, ◌≤◌, ◌||◌, Bool, true, false, if◌then◌else◌, List, [], ◌∷◌, ◌++◌, length, Option, Some, None, refl, sym, ap, subst, ◌∙◌, arith}
 use Rattle.std.proofs.lemmas.List.{length-append}
 use Rattle.std.proofs.Math.Nat.{suc-mul}
-use Rattle.af_base.specs.declared.frame.Frame.{Frame}
 use Rattle.af_base.specs.declared.log.CycleEntry.{CycleEntry}
 use Rattle.af_base.specs.declared.report.Report.{Report}
 use Rattle.af_base.specs.declared.report.SlotReport.{SlotReport}
@@ -18,10 +17,9 @@ use Rattle.af_model.specs.StateQueue.{carries, slot_of}
 use Rattle.af_model.proofs.UsedStates.{last_used-push, has_exit-push, cold_done-push, UseUpTo-push, UseUpTo-more}
 use Rattle.af_latest.specs.Laws.{last_of}
 use Rattle.af_stateq.specs.Observes.{InOrder}
-use Rattle.af_link.specs.Reports.{WriterSide}
 use Rattle.af_fast.specs.Held.{stream_fits}
 use Rattle.af_fast.specs.Known.{known}
-use Rattle.af_fast.specs.Mixer.{MixerState, IsInOrder, AreFew, adopted_states}
+use Rattle.af_fast.specs.Mixer.{MixerState, IsInOrder, adopted_states}
 use Rattle.af_fast.specs.Mixing.{Reports, notes}
 
 last_of-push : (x : Report) (ws : List (WriterEvent Report)) (r : Report) → last_of x (ws ++ Store r ∷ []) ≡ r
@@ -139,11 +137,11 @@ module _ (m n l : MixerState) (entry : CycleEntry) (k : IsInOrder m) (open_log :
       slots_are = ap (λ (ws : List (WriterEvent Report)). (last_of no_report ws).slots) r.stored ∙ ap (λ (y : Report). y.slots) (last_of-push no_report n.writer.events r.report) ∙ r.slots_are;
       whole = r.whole;
       few = (λ i lt.
-        let before = k.reports.few i lt in
-        let reports_same = ap (λ (y : MixerState). report_at y.reports i) played.same in
-        let bound : length es + 1 + 1 ≡ length (es ++ entry ∷ []) + 1 = omega (arith, one_longer) in
-        subst (λ (y : ℕ × SlotReport). IsFew y.0 y.1) (λ j. (bound j, sym (r.each i lt) j))
-        (slot_few n.frames (length es + 1) m.observer.current n.last entry (known n.observer i) i (report_at n.reports i) (omega arith) (subst (IsFew (length es + 1)) (sym reports_same) before)));
+          let before = k.reports.few i lt in
+          let reports_same = ap (λ (y : MixerState). report_at y.reports i) played.same in
+          let bound : length es + 1 + 1 ≡ length (es ++ entry ∷ []) + 1 = omega (arith, one_longer) in
+          subst (λ (y : ℕ × SlotReport). IsFew y.0 y.1) (λ j. (bound j, sym (r.each i lt) j))
+          (slot_few n.frames (length es + 1) m.observer.current n.last entry (known n.observer i) i (report_at n.reports i) (omega arith) (subst (IsFew (length es + 1)) (sym reports_same) before)));
     };
   }
 

@@ -1,5 +1,5 @@
 //! How the entry of a cycle is made and noted.
-ghost use Rattle.std.specs.Prelude.{◌≡◌, ℕ, ◌+◌, ◌*◌, ◌<◌, ◌≤◌, ◌^◌, ◌++◌, ◌∷◌, [], Some, if◌then◌else◌, length};
+ghost use Rattle.std.specs.Prelude.{◌≡◌, ℕ, ◌+◌, ◌-◌, ◌*◌, ◌<◌, ◌≤◌, ◌^◌, ◌++◌, ◌∷◌, [], Some, if◌then◌else◌, length};
 ghost use Rattle.af_base.specs.Log.{slots, takes_of};
 ghost use Rattle.af_base.specs.Mix.{mix};
 ghost use Rattle.af_model.specs.Cycles.{is_cold, is_exit, cold_of};
@@ -54,7 +54,7 @@ impl FastMixer {
         ensures log { (self.new.log.entries ≡ self.old.log.entries) × (self.new.log.room ≡ self.old.log.room) × (self.old.log.frame_room ≤ self.new.log.frame_room) }
         ensures plays { PlaysSlots self.old.frames self.old.observer.past.number state.now self.old.observer self.new.observer self.old.pipe self.new.pipe self.old.log.frames self.new.log.frames result }
         ensures mixes { out.new ≡ mix (takes_of self.new.log.frames result) (length out.old) }
-        ensures steps { steps.new ≤ steps.old + slots * (self.old.frames + 7) }
+        ensures steps { steps.new ≤ steps.old + (self.old.frames + 3) + (slots - 1) * (self.old.frames + 7) }
     {
         let FastMixer {
             observer,

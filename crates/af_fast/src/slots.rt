@@ -1,5 +1,5 @@
 //! What a cycle does with all slots of a mix.
-ghost use Rattle.std.specs.Prelude.{◌≡◌, suc, ◌+◌, ◌*◌, ◌<◌, ◌≤◌, ◌^◌, true, false, length, slice_set};
+ghost use Rattle.std.specs.Prelude.{◌≡◌, suc, ◌+◌, ◌-◌, ◌*◌, ◌<◌, ◌≤◌, ◌^◌, true, false, length, slice_set};
 ghost use Rattle.af_base.specs.Log.{slots};
 ghost use Rattle.af_model.specs.Cycles.{is_mono, mix_scale, mono_marks, still_entry};
 ghost use Rattle.af_base.specs.declared.log.SlotEntry.{SlotEntry};
@@ -167,7 +167,7 @@ pub(crate) fn play_slots<L: Ledger>(
     ensures entries { (log.new.entries ≡ log.old.entries) × (log.new.room ≡ log.old.room) }
     ensures room { log.old.frame_room ≤ log.new.frame_room }
     ensures plays { PlaysSlots (length buffer.old) observer.old.past.number state.now observer.old observer.new pipe.old pipe.new log.old.frames log.new.frames result }
-    ensures steps { steps.new ≤ steps.old + slots * (length buffer.old + 7) }
+    ensures steps { steps.new ≤ steps.old + (length buffer.old + 3) + (slots - 1) * (length buffer.old + 7) }
 {
     let mut entry = marked_entry(observer.number(), state);
     entry.slots[0] = log_pipe(pipe, log, links.pipe, buffer, steps);

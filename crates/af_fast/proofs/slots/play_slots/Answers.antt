@@ -1,6 +1,7 @@
-use Rattle.std.proofs.Common.{◌≡◌, ℕ, ◌+◌, ◌*◌, true, length, subst, refl, ◌∙◌, arith}
+use Rattle.std.proofs.Common.{◌≡◌, ℕ, ◌+◌, ◌*◌, true, length, ap, subst, refl, ◌∙◌, arith}
 use Rattle.af_base.specs.declared.log.CycleEntry.{CycleEntry}
 use Rattle.af_base.specs.declared.log.SlotEntry.{SlotEntry}
+use Rattle.af_base.specs.Log.{slots}
 use Rattle.af_model.specs.Cycles.{taken_before}
 use Rattle.af_model.specs.StateQueue.{carries}
 use Rattle.af_model.proofs.EntrySlots.{with_slot}
@@ -52,3 +53,9 @@ returns-clause-plays g c =
     subst (λ (n : ℕ). PlaysSlots (length c.args.buffer.now) n c.args.state.now c.args.observer.now c.loop-slot.observer c.args.pipe.now c.log_pipe.new.pipe c.args.log.now.frames c.loop-slot.log.frames c.loop-slot.entry) c.number.ensures (
     ends (length c.args.buffer.now) c.number.result c.args.state.now c.args.observer.now c.args.pipe.now c.log_pipe.new.pipe c.args.log.now.frames c.log_pipe.new.log.frames c.marked_entry-entry.result c.log_pipe.result c.marked_entry-entry.ensures c.log_pipe.ensures.logs
     c.loop-slot.observer c.loop-slot.log.frames c.loop-slot.entry (subst (λ (n : ℕ). PlayedTo (length c.args.buffer.now) c.args.state.now (length c.args.log.now.frames) c.args.observer.now c.loop-slot.observer c.log_pipe.new.log.frames c.loop-slot.log.frames (with_slot c.marked_entry-entry.result 0 c.log_pipe.result) c.loop-slot.entry n) (omega arith) c.loop-slot.invariant.played))
+
+pub returns-clause-steps : goal.returns-clause-steps
+returns-clause-steps g c =
+    let asked : ℕ = length c.args.buffer.now in
+    let all : c.loop-slot.slot * (asked + 7) ≡ slots * (asked + 7) = ap (λ n. n * (asked + 7)) (omega arith) in
+    omega (arith, all, c.loop-slot.invariant.stepped)

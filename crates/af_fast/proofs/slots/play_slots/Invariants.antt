@@ -12,5 +12,5 @@ invariant-loop-slot g l = record {
   length_is : length l.buffer ≡ length l.fn.buffer;
   entries : (l.log.entries ≡ l.fn.log.entries) × (l.log.room ≡ l.fn.log.room);
   room : l.fn.log.frame_room ≤ l.log.frame_room;
-  stepped : l.steps ≤ l.fn.steps + l.slot * (length l.fn.buffer + 7);
+  stepped : l.steps + 4 ≤ l.fn.steps + l.slot * (length l.fn.buffer + 7);
 }
