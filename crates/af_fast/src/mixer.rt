@@ -1,7 +1,7 @@
 //! The fast mixer, how it is made, and what it lends.
 ghost use Rattle.std.specs.Prelude.{◌≡◌, ◌*◌, ◌≤◌, ◌^◌, IfOk, length};
 ghost use Rattle.std.specs.Borrow.{sem};
-ghost use Rattle.af_fast.specs.Lends.{lends_observer};
+ghost use Rattle.af_fast.specs.Lends.{lends_observer, lends_pipe, lends_writer};
 ghost use Rattle.af_stateq.specs.Observes.{InOrder};
 ghost use Rattle.af_fast.specs.Held.{stream_fits};
 ghost use Rattle.af_fast.specs.Mixer.{IsInOrder, IsUnused, made_of};
@@ -120,5 +120,21 @@ impl FastMixer {
         ensures* lends { sem 𝓛 (lends_observer self.entry result) }
     {
         &mut self.observer
+    }
+
+    /// Lends the end of the report to a meeting.
+    pub fn writer(&mut self) -> &mut ReportWriter
+        ensures value { result.now ≡ self.entry.now.writer }
+        ensures* lends { sem 𝓛 (lends_writer self.entry result) }
+    {
+        &mut self.writer
+    }
+
+    /// Lends the end of the pipe to a meeting.
+    pub fn pipe(&mut self) -> &mut PipeOut
+        ensures value { result.now ≡ self.entry.now.pipe }
+        ensures* lends { sem 𝓛 (lends_pipe self.entry result) }
+    {
+        &mut self.pipe
     }
 }
