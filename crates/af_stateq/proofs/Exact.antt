@@ -12,16 +12,17 @@ use Rattle.af_base.specs.declared.state.FastState.{FastState}
 use Rattle.af_model.specs.Order.{Event, one, two, ones, Legal, after}
 use Rattle.af_model.proofs.Splits.{split_at, ones_append, legal_at}
 use Rattle.af_model.specs.StateQueue.{QueuePoint, start, legal, next, HasHistory}
-use Rattle.af_stateq.specs.Laws.{last_number, last_state, pushes_of, SeesTheLast}
+use Rattle.af_stateq.specs.Laws.{last_number, last_state, last_items, pushes_of, SeesTheLast}
 
-shown : (n a : ℕ) (y : FastState) (x : Option FastState) → x ≡ (if n == a then None else Some y) → IfSome x (λ s. s ≡ y)
-shown n a y None e = tt
-shown n a y (Some s) e = dite (ℕ_discrete n a)
+-- a look that shows a state shows the last one, with its items
+shown : {P : Type 0} (n a : ℕ) (y : FastState) (given items : List (Option P)) (x : Option FastState) → x ≡ (if n == a then None else Some y) → items ≡ (if n == a then [] else given) → IfSome x (λ s. (s ≡ y) × (items ≡ given))
+shown n a y given items None e f = tt
+shown n a y given items (Some s) e f = dite (ℕ_discrete n a)
     (λ same. absurd (true≢false (ap is_some (e ∙ ap (λ (b : Bool). if b then None else Some y) (eq-eqb n a same)))))
-    (λ ne. ap (λ o. unwrap_or o s) (e ∙ ap (λ (b : Bool). if b then None else Some y) (ne_eqb n a ne)))
+    (λ ne. (ap (λ o. unwrap_or o s) (e ∙ ap (λ (b : Bool). if b then None else Some y) (ne_eqb n a ne)), f ∙ ap (λ (b : Bool). if b then [] else given) (ne_eqb n a ne)))
 
 module _ {P : Type 0} where
-  after_pushed : (p : QueuePoint P) (es : List (Event (MutatorEvent P) (ObserverEvent P))) → (after legal next p es).pushed ≡ last_number p.pushed (ones es)
+  pub after_pushed : (p : QueuePoint P) (es : List (Event (MutatorEvent P) (ObserverEvent P))) → (after legal next p es).pushed ≡ last_number p.pushed (ones es)
   after_pushed p [] = refl
   after_pushed p (one (Push k x items) ∷ es) = after_pushed (next p (one (Push k x items))) es
   after_pushed p (one (SawAck a items) ∷ es) = after_pushed (next p (one (SawAck a items))) es
@@ -38,6 +39,15 @@ module _ {P : Type 0} where
   after_last p (two (SawNext k x items) ∷ es) = after_last (next p (two (SawNext k x items))) es
   after_last p (two (Ack k items) ∷ es) = after_last (next p (two (Ack k items))) es
   after_last p (two (observer.Learn c) ∷ es) = after_last (next p (two (observer.Learn c))) es
+
+  after_items : (p : QueuePoint P) (es : List (Event (MutatorEvent P) (ObserverEvent P))) → (after legal next p es).items ≡ last_items p.items (ones es)
+  after_items p [] = refl
+  after_items p (one (Push k x items) ∷ es) = after_items (next p (one (Push k x items))) es
+  after_items p (one (SawAck a items) ∷ es) = after_items (next p (one (SawAck a items))) es
+  after_items p (one (mutator.Learn c) ∷ es) = after_items (next p (one (mutator.Learn c))) es
+  after_items p (two (SawNext k x items) ∷ es) = after_items (next p (two (SawNext k x items))) es
+  after_items p (two (Ack k items) ∷ es) = after_items (next p (two (Ack k items))) es
+  after_items p (two (observer.Learn c) ∷ es) = after_items (next p (two (observer.Learn c))) es
 
   after_mutator : (p : QueuePoint P) (es : List (Event (MutatorEvent P) (ObserverEvent P))) → (after legal next p es).mutator ≡ p.mutator + length (ones es)
   after_mutator p [] = omega arith
@@ -58,7 +68,7 @@ module _ {P : Type 0} where
   pushes_append (SawAck a items ∷ xs) ys = pushes_append xs ys
   pushes_append (mutator.Learn c ∷ xs) ys = pushes_append xs ys
 
-  number_append : (n : ℕ) (xs ys : List (MutatorEvent P)) → pushes_of ys ≡ 0 → last_number n (xs ++ ys) ≡ last_number n xs
+  pub number_append : (n : ℕ) (xs ys : List (MutatorEvent P)) → pushes_of ys ≡ 0 → last_number n (xs ++ ys) ≡ last_number n xs
   number_append n [] [] e = refl
   number_append n [] (Push k x items ∷ ys) e = absurd (omega arith)
   number_append n [] (SawAck a items ∷ ys) e = number_append n [] ys e
@@ -67,7 +77,7 @@ module _ {P : Type 0} where
   number_append n (SawAck a items ∷ xs) ys e = number_append n xs ys e
   number_append n (mutator.Learn c ∷ xs) ys e = number_append n xs ys e
 
-  state_append : (s : FastState) (xs ys : List (MutatorEvent P)) → pushes_of ys ≡ 0 → last_state s (xs ++ ys) ≡ last_state s xs
+  pub state_append : (s : FastState) (xs ys : List (MutatorEvent P)) → pushes_of ys ≡ 0 → last_state s (xs ++ ys) ≡ last_state s xs
   state_append s [] [] e = refl
   state_append s [] (Push k x items ∷ ys) e = absurd (omega arith)
   state_append s [] (SawAck a items ∷ ys) e = state_append s [] ys e
@@ -75,6 +85,15 @@ module _ {P : Type 0} where
   state_append s (Push k x items ∷ xs) ys e = state_append x xs ys e
   state_append s (SawAck a items ∷ xs) ys e = state_append s xs ys e
   state_append s (mutator.Learn c ∷ xs) ys e = state_append s xs ys e
+
+  pub items_append : (s : List (Option P)) (xs ys : List (MutatorEvent P)) → pushes_of ys ≡ 0 → last_items s (xs ++ ys) ≡ last_items s xs
+  items_append s [] [] e = refl
+  items_append s [] (Push k x items ∷ ys) e = absurd (omega arith)
+  items_append s [] (SawAck a items ∷ ys) e = items_append s [] ys e
+  items_append s [] (mutator.Learn c ∷ ys) e = items_append s [] ys e
+  items_append s (Push k x items ∷ xs) ys e = items_append items xs ys e
+  items_append s (SawAck a items ∷ xs) ys e = items_append s xs ys e
+  items_append s (mutator.Learn c ∷ xs) ys e = items_append s xs ys e
 
   more_pushes : (z : MutatorEvent P) (xs zs : List (MutatorEvent P)) → pushes_of xs ≤ pushes_of zs → pushes_of (z ∷ xs) ≤ pushes_of (z ∷ zs)
   more_pushes (Push k x items) xs zs h = omega arith
@@ -92,7 +111,7 @@ module _ {P : Type 0} where
 
   -- the mutator pushed nothing after the events xs, of which the observer has learnt: items next look sees the last push
   pub exact : (first : FastState) (ms xs ys : List (MutatorEvent P)) (os rest : List (ObserverEvent P)) (c n : ℕ) (x : Option FastState) (items : List (Option P)) → HasHistory first ms ((os ++ observer.Learn c ∷ []) ++ SawNext n x items ∷ rest) → ms ≡ xs ++ ys → length xs ≤ c → pushes_of ys ≡ 0
-      → (n ≡ last_number 0 ms) × ((acked : ℕ) × (x ≡ (if n == acked then None else Some (last_state first ms))))
+      → (n ≡ last_number 0 ms) × ((acked : ℕ) × (x ≡ (if n == acked then None else Some (last_state first ms))) × (items ≡ (if n == acked then [] else last_items [] ms)))
   exact first ms xs ys os rest c n x items h parts told none =
       let s = split_at h.order (os ++ observer.Learn c ∷ []) (SawNext n x items) rest h.of_two in
       let es : List (Event (MutatorEvent P) (ObserverEvent P)) = s.before in
@@ -111,10 +130,12 @@ module _ {P : Type 0} where
       let total_2 = ap pushes_of parts ∙ pushes_append xs ys in
       let rest_none : pushes_of us ≡ 0 = omega arith in
       let number = after_pushed (start first) es ∙ sym (number_append 0 zs us rest_none) ∙ ap (last_number 0) all in
+      let carried = after_items (start first) es ∙ sym (items_append [] zs us rest_none) ∙ ap (last_items []) all in
       let value = after_last (start first) es ∙ sym (state_append first zs us rest_none) ∙ ap (last_state first) all in
-      (l.1.0 ∙ number, ((after legal next (start first) es).acked, l.1.1 ∙ ap (λ (z : FastState). if n == (after legal next (start first) es).acked then None else Some z) value))
+      let acked = (after legal next (start first) es).acked in
+      (l.1.0 ∙ number, (acked, l.1.1 ∙ ap (λ (z : FastState). if n == acked then None else Some z) value, l.1.2 ∙ ap (λ (z : List (Option P)). if n == acked then [] else z) carried))
 
   pub sees_the_last : (first : FastState) (ms : List (MutatorEvent P)) → SeesTheLast first ms
   sees_the_last first ms told more os rest c n x items h parts fewer none =
       let e = exact first ms told more os rest c n x items h parts fewer none in
-      (e.0, shown n e.1.0 (last_state first ms) x e.1.1)
+      (e.0, shown n e.1.0 (last_state first ms) (last_items [] ms) items x e.1.1 e.1.2)

@@ -10,7 +10,7 @@ not_true false n = refl
 pub not_both : (b : Bool) → b ≡ true → b ≡ false → ⊥
 not_both b t f = true≢false (sym t ∙ f)
 
-not_false : (b : Bool) → not b ≡ true → b ≡ false
+pub not_false : (b : Bool) → not b ≡ true → b ≡ false
 not_false true e = absurd (true≢false (sym e))
 not_false false e = refl
 
@@ -26,7 +26,7 @@ and_right : (x : Bool) → (x && true) ≡ x
 and_right true = refl
 and_right false = refl
 
-and_one : (a b : Bool) → (a && b) ≡ true → (a ≡ true) × (b ≡ true)
+pub and_one : (a b : Bool) → (a && b) ≡ true → (a ≡ true) × (b ≡ true)
 and_one true b e = (refl, e)
 and_one false b e = absurd (true≢false (sym e))
 

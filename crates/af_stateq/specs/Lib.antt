@@ -5,3 +5,4 @@ pub mod Observes
 pub mod Answers
 pub mod Lends
 pub mod Laws
+pub mod OneHand

@@ -59,5 +59,5 @@ pub record IsNewMutator {P K : Type 0} (key : K) (first : FastState) (m : Mutate
   pub has_key : m.past.key ≡ Some key
   pub begins : (m.past.first ≡ first) × (m.past.last ≡ first) × (m.draft ≡ first)
   pub silent : (m.past.number ≡ 0) × (m.past.clear ≡ true) × (m.past.events ≡ [])
-  pub idle : (m.dirty ≡ false) × (m.editing ≡ false)
+  pub idle : (m.dirty ≡ false) × (m.editing ≡ false) × (m.edited ≡ false)
   pub empty : (m.pending ≡ nothing) × (m.returned ≡ nothing) × (m.out ≡ replicate slots false)

@@ -1,6 +1,6 @@
 -- The rule of a state queue with items, and what each step tells.
 -- The mutator holds the cell of the next state, and the shelves from a look that sees the last state acknowledged to the next push. The observer holds the cells of its state and of the one before, and from the look to the acknowledgement that of the new state and the shelves.
-use Rattle.std.specs.Prelude.{◌≡◌, ◌≢◌, ℕ, suc, ◌+◌, ◌%◌, ◌==◌, ◌&&◌, not, Bool, true, false, if◌then◌else◌, List, [], ◌∷◌, ◌++◌, length, map, drop, Option, Some, None, replicate}
+use Rattle.std.specs.Prelude.{◌≡◌, ◌≢◌, ℕ, suc, ◌+◌, ◌==◌, ◌&&◌, not, Bool, true, false, if◌then◌else◌, List, [], ◌∷◌, ◌++◌, length, map, drop, Option, Some, None, replicate}
 use mathlib.Core.Option as maybe
 use lib.ListN.{get_elem?}
 use Rattle.atomic_table.specs.Table.{State, Me, Step}
@@ -17,15 +17,8 @@ use Rattle.af_model.specs.declared.states.ObserverEvent.TheVariants.{SawNext, Ac
 use Rattle.af_model.specs.declared.states.ObserverEvent.TheVariants as observer
 use Rattle.af_model.specs.Order.{after}
 use Rattle.af_model.specs.Held.{Held}
+pub use Rattle.af_model.specs.StateQueue.{cell, word}
 use Rattle.af_model.specs.StateQueue.{slots, AreOf, AllFit, FitAt, QueuePoint, start, legal, next, HasHistory}
-
--- the cell of the state k, also of the state 0 and, for k + 3, of the state k - 1
-abbrev pub cell : ℕ → ℕ
-cell k = (k + 3) % 4
-
--- the word of the state k
-abbrev pub word : ℕ → ℕ
-word k = if k == 0 then 0 else cell k + 1
 
 -- how many slots of the table are cells. After them comes a shelf for each slot of a state
 abbrev pub cells : ℕ

@@ -1,10 +1,15 @@
 //! What a history says of the states and of the items.
-ghost use Rattle.std.specs.Prelude.{List};
+ghost use Rattle.std.specs.Prelude.{ℕ, List};
 ghost use Rattle.af_base.specs.declared.state.FastState.{FastState as State};
 ghost use Rattle.af_model.specs.declared.states.MutatorEvent.{MutatorEvent};
 ghost use Rattle.af_model.specs.declared.states.ObserverEvent.{ObserverEvent};
 ghost use Rattle.af_model.specs.StateQueue.{HasHistory};
-ghost use Rattle.af_stateq.specs.Laws.{PolledInOrder, OneHolder, SeesTheLast};
+ghost use Rattle.af_stateq.specs.Laws.{PolledInOrder, OneHolder, SeesTheLast, SeesTheAck};
+ghost use Rattle.af_model.specs.Draft.{initial};
+ghost use Rattle.af_model.specs.PlainQueue.{new_queue};
+ghost use Rattle.af_stateq.specs.Mutates.{Mutates, IsNewMutator};
+ghost use Rattle.af_stateq.specs.Observes.{Observes, IsNewObserver};
+ghost use Rattle.af_stateq.specs.OneHand.{Agrees};
 
 /// In a history the states polled are a prefix of the states pushed, as values, and at most one pushed state isn't polled.
 pub fn polled_are_pushed<P>()
@@ -16,7 +21,17 @@ pub fn each_item_has_one_holder<P>()
     ensures { (first : State) (ms : List (MutatorEvent P)) (os : List (ObserverEvent P)) → OneHolder first ms os }
 {}
 
-/// In a history a look of an observer that has learnt of all pushes has the number of the last push, and shows the last state where it shows one. So with both ends in one hand, and a meeting after each call, each look sees the last push.
+/// In a history a look of an observer that has learnt of all pushes has the number of the last push, and where it shows a state that is the last one, with the items that it carried. So with both ends in one hand, and a meeting after each call, each look sees the last push.
 pub fn a_look_after_a_meeting_sees_the_last_push<P>()
     ensures { (first : State) (ms : List (MutatorEvent P)) → SeesTheLast first ms }
+{}
+
+/// In a history a look at the acknowledgement of a mutator that has learnt of all acknowledgements has the number of the last one, and brings the items given back with it, once. So with both ends in one hand, and a meeting after each call, each such look sees the last acknowledgement.
+pub fn a_look_after_a_meeting_sees_the_last_acknowledgement<P>()
+    ensures { (first : State) (os : List (ObserverEvent P)) → SeesTheAck first os }
+{}
+
+/// The two ends of a new queue are the new plain queue.
+pub fn new_ends_are_the_new_queue<P, K>()
+    ensures { (frames : ℕ) (key : K) (m : Mutates P K) (o : Observes P K) → IsNewMutator key (initial frames) m → IsNewObserver key (initial frames) o → Agrees (new_queue frames) m o }
 {}

@@ -10,6 +10,9 @@ mod laws;
 mod make;
 mod mutator;
 mod observer;
+mod one_hand;
+#[cfg(test)]
+mod one_hand_tests;
 mod plays;
 mod rule;
 mod shelves;
@@ -23,9 +26,12 @@ mod waits;
 pub use af_base::Push;
 pub use af_model::{Poll, QueueAnswer, QueueCall};
 pub use laws::{
-    a_look_after_a_meeting_sees_the_last_push, each_item_has_one_holder, polled_are_pushed,
+    a_look_after_a_meeting_sees_the_last_acknowledgement,
+    a_look_after_a_meeting_sees_the_last_push, each_item_has_one_holder,
+    new_ends_are_the_new_queue, polled_are_pushed,
 };
 pub use make::{meet, queue};
 pub use mutator::Mutator;
 pub use observer::Observer;
+pub use one_hand::{answer_each, answer_from_start};
 pub use rule::{Fits, Queue};

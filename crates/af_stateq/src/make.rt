@@ -14,7 +14,8 @@ use crate::mutator::Mutator;
 use crate::observer::Observer;
 use crate::plays::{Meet, Part, SitMutator, SitObserver};
 use crate::rule::{Basis, Fits, Queue};
-use af_base::{Command, FastState, FastTrack, Memory, SLOTS, Steps};
+use af_base::{FastState, Memory, SLOTS, Steps};
+use af_model::first_state;
 use atomic_table::Table;
 use std::alloc::Global;
 use std::sync::ledger::Ledger;
@@ -43,26 +44,6 @@ fn table_slots<P: Drop>(alloc: Global, state: FastState) -> Result<Vec<Slot<P>>,
         places.push_reserved(Slot { state, item: None });
     }
     Ok(places)
-}
-
-pub(crate) fn first_state(frames: u32) -> FastState
-    ensures { result ≡ initial frames }
-{
-    let mut slots = [FastTrack {
-        generation: 0,
-        track: 0,
-        mono: false,
-        scale: 0,
-    }; SLOTS];
-    slots[0].scale = 0x1000;
-    FastState {
-        slots,
-        mask: 1,
-        tracks_gen: 0,
-        frames,
-        command: Command::ColdIdle,
-        cold_gen: 0,
-    }
 }
 
 /// The table of a queue with its two ends. Nothing is pushed.
