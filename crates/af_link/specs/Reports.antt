@@ -1,9 +1,8 @@
 -- What contracts see of the report's two ends, and how the cycles of reports rise.
-use Rattle.std.specs.Prelude.{◌≡◌, ℕ, ◌<◌, ◌≤◌, max, false, List, [], ◌∷◌, Some, take, replicate}
+use Rattle.std.specs.Prelude.{◌≡◌, ℕ, ◌<◌, ◌≤◌, max, List, [], ◌∷◌, Some, take}
 use Rattle.atomic_table.specs.Seated.{TableId}
 use Rattle.af_base.specs.declared.report.Report.{Report}
-use Rattle.af_base.specs.declared.report.SlotReport.{SlotReport}
-use Rattle.af_model.specs.StateQueue.{slots}
+pub use Rattle.af_model.specs.Reports.{no_report}
 use Rattle.af_model.specs.declared.newest.WriterEvent.{WriterEvent}
 use Rattle.af_model.specs.declared.newest.WriterEvent.TheVariants.{Store}
 use Rattle.af_model.specs.declared.newest.WriterEvent.TheVariants as writes
@@ -22,14 +21,6 @@ pub record WriterSide : Type 0 where
 pub record ReaderSide : Type 0 where
   pub cell : TableId
   pub events : List (ReaderEvent Report)
-
--- what is known of a slot that never had an item
-abbrev pub no_slot : SlotReport
-no_slot = record { consumed = 0; shut = false; generation = 0; flush_seen = 0; fulls = 0; partials = 0; empties = 0 }
-
--- the report before any cycle
-abbrev pub no_report : Report
-no_report = record { cycle = 0; slots = replicate slots no_slot }
 
 -- the cycle of the last report stored, 0 where none was
 abbrev pub last_cycle : List (WriterEvent Report) → ℕ
