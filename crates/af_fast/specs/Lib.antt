@@ -1,3 +1,4 @@
 pub mod Slots
 pub mod Held
 pub mod Mixer
+pub mod Ready

@@ -10,3 +10,10 @@ mod slots;
 mod submix;
 
 pub use mixer::FastMixer;
+
+#[cfg(test)]
+mod exit_tests;
+#[cfg(test)]
+mod generation_tests;
+#[cfg(test)]
+mod tests;
