@@ -1,7 +1,10 @@
 -- When the ends that a test moves are ready for its next call.
-use Rattle.std.specs.Prelude.{◌≡◌, ℕ, false}
+use Rattle.std.specs.Prelude.{◌≡◌, ℕ, ◌<◌, false, List, length, slice_get, Some, MatchOption}
+use Rattle.af_cblk.specs.Sides.{Made, client_made}
+use Rattle.af_client.specs.Order.{ClientState, IsInOrder as IsClientInOrder}
 use Rattle.af_server.specs.Order.{ServerState}
 use Rattle.af_stateq.specs.Mutates.{Mutates}
+use Rattle.af_link.specs.Names.{IsStreamOf}
 use Rattle.af_link.specs.Reports.{ReaderSide}
 use Rattle.af_link.specs.declared.links.Links.{Links}
 use Rattle.af_link.specs.declared.names.StreamNames.{StreamNames}
@@ -17,3 +20,12 @@ pub record IsReady (links : Links) (frames : ℕ) (m : Mutates ServerState Strea
   pub queue : m.past.queue ≡ links.queue.now
   pub idle : m.editing ≡ false
   pub report : r.cell ≡ links.report.now
+
+-- each client was made with the block of its number, and is in order
+pub record AreClientsOf (blocks : List Made) (clients : List ClientState) : Type 0 where
+  pub as_many : length clients ≡ length blocks
+  pub made : (i : ℕ) → i < length blocks → MatchOption (slice_get clients i) ⊥ (λ c. (slice_get blocks i ≡ Some (client_made c.pass)) × IsClientInOrder c)
+
+-- each server was made with the block of its number, and is in order
+abbrev pub AreServersOf : List Made → List ServerState → Type 0
+AreServersOf blocks servers = (i : ℕ) → i < length blocks → MatchOption (slice_get servers i) ⊥ (λ s. IsStreamOf blocks i s)

@@ -16,4 +16,8 @@ mod exit_tests;
 #[cfg(test)]
 mod generation_tests;
 #[cfg(test)]
+mod plain_tests;
+#[cfg(test)]
+mod run_tests;
+#[cfg(test)]
 mod tests;
