@@ -21,3 +21,5 @@ mod plain_tests;
 mod run_tests;
 #[cfg(test)]
 mod tests;
+#[cfg(test)]
+mod thread_tests;

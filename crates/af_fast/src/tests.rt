@@ -74,8 +74,8 @@ pub(crate) fn begin(
     cycles: usize,
     frames: usize,
 ) -> Result<(Shared, Ends), Memory>
-    requires cycles { (1 ≤ cycles) × (cycles ≤ 1000) }
-    requires frames { (1 ≤ frames) × (frames ≤ 1000) }
+    requires cycles { (1 ≤ cycles) × (cycles ≤ 100000) }
+    requires frames { (1 ≤ frames) × (frames ≤ 16) }
     ensures names { IfOk result (λ r. NamesBlocks r.1.mutator.past.key streams.now × NamesBlocks r.1.mixer.observer.past.key streams.now) }
     ensures queue { IfOk result (λ r. (r.1.mutator.past.queue ≡ r.0.queue) × (r.1.mixer.observer.past.queue ≡ r.0.queue)) }
     ensures report { IfOk result (λ r. (r.1.reader.cell ≡ r.0.report) × (r.1.mixer.writer.cell ≡ r.0.report)) }
