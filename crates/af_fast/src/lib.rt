@@ -14,6 +14,8 @@ pub use mixer::FastMixer;
 #[cfg(test)]
 mod exit_tests;
 #[cfg(test)]
+mod flush_tests;
+#[cfg(test)]
 mod generation_tests;
 #[cfg(test)]
 mod plain_tests;
