@@ -1,10 +1,10 @@
 -- When the ends that a test moves are ready for its next call.
-use Rattle.std.specs.Prelude.{◌≡◌, ℕ, ◌<◌, false, List, length, slice_get, Some, MatchOption}
+use Rattle.std.specs.Prelude.{◌≡◌, ℕ, false, List}
+use Rattle.std.specs.List.{AllZip}
 use Rattle.af_cblk.specs.Sides.{Made, client_made}
 use Rattle.af_client.specs.Order.{ClientState, IsInOrder as IsClientInOrder}
 use Rattle.af_server.specs.Order.{ServerState}
 use Rattle.af_stateq.specs.Mutates.{Mutates}
-use Rattle.af_link.specs.Names.{IsStreamOf}
 use Rattle.af_link.specs.Reports.{ReaderSide}
 use Rattle.af_link.specs.declared.links.Links.{Links}
 use Rattle.af_link.specs.declared.names.StreamNames.{StreamNames}
@@ -21,11 +21,9 @@ pub record IsReady (links : Links) (frames : ℕ) (m : Mutates ServerState Strea
   pub idle : m.editing ≡ false
   pub report : r.cell ≡ links.report.now
 
--- each client was made with the block of its number, and is in order
-pub record AreClientsOf (blocks : List Made) (clients : List ClientState) : Type 0 where
-  pub as_many : length clients ≡ length blocks
-  pub made : (i : ℕ) → i < length blocks → MatchOption (slice_get clients i) ⊥ (λ c. (slice_get blocks i ≡ Some (client_made c.pass)) × IsClientInOrder c)
+-- each client was made with the block of its place, and is in order
+abbrev pub IsClientOf : Made → ClientState → Type 0
+IsClientOf block c = (client_made c.pass ≡ block) × IsClientInOrder c
 
--- each server was made with the block of its number, and is in order
-abbrev pub AreServersOf : List Made → List ServerState → Type 0
-AreServersOf blocks servers = (i : ℕ) → i < length blocks → MatchOption (slice_get servers i) ⊥ (λ s. IsStreamOf blocks i s)
+abbrev pub AreClientsOf : List Made → List ClientState → Type 0
+AreClientsOf = AllZip IsClientOf

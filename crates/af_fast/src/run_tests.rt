@@ -2,11 +2,10 @@
 ghost use Rattle.std.specs.Prelude.{◌≡◌, ◌+◌, ◌^◌, ◌<◌, ◌≤◌, false, length, IfOk};
 ghost use Rattle.af_cblk.specs.Sides.{client_made, server_made};
 ghost use Rattle.af_client.specs.Order.{IsInOrder as IsClientInOrder};
-ghost use Rattle.af_link.specs.Names.{IsStreamOf};
 ghost use Rattle.af_link.specs.PipeEnds.{in_made};
 ghost use Rattle.af_server.specs.Order.{IsInOrder as IsServerInOrder};
 ghost use Rattle.af_fast.specs.Held.{NamesBlocks};
-ghost use Rattle.af_fast.specs.Ready.{IsReady, AreClientsOf, AreServersOf};
+ghost use Rattle.af_fast.specs.Ready.{IsReady, AreClientsOf};
 
 use crate::plain_tests::{FRAMES, PlainMixer, PlainPipe, PlainTrack};
 use crate::tests::{BEFORE, Ends, Pushing, attach, begin, detach, push_command};
@@ -70,6 +69,18 @@ struct Plain {
     tracks: Vec<PlainTrack>,
     pipe: PlainPipe,
     mixer: PlainMixer,
+}
+
+impl Plain {
+    // The model of a run over these tracks.
+    fn new(alloc: Global, tracks: Vec<PlainTrack>) -> Plain {
+        Plain {
+            draws: Draws { seed: 1 },
+            tracks,
+            pipe: PlainPipe::new(alloc),
+            mixer: PlainMixer::new(alloc),
+        }
+    }
 }
 
 // Writes up to eight frames. It answers whether the track was dead exactly where its client had poked.
@@ -346,23 +357,6 @@ fn track(
     Ok((block, client, server))
 }
 
-// Attaches the seven tracks to slots 1 to 7, every second one mono, at scales that fall.
-fn attach_all(mutator: &mut Pushing, links: &Links<'_>, servers: [Server; TRACKS])
-    requires idle { mutator.old.editing ≡ false }
-    requires names { NamesBlocks mutator.old.past.key links.now.streams.now }
-    requires streams { AreServersOf links.now.streams.now servers }
-    ensures same { (mutator.new.past ≡ mutator.old.past) × (mutator.new.editing ≡ false) }
-{
-    let [one, two, three, four, five, six, seven] = servers;
-    attach(mutator, links, 1, false, 0x1000, 0, one);
-    attach(mutator, links, 2, true, 0x0e00, 1, two);
-    attach(mutator, links, 3, false, 0x0c01, 2, three);
-    attach(mutator, links, 4, true, 0x0a02, 3, four);
-    attach(mutator, links, 5, false, 0x0803, 4, five);
-    attach(mutator, links, 6, true, 0x0604, 5, six);
-    attach(mutator, links, 7, false, 0, 6, seven);
-}
-
 // The run over seven new blocks of odd sizes, of which some wrap.
 fn runs_in<L: Ledger>(alloc: Global, blank: Blank) -> Result<Option<u32>, Memory>
     requires name { blank.name ≡ L.name }
@@ -383,18 +377,17 @@ fn runs_in<L: Ledger>(alloc: Global, blank: Blank) -> Result<Option<u32>, Memory
     let mut clients = [
         client_0, client_1, client_2, client_3, client_4, client_5, client_6,
     ];
-    let servers = [
-        server_0, server_1, server_2, server_3, server_4, server_5, server_6,
-    ];
     let (shared, mut ends) = begin(alloc, &streams, CYCLES as usize, FRAMES)?;
     let links = shared.links(&streams);
-    attach_all(&mut ends.mutator, &links, servers);
-    let plain = Plain {
-        draws: Draws { seed: 1 },
-        tracks,
-        pipe: PlainPipe::new(alloc),
-        mixer: PlainMixer::new(alloc),
-    };
+    let mutator = &mut ends.mutator;
+    attach(mutator, &links, 1, false, 0x1000, 0, server_0);
+    attach(mutator, &links, 2, true, 0x0e00, 1, server_1);
+    attach(mutator, &links, 3, false, 0x0c01, 2, server_2);
+    attach(mutator, &links, 4, true, 0x0a02, 3, server_3);
+    attach(mutator, &links, 5, false, 0x0803, 4, server_4);
+    attach(mutator, &links, 6, true, 0x0604, 5, server_5);
+    attach(mutator, &links, 7, false, 0, 6, server_6);
+    let plain = Plain::new(alloc, tracks);
     run(alloc, &links, ends, &mut clients, plain, &mut steps)
 }
 
