@@ -1,5 +1,5 @@
 //! An Exit, and a log that is full.
-ghost use Rattle.std.specs.Prelude.{◌≡◌, ◌<◌};
+ghost use Rattle.std.specs.Prelude.{◌≡◌, ◌<◌, ◌≤◌};
 ghost use Rattle.af_link.specs.Names.{IsStreamOf};
 ghost use Rattle.af_fast.specs.Ready.{IsReady};
 
@@ -61,10 +61,16 @@ fn fills<L: Ledger>(mut ends: Ends, links: &Links<'_>, server: Server, steps: &m
         && log_is(ends.mixer.log(), &entries, &WRITTEN)
 }
 
-// A run of one entry over a new block with three frames.
-fn ends_in<L: Ledger>(alloc: Global, blank: Blank, exit: bool) -> Result<bool, Memory>
+// A run of so many entries at most, over a new block with three frames.
+fn ends_in<L: Ledger>(
+    alloc: Global,
+    blank: Blank,
+    exit: bool,
+    cycles: usize,
+) -> Result<bool, Memory>
     requires name { blank.name ≡ L.name }
     requires parts { (blank.parts ≡ L.parts) × (0 < blank.parts) }
+    requires cycles { (1 ≤ cycles) × (cycles ≤ 10) }
 {
     let mut steps = Steps::<L>::start(blank);
     let (block, client, server) = Block::make(alloc, 8, 0)?;
@@ -72,7 +78,7 @@ fn ends_in<L: Ledger>(alloc: Global, blank: Blank, exit: bool) -> Result<bool, M
     let server = Server::with(server, &block);
     client.write(&block, &WRITTEN, &mut steps);
     let streams = [block];
-    let (shared, ends) = begin(alloc, &streams, 1, 4)?;
+    let (shared, ends) = begin(alloc, &streams, cycles, 4)?;
     let links = shared.links(&streams);
     Ok(if exit {
         exits(ends, &links, server, &mut steps)
@@ -81,14 +87,19 @@ fn ends_in<L: Ledger>(alloc: Global, blank: Blank, exit: bool) -> Result<bool, M
     })
 }
 
+fn ends(alloc: Global, exit: bool, cycles: usize) -> Result<bool, Memory>
+    requires { (1 ≤ cycles) × (cycles ≤ 10) }
+{
+    ends_in::<Brand>(alloc, Blank::new(1), exit, cycles)
+}
+
 #[test]
 fn an_exit_is_answered_again_without_an_entry(rt: HostRuntime) {
-    let found = ends_in::<Brand>(rt.alloc(), Blank::new(1), true);
-    assert!(rt; found == Ok(true));
+    assert!(rt; ends(rt.alloc(), true, 3) == Ok(true));
+    assert!(rt; ends(rt.alloc(), true, 1) == Ok(true));
 }
 
 #[test]
 fn a_full_log_is_answered_without_an_entry(rt: HostRuntime) {
-    let found = ends_in::<Brand>(rt.alloc(), Blank::new(1), false);
-    assert!(rt; found == Ok(true));
+    assert!(rt; ends(rt.alloc(), false, 1) == Ok(true));
 }
