@@ -4,3 +4,4 @@ pub mod Mixer
 pub mod Known
 pub mod Mixing
 pub mod Lends
+pub mod Ready

@@ -11,3 +11,18 @@ mod slots;
 mod submix;
 
 pub use mixer::FastMixer;
+
+#[cfg(test)]
+mod exit_tests;
+#[cfg(test)]
+mod flush_tests;
+#[cfg(test)]
+mod generation_tests;
+#[cfg(test)]
+mod plain_tests;
+#[cfg(test)]
+mod run_tests;
+#[cfg(test)]
+mod tests;
+#[cfg(test)]
+mod thread_tests;
