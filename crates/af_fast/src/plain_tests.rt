@@ -42,6 +42,19 @@ pub(crate) struct PlainMixer {
     pub reports: [SlotReport; SLOTS],
 }
 
+// The low 32 bits of a number.
+fn low(number: usize) -> u32 {
+    (number & 0xffff_ffff) as u32
+}
+
+// How many frames a look showed.
+fn count_of(seen: Seen) -> usize {
+    match seen {
+        Seen::Frames { count } => count as usize,
+        _ => 0,
+    }
+}
+
 // So many frames from a place on, or as many of them as there are.
 fn part(frames: &[Frame], from: usize, count: usize) -> &[Frame] {
     let rest = &frames[from.min(frames.len())..];
@@ -75,7 +88,7 @@ impl PlainTrack {
 
     // The word of a position.
     fn word(&self, position: usize) -> u32 {
-        self.base.wrapping_add(position as u32)
+        self.base.wrapping_add(low(position))
     }
 
     // What a look shows, without what it does.
@@ -170,14 +183,12 @@ impl PlainPipe {
         self.taken = self.taken.wrapping_add(count);
         let seen = match count {
             0 => Seen::Empty,
-            _ => Seen::Frames {
-                count: count as u32,
-            },
+            _ => Seen::Frames { count: low(count) },
         };
         Ok(SlotEntry {
             gains: 0x1000_1000,
             flush: 0,
-            rear: self.put.len() as u32,
+            rear: low(self.put.len()),
             seen,
             first: if count == 0 { 0 } else { place },
         })
@@ -187,7 +198,7 @@ impl PlainPipe {
 // Whether a state has a track in a slot.
 fn has(state: &Option<FastState>, slot: usize) -> bool {
     match state {
-        Some(state) => slot > 0 && (state.mask >> (slot as u32 % 32)) & 1 == 1,
+        Some(state) => slot > 0 && (state.mask >> (slot % 32)) & 1 == 1,
         None => false,
     }
 }
@@ -307,9 +318,10 @@ impl PlainMixer {
         let mut parts = [silent; SLOTS];
         for slot in 0..SLOTS {
             let seen = entry.slots[slot];
-            if let Seen::Frames { count } = seen.seen {
+            let count = count_of(seen.seen);
+            if count > 0 {
                 parts[slot] = Part {
-                    frames: part(&self.frames, seen.first, count as usize),
+                    frames: part(&self.frames, seen.first, count),
                     mono: (entry.mono >> slot) & 1 == 1,
                     gains: seen.gains,
                     scale: entry.scales[slot],
