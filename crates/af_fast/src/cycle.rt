@@ -77,6 +77,7 @@ impl FastMixer {
         ensures linked { IsLinked links.now self.new }
         ensures order { IsInOrder self.new }
         ensures turn { self.new.adopted ≡ false }
+        ensures sizes { (self.new.frames ≡ self.old.frames) × (self.new.cycles ≡ self.old.cycles) }
         ensures mixes { MixesOnce self.old out.old result self.new out.new }
         ensures length { length out.new ≡ length out.old }
         ensures steps { steps.new ≤ steps.old + 8 * self.old.frames + 56 }
@@ -117,6 +118,7 @@ impl FastMixer {
         ensures linked { IsLinked links.now self.new }
         ensures order { IsInOrder self.new }
         ensures turn { self.new.adopted ≡ false }
+        ensures sizes { (self.new.frames ≡ self.old.frames) × (self.new.cycles ≡ self.old.cycles) }
         ensures cycle { (middle : MixerState) × Adopts self.old middle × MixesOnce middle out.old result self.new out.new }
         ensures length { length out.new ≡ length out.old }
         ensures steps { steps.new ≤ steps.old + 8 * self.old.frames + 65 }
