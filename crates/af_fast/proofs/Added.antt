@@ -1,0 +1,186 @@
+-- The entry that a cycle adds is a legal one, and what it says was done.
+use Rattle.std.proofs.Common.{◌≡◌, ℕ, ◌+◌, ◌^◌, ◌<◌, ◌≤◌, ◌==◌, ◌||◌, eq-eqb, ne_eqb, MatchOption, option_copied, Bor, Bool, true, false, true≢false, List, [], ◌∷◌, ◌++◌, length, Option, Some, None, refl, sym, ap, subst, ◌∙◌, append-nil, arith}
+use Rattle.std.proofs.Math.Nat.{add-zero}
+use Rattle.af_base.specs.declared.frame.Frame.{Frame}
+use Rattle.af_base.specs.declared.log.Cycle.{Cycle}
+use Rattle.af_base.specs.declared.log.Cycle.TheVariants as cycle
+use Rattle.af_base.specs.declared.log.CycleEntry.{CycleEntry}
+use Rattle.af_base.specs.declared.report.SlotReport.{SlotReport}
+use Rattle.af_base.specs.declared.state.FastState.{FastState}
+use Rattle.af_base.specs.Log.{slots}
+use Rattle.af_model.specs.declared.newest.WriterEvent.TheVariants.{Store}
+use Rattle.af_model.specs.Cycles.{Mixes, state_of, cycle_of, is_mixed, still_entry, taken_before}
+use Rattle.af_model.specs.Reports.{IsNextReport, report_at, slot_report}
+use Rattle.af_server.specs.Order.{ServerState}
+use Rattle.af_stateq.specs.Observes.{Observes, InOrder}
+use Rattle.af_link.specs.declared.names.StreamNames.{StreamNames}
+use Rattle.af_fast.specs.Held.{stream_fits}
+use Rattle.af_fast.specs.Known.{known}
+use Rattle.af_fast.specs.Mixer.{MixerState, IsInOrder, AreFew, adopted_states, is_over}
+use Rattle.af_fast.specs.Mixing.{Reports, notes, AddsCycle, Takes, Writes, MixesOnce}
+use Rattle.af_fast.specs.Slots.{PlaysSlots, found}
+use Rattle.af_fast.proofs.HeldFacts.{some_same}
+use Rattle.af_fast.proofs.SlotsDone.{taken_few}
+use Rattle.af_fast.proofs.Noted.{IsPlayed, now, is_now, noted_order}
+
+mixed_is : (c : Cycle) → is_mixed c ≡ true → c ≡ cycle.Mixed
+mixed_is cycle.Mixed e = refl
+mixed_is cycle.Idle e = absurd (true≢false (sym e))
+mixed_is cycle.Cold e = absurd (true≢false (sym e))
+mixed_is cycle.Exit e = absurd (true≢false (sym e))
+mixed_is (cycle.Spent n) e = absurd (true≢false (sym e))
+
+either : (a b : Bool) → (a || b) ≡ false → (a ≡ false) × (b ≡ false)
+either false false e = (refl, refl)
+either true b e = absurd (true≢false e)
+either false true e = absurd (true≢false e)
+
+still_runs : (m : MixerState) → is_over m ≡ false → m.exited ≡ false
+still_runs m goes = (either m.exited (length m.log.entries == m.cycles) goes).0
+
+log_open : (m : MixerState) → IsInOrder m → is_over m ≡ false → length m.log.entries < m.cycles
+log_open m k goes =
+    let apart : length m.log.entries ≡ m.cycles → ⊥ = (λ e. true≢false (sym (eq-eqb (length m.log.entries) m.cycles e) ∙ (either m.exited (length m.log.entries == m.cycles) goes).1)) in
+    omega (arith, apart, k.room.entries)
+
+module _ (m n l : MixerState) (entry : CycleEntry) (k : IsInOrder m) (open_log : length m.log.entries < m.cycles) (runs : m.exited ≡ false) (played : IsPlayed m n)
+    (state : entry.state ≡ m.observer.past.number) (noted : l ≡ notes m.observer.current entry l.writer l.reports n) (r : Reports m.observer.current entry n l) (what : entry.cycle ≡ cycle_of m.cold m.observer.current) where
+  abbrev es : List CycleEntry
+  es = m.log.entries
+
+  abbrev xs : List FastState
+  xs = adopted_states m
+
+  abbrev after : MixerState
+  after = now m n l entry k open_log runs played state noted r
+
+  current_is : state_of xs entry.state ≡ m.observer.current
+  current_is = ap (state_of xs) state ∙ k.follows.current
+
+  next_report : IsNextReport m.frames xs es entry (known n.observer) m.reports r.report
+  next_report = record {
+    number = r.number ∙ ap (λ (e : List CycleEntry). length e + 1) played.entries.0;
+    whole = ap length r.slots_are ∙ r.whole;
+    each = (λ i lt. ap (λ (rs : List SlotReport). report_at rs i) r.slots_are ∙ r.each i lt
+        ∙ ap (λ (y : ℕ × Option FastState × Option FastState × SlotReport). slot_report y.0 y.1 y.2 entry (known n.observer i) i y.3)
+        (λ j. (ap (λ (y : MixerState). y.frames) played.same j, sym current_is j, (ap (λ (y : MixerState). y.last) played.same ∙ k.last) j, ap (λ (y : MixerState). report_at y.reports i) played.same j)));
+  }
+
+  -- with what the slots did
+  adds : ((x : FastState) → m.observer.current ≡ Some x → is_mixed entry.cycle ≡ true → Mixes m.frames x (length m.log.frames) (found m.observer m.pipe) (found n.observer n.pipe) entry)
+      → (is_mixed entry.cycle ≡ false → entry ≡ still_entry entry.state entry.cycle) → Takes m after entry → AddsCycle m l entry
+  adds mixes still takes = subst (λ (y : MixerState). AddsCycle m y entry) (sym (is_now m n l entry k open_log runs played state noted r)) (record {
+    state = state;
+    legal = record {
+      follows = (omega (arith, state, k.follows.low), omega (arith, state, k.follows.high));
+      runs = sym k.exited ∙ runs;
+      what = what ∙ ap (λ (y : ℕ × Option FastState). cycle_of y.0 y.1) (λ i. (k.cold i, sym current_is i));
+      still = still;
+      mixes = (λ x is mixed. mixes x (sym current_is ∙ is) mixed);
+    };
+    entries = refl;
+    takes = takes;
+    report = (r.report, r.stored ∙ ap (λ (y : MixerState). y.writer.events ++ Store r.report ∷ []) played.same, next_report);
+  })
+
+  -- a mix
+  pub adds_mix : (x : FastState) → m.observer.current ≡ Some x → PlaysSlots m.frames m.observer.past.number x m.observer n.observer m.pipe n.pipe m.log.frames n.log.frames entry → AddsCycle m l entry
+  adds_mix x is p =
+      let same : (y : FastState) → m.observer.current ≡ Some y → x ≡ y = (λ y is'. some_same x y (sym is ∙ is')) in
+      adds
+      (λ y is' mixed. subst (λ (z : FastState). Mixes m.frames z (length m.log.frames) (found m.observer m.pipe) (found n.observer n.pipe) entry) (same y is') p.mixes)
+      (λ dry. absurd (true≢false (sym p.mixed ∙ dry)))
+      (record {
+        observer = p.same;
+        grown = p.grown;
+        total = p.total;
+        still = (λ dry. absurd (true≢false (sym p.mixed ∙ dry)));
+        piped = (λ yes'. p.piped);
+        tracks = (λ yes' y is' i lt on. p.tracks i lt (subst (λ (z : FastState). Rattle.af_model.specs.StateQueue.carries z i ≡ true) (sym (same y is')) on));
+      })
+
+  -- a cycle that mixes nothing
+  pub adds_still : is_mixed entry.cycle ≡ false → entry ≡ still_entry entry.state entry.cycle → n ≡ record m { adopted = false } → AddsCycle m l entry
+  adds_still dry is rests =
+      let taken : taken_before entry slots ≡ 0 = ap (λ (e : CycleEntry). taken_before e slots) is in
+      adds
+      (λ x is' mixed. absurd (true≢false (sym mixed ∙ dry)))
+      (λ _. is)
+      (record {
+        observer = played.observer;
+        grown = ([], ap (λ (y : MixerState). y.log.frames) rests ∙ sym (append-nil m.log.frames));
+        total = ap (λ (y : MixerState). length y.log.frames) rests ∙ sym (add-zero (length m.log.frames)) ∙ ap (λ a. length m.log.frames + a) (sym taken);
+        still = (λ _. (ap (λ (y : MixerState). y.observer) rests, ap (λ (y : MixerState). y.pipe) rests));
+        piped = (λ mixed. absurd (true≢false (sym mixed ∙ dry)));
+        tracks = (λ mixed. absurd (true≢false (sym mixed ∙ dry)));
+      })
+
+-- what a call of mix comes to, where an entry is added
+abbrev pub Comes : MixerState → MixerState → Cycle → CycleEntry → Type 0
+Comes m l answer entry = IsInOrder l × (answer ≡ entry.cycle) × AddsCycle m l entry
+
+-- with a mix
+pub mix_step : (m n l : MixerState) (entry : CycleEntry) (x : FastState) (answer : Cycle) → IsInOrder m → is_over m ≡ false → m.observer.current ≡ Some x → answer ≡ cycle_of m.cold (Some x) → is_mixed answer ≡ true
+    → n ≡ record m { adopted = false; observer = n.observer; pipe = n.pipe; log = n.log } → InOrder stream_fits n.observer → (n.log.entries ≡ m.log.entries) × (n.log.room ≡ m.log.room) × (m.log.frame_room ≤ n.log.frame_room)
+    → PlaysSlots m.frames m.observer.past.number x m.observer n.observer m.pipe n.pipe m.log.frames n.log.frames entry
+    → l ≡ notes (Some x) entry l.writer l.reports n → Reports (Some x) entry n l → Comes m l answer entry
+mix_step m n l entry x answer k goes is answer_is mixed same order log p noted r =
+    let open_log : length m.log.entries < m.cycles = log_open m k goes in
+    let runs : m.exited ≡ false = still_runs m goes in
+    let played : IsPlayed m n = record { same = same; observer = p.same; order = order; entries = log; few = omega (arith, p.total, taken_few m.frames entry slots p.within) } in
+    let noted_so = subst (λ (y : Option FastState). l ≡ notes y entry l.writer l.reports n) (sym is) noted in
+    let reports = subst (λ (y : Option FastState). Reports y entry n l) (sym is) r in
+    let cycle_is : answer ≡ entry.cycle = mixed_is answer mixed ∙ sym (mixed_is entry.cycle p.mixed) in (
+      noted_order m n l entry k open_log runs played p.state noted_so reports,
+      cycle_is,
+      adds_mix m n l entry k open_log runs played p.state noted_so reports (sym cycle_is ∙ answer_is ∙ ap (cycle_of m.cold) (sym is)) x is p,
+    )
+
+-- without one
+pub still_step : (m l : MixerState) (entry : CycleEntry) (answer : Cycle) → IsInOrder m → is_over m ≡ false → answer ≡ cycle_of m.cold m.observer.current → is_mixed answer ≡ false
+    → entry ≡ still_entry m.observer.past.number answer
+    → l ≡ notes m.observer.current entry l.writer l.reports (record m { adopted = false }) → Reports m.observer.current entry (record m { adopted = false }) l → Comes m l answer entry
+still_step m l entry answer k goes answer_is dry is noted r =
+    let n : MixerState = record m { adopted = false } in
+    let open_log : length m.log.entries < m.cycles = log_open m k goes in
+    let runs : m.exited ≡ false = still_runs m goes in
+    let played : IsPlayed m n = record { same = refl; observer = refl; order = k.observer; entries = (refl, refl, omega arith); few = omega arith } in
+    let state = ap (λ (e : CycleEntry). e.state) is in
+    let cycle_is : answer ≡ entry.cycle = sym (ap (λ (e : CycleEntry). e.cycle) is) in
+    let still : entry ≡ still_entry entry.state entry.cycle = is ∙ ap (λ (y : ℕ × Cycle). still_entry y.0 y.1) (λ i. (sym state i, cycle_is i)) in (
+      noted_order m n l entry k open_log runs played state noted r,
+      cycle_is,
+      adds_still m n l entry k open_log runs played state noted r (sym cycle_is ∙ answer_is) (ap is_mixed (sym cycle_is) ∙ dry) still refl,
+    )
+
+-- an entry was added, so nothing else comes to pass
+pub adds_so : (m m' : MixerState) (out out' : List Frame) (answer : Cycle) (entry : CycleEntry) → is_over m ≡ false → answer ≡ entry.cycle → AddsCycle m m' entry → Writes m' entry out out' → MixesOnce m out answer m' out'
+adds_so m m' out out' answer entry goes same adds writes =
+    let parts = either m.exited (length m.log.entries == m.cycles) goes in
+    record {
+      exited = (λ over. absurd (true≢false (sym over ∙ parts.0)));
+      spent = (λ _ full. absurd (true≢false (sym (eq-eqb (length m.log.entries) m.cycles full) ∙ parts.1)));
+      adds = (λ _. (entry, same, adds, writes));
+    }
+
+-- there are no more looks than entries
+pub few_reports : (m : MixerState) → IsInOrder m → AreFew (2 ^ 31) m.reports
+few_reports m k i lt =
+    let few = k.reports.few i lt in
+    (omega (arith, few, k.room.entries, k.room.cycles), omega (arith, few, k.room.entries, k.room.cycles), omega (arith, few, k.room.entries, k.room.cycles))
+
+-- the copy of what the observer lends is its current state
+pub current_copied : (o : Observes ServerState StreamNames) (lent : Option (Bor FastState)) (copied : Option FastState) → (o.past.number ≡ 0 → o.current ≡ None)
+    → MatchOption lent (o.past.number ≡ 0) (λ s. (0 < o.past.number) × (s.now ≡ o.past.state) × (o.current ≡ Some s.now)) → copied ≡ option_copied lent → copied ≡ o.current
+current_copied o None copied none lends same = same ∙ sym (none lends)
+current_copied o (Some s) copied none lends same = same ∙ sym lends.2
+
+-- before the first state there is none
+pub none_current : (m : MixerState) → IsInOrder m → m.observer.past.number ≡ 0 → m.observer.current ≡ None
+none_current m k none = sym k.follows.current ∙ ap (state_of (adopted_states m)) none
+
+pub goes_on : (m : MixerState) → m.exited ≡ false → (length m.log.entries ≡ m.cycles → ⊥) → is_over m ≡ false
+goes_on m runs apart = ap (λ (x : Bool × Bool). x.0 || x.1) (λ i. (runs i, ne_eqb (length m.log.entries) m.cycles apart i))
+
+pub is_full : (m : MixerState) → m.exited ≡ false → length m.log.entries ≡ m.cycles → is_over m ≡ true
+is_full m runs full = ap (λ (x : Bool × Bool). x.0 || x.1) (λ i. (runs i, eq-eqb (length m.log.entries) m.cycles full i))

@@ -1,0 +1,113 @@
+-- A mixer that adopted a state is in order.
+use Rattle.std.proofs.Common.{◌≡◌, ℕ, ◌+◌, true, false, true≢false, List, [], ◌∷◌, ◌++◌, length, Option, Some, None, refl, sym, ap, subst, ◌∙◌, arith}
+use Rattle.std.proofs.lemmas.List.{length-append}
+use Rattle.af_base.specs.declared.state.FastState.{FastState}
+use Rattle.af_model.specs.declared.states.ObserverEvent.{ObserverEvent}
+use Rattle.af_model.specs.declared.states.ObserverEvent.TheVariants.{SawNext, Ack}
+use Rattle.af_model.specs.declared.states.ObserverEvent.TheVariants as observer
+use Rattle.af_model.specs.declared.plain_calls.Poll.{Poll}
+use Rattle.af_model.specs.declared.plain_calls.Poll.TheVariants.{Nothing, Same, New}
+use Rattle.af_model.specs.Cycles.{state_of, last_used, cold_done}
+use Rattle.af_model.proofs.UsedStates.{state_of-before, state_of-newest, cold_done-before, UseUpTo-more}
+use Rattle.af_server.specs.Order.{ServerState}
+use Rattle.af_stateq.specs.Answers.{WasPolled}
+use Rattle.af_stateq.specs.Laws.{polled_states}
+use Rattle.af_stateq.specs.Observes.{Observes, InOrder}
+use Rattle.af_stateq.specs.Shelved.{no_state}
+use Rattle.af_link.specs.declared.names.StreamNames.{StreamNames}
+use Rattle.af_fast.specs.Held.{stream_fits}
+use Rattle.af_fast.specs.Mixer.{MixerState, IsInOrder, adopted_states, is_over}
+
+-- a look that found nothing new
+polled-same : (y : FastState) (es : List (ObserverEvent ServerState)) (k : ℕ) → polled_states y (es ++ SawNext k None [] ∷ []) ≡ polled_states y es
+polled-same y [] k = refl
+polled-same y (SawNext n (Some x) items ∷ es) k = polled-same x es k
+polled-same y (SawNext n None items ∷ es) k = polled-same y es k
+polled-same y (Ack n items ∷ es) k = ap (λ (l : List FastState). y ∷ l) (polled-same y es k)
+polled-same y (observer.Learn c ∷ es) k = polled-same y es k
+
+-- a look that took a state, which was acknowledged
+polled-new : (y : FastState) (es : List (ObserverEvent ServerState)) (k n : ℕ) (x : FastState) (came back : List (Option ServerState))
+    → polled_states y ((es ++ SawNext k (Some x) came ∷ []) ++ Ack n back ∷ []) ≡ polled_states y es ++ x ∷ []
+polled-new y [] k n x came back = refl
+polled-new y (SawNext m (Some z) items ∷ es) k n x came back = polled-new z es k n x came back
+polled-new y (SawNext m None items ∷ es) k n x came back = polled-new y es k n x came back
+polled-new y (Ack m items ∷ es) k n x came back = ap (λ (l : List FastState). y ∷ l) (polled-new y es k n x came back)
+polled-new y (observer.Learn c ∷ es) k n x came back = polled-new y es k n x came back
+
+-- a mixer whose observer has the same states
+same_states : (m : MixerState) (o : Observes ServerState StreamNames) → IsInOrder m → InOrder stream_fits o → o.past.number ≡ m.observer.past.number → o.current ≡ m.observer.current
+    → polled_states no_state o.past.events ≡ adopted_states m → IsInOrder (record m { observer = o; adopted = true })
+same_states m o k order number current states = record {
+  observer = order;
+  room = record { frames = k.room.frames; cycles = k.room.cycles; entries = k.room.entries; rest = k.room.rest };
+  follows = record {
+    counted = ap length states ∙ k.follows.counted ∙ sym number;
+    current = subst (λ (x : List FastState × ℕ × Option FastState). state_of x.0 x.1 ≡ x.2) (λ i. (sym states i, sym number i, sym current i)) k.follows.current;
+    used = k.follows.used;
+    low = omega (arith, k.follows.low, number);
+    high = omega (arith, k.follows.high, number);
+    still = (λ no. absurd (true≢false no));
+    over = (λ yes'. number ∙ k.follows.over yes');
+    few = k.follows.few;
+  };
+  exited = k.exited;
+  cold = k.cold ∙ ap (λ (xs : List FastState). cold_done xs m.log.entries) (sym states);
+  last = k.last ∙ ap (λ (xs : List FastState). state_of xs (last_used m.log.entries)) (sym states);
+  reports = record { number = k.reports.number; slots_are = k.reports.slots_are; whole = k.reports.whole; few = k.reports.few };
+}
+
+-- a mixer whose observer has one state more
+next_state : (m : MixerState) (o : Observes ServerState StreamNames) (x : FastState) → IsInOrder m → is_over m ≡ false → m.adopted ≡ false → InOrder stream_fits o → o.past.number ≡ m.observer.past.number + 1 → o.current ≡ Some x
+    → polled_states no_state o.past.events ≡ adopted_states m ++ x ∷ [] → IsInOrder (record m { observer = o; adopted = true })
+next_state m o x k goes turn order number current states =
+    let xs : List FastState = adopted_states m in
+    let still = k.follows.still turn in
+    let long : length xs ≡ last_used m.log.entries = k.follows.counted ∙ still in
+    record {
+      observer = order;
+      room = record { frames = k.room.frames; cycles = k.room.cycles; entries = k.room.entries; rest = k.room.rest };
+      follows = record {
+        counted = ap length states ∙ length-append xs (x ∷ []) ∙ ap (λ n. n + 1) k.follows.counted ∙ sym number;
+        current = subst (λ (y : List FastState × ℕ × Option FastState). state_of y.0 y.1 ≡ y.2) (λ i. (sym states i, (ap (λ n. n + 1) k.follows.counted ∙ sym number) i, sym current i)) (state_of-newest xs x);
+        used = k.follows.used;
+        low = omega (arith, still, number);
+        high = omega (arith, still, number);
+        still = (λ no. absurd (true≢false no));
+        over = (λ yes'. absurd (true≢false (sym yes' ∙ goes)));
+        few = k.follows.few;
+      };
+      exited = k.exited;
+      cold = k.cold ∙ sym (cold_done-before xs x m.log.entries (UseUpTo-more (last_used m.log.entries) (length xs) m.log.entries (omega (arith, long)) k.follows.used)) ∙ ap (λ (ys : List FastState). cold_done ys m.log.entries) (sym states);
+      last = k.last ∙ sym (state_of-before xs x (last_used m.log.entries) (omega (arith, long))) ∙ ap (λ (ys : List FastState). state_of ys (last_used m.log.entries)) (sym states);
+      reports = record { number = k.reports.number; slots_are = k.reports.slots_are; whole = k.reports.whole; few = k.reports.few };
+    }
+
+-- whatever the poll found
+pub polled_order : (m : MixerState) (o : Observes ServerState StreamNames) (poll : Poll) (s s' : ℕ) → IsInOrder m → is_over m ≡ false → m.adopted ≡ false → InOrder stream_fits o → WasPolled m.observer poll o s s'
+    → IsInOrder (record m { observer = o; adopted = true })
+polled_order m o Nothing s s' k goes turn order (none, is, stepped) =
+    same_states m o k order (ap (λ (y : Observes ServerState StreamNames). y.past.number) is) (ap (λ (y : Observes ServerState StreamNames). y.current) is)
+    (ap (λ (y : Observes ServerState StreamNames). polled_states no_state y.past.events) is ∙ polled-same no_state m.observer.past.events m.observer.past.number)
+polled_order m o Same s s' k goes turn order (some, is, stepped) =
+    same_states m o k order (ap (λ (y : Observes ServerState StreamNames). y.past.number) is) (ap (λ (y : Observes ServerState StreamNames). y.current) is)
+    (ap (λ (y : Observes ServerState StreamNames). polled_states no_state y.past.events) is ∙ polled-same no_state m.observer.past.events m.observer.past.number)
+polled_order m o (New number) s s' k goes turn order (next, (x, took), stepped) =
+    next_state m o x k goes turn order (ap (λ (y : Observes ServerState StreamNames). y.past.number) took.2) (ap (λ (y : Observes ServerState StreamNames). y.current) took.2)
+    (ap (λ (y : Observes ServerState StreamNames). polled_states no_state y.past.events) took.2 ∙ polled-new no_state m.observer.past.events (m.observer.past.number + 1) (m.observer.past.number + 1) x took.0 took.1)
+
+-- it is over, and nothing is polled
+pub over_order : (m : MixerState) → IsInOrder m → IsInOrder (record m { adopted = true })
+over_order m k = same_states m m.observer k k.observer refl refl refl
+
+-- it is over, and nothing is mixed
+pub rest_order : (m : MixerState) → IsInOrder m → is_over m ≡ true → IsInOrder (record m { adopted = false })
+rest_order m k over = record {
+  observer = k.observer;
+  room = record { frames = k.room.frames; cycles = k.room.cycles; entries = k.room.entries; rest = k.room.rest };
+  follows = record { counted = k.follows.counted; current = k.follows.current; used = k.follows.used; low = k.follows.low; high = k.follows.high; still = (λ _. k.follows.over over); over = k.follows.over; few = k.follows.few };
+  exited = k.exited;
+  cold = k.cold;
+  last = k.last;
+  reports = record { number = k.reports.number; slots_are = k.reports.slots_are; whole = k.reports.whole; few = k.reports.few };
+}

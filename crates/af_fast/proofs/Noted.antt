@@ -1,0 +1,149 @@
+-- A mixer with one entry more is in order, and the entry is a legal one.
+use Rattle.std.proofs.Common.{◌≡◌, ℕ, suc, ◌+◌, ◌-◌, ◌*◌, ◌<◌, ◌≤◌, ◌||◌, Bool, true, false, if◌then◌else◌, List, [], ◌∷◌, ◌++◌, length, Option, Some, None, refl, sym, ap, subst, ◌∙◌, arith}
+use Rattle.std.proofs.lemmas.List.{length-append}
+use Rattle.std.proofs.Math.Nat.{suc-mul}
+use Rattle.af_base.specs.declared.log.CycleEntry.{CycleEntry}
+use Rattle.af_base.specs.declared.report.Report.{Report}
+use Rattle.af_base.specs.declared.report.SlotReport.{SlotReport}
+use Rattle.af_base.specs.declared.seen.Seen.{Seen}
+use Rattle.af_base.specs.declared.state.FastState.{FastState}
+use Rattle.af_base.specs.Log.{slots, entry_slot}
+use Rattle.af_model.specs.declared.newest.WriterEvent.{WriterEvent}
+use Rattle.af_model.specs.declared.newest.WriterEvent.TheVariants.{Store}
+use Rattle.af_model.specs.declared.newest.WriterEvent.TheVariants as writes
+use Rattle.af_model.specs.Cycles.{state_of, last_used, has_exit, is_exit, is_cold, cold_of, cold_done}
+use Rattle.af_model.specs.Reports.{Known, no_slot, no_report, report_at, one_if, is_full, is_partial, is_empty, counted_look, carried, slot_report}
+use Rattle.af_model.specs.StateQueue.{carries, slot_of}
+use Rattle.af_model.proofs.UsedStates.{last_used-push, has_exit-push, cold_done-push, UseUpTo-push, UseUpTo-more}
+use Rattle.af_latest.specs.Laws.{last_of}
+use Rattle.af_stateq.specs.Observes.{InOrder}
+use Rattle.af_fast.specs.Held.{stream_fits}
+use Rattle.af_fast.specs.Known.{known}
+use Rattle.af_fast.specs.Mixer.{MixerState, IsInOrder, adopted_states}
+use Rattle.af_fast.specs.Mixing.{Reports, notes}
+
+last_of-push : (x : Report) (ws : List (WriterEvent Report)) (r : Report) → last_of x (ws ++ Store r ∷ []) ≡ r
+last_of-push x [] r = refl
+last_of-push x (Store y ∷ ws) r = last_of-push y ws r
+last_of-push x (writes.Learn c ∷ ws) r = last_of-push x ws r
+
+one_few : (b : Bool) → one_if b ≤ 1
+one_few true = omega arith
+one_few false = omega arith
+
+-- a count grows by one at most
+abbrev IsFew : ℕ → SlotReport → Type 0
+IsFew bound r = (r.fulls < bound) × (r.partials < bound) × (r.empties < bound)
+
+look_few : (asked generation bound : ℕ) (answer : Seen) (k : Known) (r : SlotReport) → IsFew bound r → IsFew (bound + 1) (counted_look asked generation answer k r)
+look_few asked generation bound answer k r few = (omega (arith, few, one_few (is_full asked answer)), omega (arith, few, one_few (is_partial asked answer)), omega (arith, few, one_few (is_empty answer)))
+
+base_few : (b : Bool) (bound : ℕ) (r : SlotReport) → 0 < bound → IsFew bound r → IsFew bound (if b then r else no_slot)
+base_few true bound r some few = few
+base_few false bound r some few = (some, some, some)
+
+more_few : (bound : ℕ) (r : SlotReport) → IsFew bound r → IsFew (bound + 1) r
+more_few bound r few = (omega (arith, few), omega (arith, few), omega (arith, few))
+
+by_carried : (b : Bool) (asked generation bound : ℕ) (answer : Seen) (k : Known) (r base : SlotReport) → IsFew bound r → IsFew bound base → IsFew (bound + 1) (if b then counted_look asked generation answer k base else r)
+by_carried true asked generation bound answer k r base few few_base = look_few asked generation bound answer k base few_base
+by_carried false asked generation bound answer k r base few few_base = more_few bound r few
+
+slot_few : (asked bound : ℕ) (x y : Option FastState) (entry : CycleEntry) (k : Known) (i : ℕ) (r : SlotReport) → 0 < bound → IsFew bound r → IsFew (bound + 1) (slot_report asked x y entry k i r)
+slot_few asked bound None y entry k i r some few = more_few bound r few
+slot_few asked bound (Some x) y entry k i r some few =
+    by_carried (carries x i) asked (slot_of x i).generation bound (entry_slot entry i).seen k r (if carried y i then r else no_slot) few (base_few (carried y i) bound r some few)
+
+-- what a cycle did before its entry is noted: the frames in the log grew, and the observer and the pipe's end went on
+pub record IsPlayed (m n : MixerState) : Type 0 where
+  pub same : n ≡ record m { adopted = false; observer = n.observer; pipe = n.pipe; log = n.log }
+  pub observer : n.observer ≡ record m.observer { items = n.observer.items }
+  pub order : InOrder stream_fits n.observer
+  pub entries : (n.log.entries ≡ m.log.entries) × (n.log.room ≡ m.log.room) × (m.log.frame_room ≤ n.log.frame_room)
+  pub few : length n.log.frames ≤ length m.log.frames + slots * m.frames
+
+module _ (m n l : MixerState) (entry : CycleEntry) (k : IsInOrder m) (open_log : length m.log.entries < m.cycles) (runs : m.exited ≡ false) (played : IsPlayed m n)
+    (state : entry.state ≡ m.observer.past.number) (noted : l ≡ notes m.observer.current entry l.writer l.reports n) (r : Reports m.observer.current entry n l) where
+  abbrev es : List CycleEntry
+  es = m.log.entries
+
+  abbrev xs : List FastState
+  xs = adopted_states m
+
+  -- the mixer, by what it was before
+  abbrev pub now : MixerState
+  now = record m {
+    observer = n.observer;
+    writer = l.writer;
+    pipe = n.pipe;
+    log = record n.log { entries = es ++ entry ∷ [] };
+    adopted = false;
+    exited = is_exit entry.cycle;
+    cold = if is_cold entry.cycle then cold_of m.observer.current else m.cold;
+    last = m.observer.current;
+    reports = l.reports;
+  }
+
+  pub is_now : l ≡ now
+  is_now = noted ∙ ap (λ (y : MixerState). notes m.observer.current entry l.writer l.reports y) played.same ∙ ap (λ (e : List CycleEntry). record now { log = record n.log { entries = e ++ entry ∷ [] } }) played.entries.0
+
+  number_is : n.observer.past.number ≡ m.observer.past.number
+  number_is = ap (λ y. y.past.number) played.observer
+
+  states_are : adopted_states now ≡ xs
+  states_are = ap (λ y. Rattle.af_stateq.specs.Laws.polled_states Rattle.af_stateq.specs.Shelved.no_state y.past.events) played.observer
+
+  used_is : last_used (es ++ entry ∷ []) ≡ m.observer.past.number
+  used_is = last_used-push es entry ∙ state
+
+  current_is : state_of xs (last_used (es ++ entry ∷ [])) ≡ m.observer.current
+  current_is = ap (state_of xs) used_is ∙ k.follows.current
+
+  one_longer : length (es ++ entry ∷ []) ≡ length es + 1
+  one_longer = length-append es (entry ∷ [])
+
+  less_to_come : (m.cycles - length es) * m.frames ≡ (m.cycles - (length es + 1)) * m.frames + m.frames
+  less_to_come = ap (λ a. a * m.frames) (let e : m.cycles - length es ≡ suc (m.cycles - (length es + 1)) = omega arith in e) ∙ suc-mul (m.cycles - (length es + 1)) m.frames
+
+  frames_are : n.frames ≡ m.frames
+  frames_are = ap (λ (y : MixerState). y.frames) played.same
+
+  now_in_order : IsInOrder now
+  now_in_order = record {
+    observer = played.order;
+    room = record {
+      frames = k.room.frames;
+      cycles = k.room.cycles;
+      entries = (omega (arith, one_longer), played.entries.1 ∙ k.room.entries.1);
+      rest = (let longer = ap (λ a. (m.cycles - a) * m.frames) one_longer in omega (arith, k.room.rest, less_to_come, longer, played.few, played.entries.2));
+    };
+    follows = record {
+      counted = ap length states_are ∙ k.follows.counted ∙ sym number_is;
+      current = ap (λ (y : List FastState). state_of y n.observer.past.number) states_are ∙ ap (state_of xs) number_is ∙ k.follows.current ∙ sym (ap (λ y. y.current) played.observer);
+      used = subst (λ a. Rattle.af_model.specs.Cycles.UseUpTo a (es ++ entry ∷ [])) (sym used_is)
+          (UseUpTo-push m.observer.past.number es entry (UseUpTo-more (last_used es) m.observer.past.number es k.follows.low k.follows.used) (omega (arith, state)));
+      low = omega (arith, used_is, number_is);
+      high = omega (arith, used_is, number_is);
+      still = (λ _. number_is ∙ sym used_is);
+      over = (λ _. number_is ∙ sym used_is);
+      few = omega (arith, used_is, one_longer, k.follows.high, k.follows.few);
+    };
+    exited = sym (has_exit-push es entry ∙ ap (λ b. b || is_exit entry.cycle) (sym k.exited ∙ runs));
+    cold = sym (ap (λ (y : List FastState). cold_done y (es ++ entry ∷ [])) states_are ∙ cold_done-push xs es entry
+        ∙ ap (λ (y : Option FastState × ℕ). if is_cold entry.cycle then cold_of y.0 else y.1) (λ i. ((ap (state_of xs) state ∙ k.follows.current) i, sym k.cold i)));
+    last = sym (ap (λ (y : List FastState). state_of y (last_used (es ++ entry ∷ []))) states_are ∙ current_is);
+    reports = record {
+      number = ap (λ (ws : List (WriterEvent Report)). (last_of no_report ws).cycle) r.stored ∙ ap (λ (y : Report). y.cycle) (last_of-push no_report n.writer.events r.report) ∙ r.number ∙ ap (λ (e : List CycleEntry). length e + 1) played.entries.0 ∙ sym one_longer;
+      slots_are = ap (λ (ws : List (WriterEvent Report)). (last_of no_report ws).slots) r.stored ∙ ap (λ (y : Report). y.slots) (last_of-push no_report n.writer.events r.report) ∙ r.slots_are;
+      whole = r.whole;
+      few = (λ i lt.
+          let before = k.reports.few i lt in
+          let reports_same = ap (λ (y : MixerState). report_at y.reports i) played.same in
+          let bound : length es + 1 + 1 ≡ length (es ++ entry ∷ []) + 1 = omega (arith, one_longer) in
+          subst (λ (y : ℕ × SlotReport). IsFew y.0 y.1) (λ j. (bound j, sym (r.each i lt) j))
+          (slot_few n.frames (length es + 1) m.observer.current n.last entry (known n.observer i) i (report_at n.reports i) (omega arith) (subst (IsFew (length es + 1)) (sym reports_same) before)));
+    };
+  }
+
+  pub noted_order : IsInOrder l
+  noted_order = subst IsInOrder (sym is_now) now_in_order

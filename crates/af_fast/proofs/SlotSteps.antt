@@ -1,0 +1,162 @@
+-- How the slots of a mix are played, one after the other.
+use Rattle.std.proofs.Common.{◌≡◌, ℕ, zero, suc, ◌+◌, ◌≤◌, ◌<◌, ◌==◌, ◌⊎◌, inl, inr, Bool, true, false, true≢false, ne_eqb, if◌then◌else◌, List, ◌++◌, length, length-set, map, Option, Some, None, slice_set, refl, sym, ap, subst, ◌∙◌, append_assoc, arith}
+use Rattle.std.proofs.lemmas.Bool.{cases_eq}
+use Rattle.std.proofs.lemmas.List.{get_or-set_same, get_or-set_other, length-append}
+use Rattle.af_base.specs.declared.frame.Frame.{Frame}
+use Rattle.af_base.specs.declared.log.CycleEntry.{CycleEntry}
+use Rattle.af_base.specs.declared.log.SlotEntry.{SlotEntry}
+use Rattle.af_base.specs.declared.seen.Seen.{Seen}
+use Rattle.af_base.specs.declared.state.FastState.{FastState}
+use Rattle.af_base.specs.Log.{slots, absent, entry_slot, count_seen}
+use Rattle.af_base.specs.Sample.{packed_word}
+use Rattle.af_model.specs.Cycles.{place_of, taken_before}
+use Rattle.af_model.specs.StateQueue.{carries}
+use Rattle.af_model.proofs.EntrySlots.{with_slot, slot_filled, slot_kept, taken_kept, taken_stay, taken_added}
+use Rattle.af_server.specs.Order.{ServerState}
+use Rattle.af_stateq.specs.Mutates.{at}
+use Rattle.af_stateq.specs.Observes.{Observes}
+use Rattle.af_link.specs.declared.names.StreamNames.{StreamNames}
+use Rattle.af_fast.specs.Slots.{LogsSlot, SlotPlayed, PlayedTo}
+
+below : (i j : ℕ) → j < suc i → (j < i) ⊎ (j ≡ i)
+below i j lt = elim (cases_eq j i) [ inl e ↦ inr e | inr other ↦ inl (omega (arith, other)) ]
+
+-- what holds below a number, and of it, holds up to it
+up_to : (P : ℕ → Type 0) (i : ℕ) → ((j : ℕ) → j < i → P j) → P i → (j : ℕ) → j < suc i → P j
+up_to P i before here j lt = elim (below i j lt) [ inl less ↦ before j less | inr e ↦ subst P (sym e) here ]
+
+pub place_within : (n : ℕ) (answer : Seen) → place_of n answer + count_seen answer ≤ n + count_seen answer
+place_within n answer = by_count (count_seen answer)
+  where
+    by_count : (count : ℕ) → (if count == 0 then 0 else n) + count ≤ n + count
+    by_count zero = omega arith
+    by_count (suc k) = elim (cases_eq (suc k) 0) [ inl e ↦ absurd (omega (arith, e)) | inr other ↦ subst (λ (b : Bool). (if b then 0 else n) + suc k ≤ n + suc k) (sym (ne_eqb (suc k) 0 other)) (omega arith) ]
+
+module _ (asked : ℕ) (x : FastState) (place : ℕ) (o : Observes ServerState StreamNames) (first : List Frame) (entry : CycleEntry) where
+  abbrev Played : Observes ServerState StreamNames → List Frame → CycleEntry → ℕ → Type 0
+  Played o' frames entry' i = PlayedTo asked x place o o' first frames entry entry' i
+
+  -- a slot that has no track
+  pub rest_step : (o' : Observes ServerState StreamNames) (frames : List Frame) (entry' : CycleEntry) (i : ℕ) → Played o' frames entry' i → 0 < i → i < slots → carries x i ≡ false → Played o' frames entry' (suc i)
+  rest_step o' frames entry' i p low lt off =
+      let here = p.rest i (omega arith) lt in
+      let nothing : count_seen (entry_slot entry' i).seen ≡ 0 = ap (λ (s : SlotEntry). count_seen s.seen) here.1 in
+      record {
+        whole = p.whole;
+        others = p.others;
+        same = p.same;
+        submix = p.submix;
+        grown = p.grown;
+        grown_is = p.grown_is;
+        total = omega (arith, p.total, nothing);
+        placed = up_to (λ j. (entry_slot entry' j).first ≡ place_of (place + taken_before entry' j) (entry_slot entry' j).seen) i p.placed
+            (subst (λ (s : SlotEntry). s.first ≡ place_of (place + taken_before entry' i) s.seen) (sym here.1) refl);
+        inside = up_to (λ j. (entry_slot entry' j).first + count_seen (entry_slot entry' j).seen ≤ length frames) i p.inside
+            (subst (λ (s : SlotEntry). s.first + count_seen s.seen ≤ length frames) (sym here.1) (omega arith));
+        within = up_to (λ j. count_seen (entry_slot entry' j).seen ≤ asked) i p.within (omega (arith, nothing));
+        tracks = (λ j some lt' on. elim (below i j lt') [ inl less ↦ p.tracks j some less on | inr e ↦ absurd (true≢false (sym on ∙ ap (carries x) e ∙ off)) ]);
+        quiet = (λ j some lt' no. elim (below i j lt') [ inl less ↦ p.quiet j some less no | inr e ↦ subst (λ j. (at o'.items j ≡ at o.items j) × (entry_slot entry' j ≡ absent)) (sym e) here ]);
+        rest = (λ j le lt'. p.rest j (omega arith) lt');
+      }
+
+  -- a slot that has one
+  module _ (o' o'' : Observes ServerState StreamNames) (frames frames'' : List Frame) (entry' : CycleEntry) (i : ℕ) (e : SlotEntry)
+      (p : Played o' frames entry' i) (low : 0 < i) (lt : i < slots) (on : carries x i ≡ true) (long : length o'.items ≡ slots) (q : LogsSlot asked i o' o'' frames frames'' e) where
+    abbrev new_items : List (Option ServerState)
+    new_items = slice_set o'.items i (Some q.plays.new)
+
+    abbrev filled : CycleEntry
+    filled = with_slot entry' i e
+
+    item_here : at new_items i ≡ Some q.plays.new
+    item_here = get_or-set_same o'.items i (Some q.plays.new) None (omega (arith, long))
+
+    item_there : (j : ℕ) → (j ≡ i → ⊥) → at new_items j ≡ at o'.items j
+    item_there j other = get_or-set_other o'.items i j (Some q.plays.new) None other
+
+    slot_here : entry_slot filled i ≡ e
+    slot_here = slot_filled entry' i e (omega (arith, p.whole))
+
+    slot_there : (j : ℕ) → (j ≡ i → ⊥) → entry_slot filled j ≡ entry_slot entry' j
+    slot_there j other = slot_kept entry' i j e (λ same. other (sym same))
+
+    not_same : (j : ℕ) → j < i → j ≡ i → ⊥
+    not_same j less same = omega (arith, same)
+
+    end : length frames ≡ place + taken_before filled i
+    end = p.total ∙ ap (λ n. place + n) (sym (taken_kept entry' i i e (omega arith)))
+
+    long_frames : length (frames ++ q.added) ≡ length frames + count_seen e.seen
+    long_frames = length-append frames q.added ∙ ap (λ n. length frames + n) q.as_many
+
+    played_before : (j : ℕ) → 0 < j → j < i → carries x j ≡ true → SlotPlayed asked (at o.items j) (at new_items j) (frames ++ q.added) (entry_slot filled j)
+    played_before j some less on' =
+        let old = p.tracks j some less on' in
+        let same = slot_there j (not_same j less) in
+        let item = item_there j (not_same j less) in
+        let stay = taken_stay frames q.added (entry_slot entry' j) (p.inside j less) in
+        subst (λ (s : SlotEntry). SlotPlayed asked (at o.items j) (at new_items j) (frames ++ q.added) s) (sym same) (record {
+          old = old.old;
+          new = old.new;
+          was = old.was;
+          is = item ∙ old.is;
+          plays = old.plays;
+          frames_are = old.frames_are ∙ ap (λ (fs : List Frame). old.old.pass.part.frames ++ map packed_word fs) (sym stay);
+        })
+
+    played_here : SlotPlayed asked (at o.items i) (at new_items i) (frames ++ q.added) (entry_slot filled i)
+    played_here = subst (λ (s : SlotEntry). SlotPlayed asked (at o.items i) (at new_items i) (frames ++ q.added) s) (sym slot_here) (record {
+      old = q.plays.old;
+      new = q.plays.new;
+      was = sym (p.rest i (omega arith) lt).0 ∙ q.plays.was;
+      is = item_here;
+      plays = q.plays.plays;
+      frames_are = q.plays.frames ∙ ap (λ (fs : List Frame). q.plays.old.pass.part.frames ++ map packed_word fs) (sym (taken_added frames q.added e q.as_many q.place));
+    })
+
+    step : Played (record o' { items = new_items }) (frames ++ q.added) filled (suc i)
+    step = record {
+      whole = length-set entry'.slots i e ∙ p.whole;
+      others = ap (λ (y : CycleEntry). record y { slots = slice_set entry'.slots i e }) p.others;
+      same = ap (λ (y : Observes ServerState StreamNames). record y { items = new_items }) p.same;
+      submix = (slot_there 0 (λ same. omega (arith, same)) ∙ p.submix.0, item_there 0 (λ same. omega (arith, same)) ∙ p.submix.1);
+      grown = p.grown ++ q.added;
+      grown_is = ap (λ (fs : List Frame). fs ++ q.added) p.grown_is ∙ append_assoc first p.grown q.added;
+      total = long_frames ∙ (let here = ap (λ (s : SlotEntry). count_seen s.seen) slot_here in omega (arith, end, here));
+      placed = up_to (λ j. (entry_slot filled j).first ≡ place_of (place + taken_before filled j) (entry_slot filled j).seen) i
+          (λ j less. subst (λ (s : SlotEntry × ℕ). s.0.first ≡ place_of (place + s.1) s.0.seen) (λ k. (sym (slot_there j (not_same j less)) k, sym (taken_kept entry' i j e (omega arith)) k)) (p.placed j less))
+          (subst (λ (s : SlotEntry × ℕ). s.0.first ≡ place_of s.1 s.0.seen) (λ k. (sym slot_here k, end k)) q.place);
+      inside = up_to (λ j. (entry_slot filled j).first + count_seen (entry_slot filled j).seen ≤ length (frames ++ q.added)) i
+          (λ j less. subst (λ (s : SlotEntry). s.first + count_seen s.seen ≤ length (frames ++ q.added)) (sym (slot_there j (not_same j less))) (omega (arith, p.inside j less, long_frames)))
+          (subst (λ (s : SlotEntry). s.first + count_seen s.seen ≤ length (frames ++ q.added)) (sym slot_here) (omega (arith, q.place, place_within (length frames) e.seen, long_frames)));
+      within = up_to (λ j. count_seen (entry_slot filled j).seen ≤ asked) i
+          (λ j less. subst (λ (s : SlotEntry). count_seen s.seen ≤ asked) (sym (slot_there j (not_same j less))) (p.within j less))
+          (subst (λ (s : SlotEntry). count_seen s.seen ≤ asked) (sym slot_here) q.within);
+      tracks = (λ j some less on'. elim (below i j less) [
+        | inl before ↦ played_before j some before on'
+        | inr same ↦ subst (λ k. SlotPlayed asked (at o.items k) (at new_items k) (frames ++ q.added) (entry_slot filled k)) (sym same) played_here
+      ]);
+      quiet = (λ j some less no. elim (below i j less) [
+        | inl before ↦ (item_there j (not_same j before) ∙ (p.quiet j some before no).0, slot_there j (not_same j before) ∙ (p.quiet j some before no).1)
+        | inr same ↦ absurd (true≢false (sym on ∙ ap (carries x) (sym same) ∙ no))
+      ]);
+      rest = (λ j le less.
+          let other : j ≡ i → ⊥ = (λ same. omega (arith, same)) in
+          let old = p.rest j (omega arith) less in
+          (item_there j other ∙ old.0, slot_there j other ∙ old.1));
+    }
+
+    pub play_step : Played o'' frames'' filled (suc i)
+    play_step = subst (λ (y : Observes ServerState StreamNames × List Frame). Played y.0 y.1 filled (suc i)) (λ k. (sym q.plays.is k, sym q.grown k)) step
+
+  -- any slot, by what its call says
+  pub slot_step : (o' o'' : Observes ServerState StreamNames) (frames frames'' : List Frame) (entry' entry'' : CycleEntry) (i : ℕ) → Played o' frames entry' i → 0 < i → i < slots → length o'.items ≡ slots
+      → (carries x i ≡ true → (e : SlotEntry) × LogsSlot asked i o' o'' frames frames'' e × (entry'' ≡ with_slot entry' i e))
+      → (carries x i ≡ false → (o'' ≡ o') × (frames'' ≡ frames) × (entry'' ≡ entry'))
+      → (b : Bool) → carries x i ≡ b → Played o'' frames'' entry'' (suc i)
+  slot_step o' o'' frames frames'' entry' entry'' i p low lt long plays rests true on =
+      let found = plays on in
+      subst (λ (y : CycleEntry). Played o'' frames'' y (suc i)) (sym found.2) (play_step o' o'' frames frames'' entry' i found.0 p low lt on long found.1)
+  slot_step o' o'' frames frames'' entry' entry'' i p low lt long plays rests false off =
+      let same = rests off in
+      subst (λ (y : Observes ServerState StreamNames × List Frame × CycleEntry). Played y.0 y.1 y.2 (suc i)) (λ k. (sym same.0 k, sym same.1 k, sym same.2 k)) (rest_step o' frames entry' i p low lt off)

@@ -1,0 +1,14 @@
+use Rattle.std.proofs.Common.{◌≡◌, ℕ, ◌<◌, length, replicate, true, slice_index_or}
+use Rattle.af_base.specs.Log.{slots, absent}
+use Rattle.af_model.specs.Cycles.{is_mixed, mix_scale, mono_marks}
+use Rattle.af_fast.proofs.slots.marked_entry.Given as goal
+
+abbrev pub invariant-loop-slot : goal.invariant-loop-slot
+invariant-loop-slot l = record {
+  state : l.entry.state ≡ l.number;
+  mixed : is_mixed l.entry.cycle ≡ true;
+  absent_all : l.entry.slots ≡ replicate slots absent;
+  whole : length l.entry.scales ≡ slots;
+  scales : (i : ℕ) → i < l.slot → slice_index_or l.entry.scales i 0 ≡ mix_scale l.state i;
+  mono : l.entry.mono ≡ mono_marks l.state l.slot;
+}

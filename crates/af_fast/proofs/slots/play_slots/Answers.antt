@@ -1,0 +1,61 @@
+use Rattle.std.proofs.Common.{◌≡◌, ℕ, ◌+◌, ◌*◌, true, length, ap, subst, refl, ◌∙◌, arith}
+use Rattle.af_base.specs.declared.log.CycleEntry.{CycleEntry}
+use Rattle.af_base.specs.declared.log.SlotEntry.{SlotEntry}
+use Rattle.af_base.specs.Log.{slots}
+use Rattle.af_model.specs.Cycles.{taken_before}
+use Rattle.af_model.specs.StateQueue.{carries}
+use Rattle.af_model.proofs.EntrySlots.{with_slot}
+use Rattle.af_fast.specs.Slots.{LogsSlot, PlayedTo, PlaysSlots}
+use Rattle.af_fast.proofs.SlotSteps.{slot_step}
+use Rattle.af_fast.proofs.SlotsDone.{begins, ends, room_for, taken_few, one_more}
+use Rattle.af_fast.proofs.slots.play_slots.Goals as goal
+
+pub loop-slot-init : goal.loop-slot-init
+loop-slot-init g c = record {
+  low = omega arith;
+  played = begins (length c.args.buffer.now) c.number.result c.args.state.now c.args.observer.now c.args.pipe.now c.log_pipe.new.pipe c.args.log.now.frames c.log_pipe.new.log.frames c.marked_entry-entry.result c.log_pipe.result c.marked_entry-entry.ensures c.log_pipe.ensures.logs;
+  order = c.requires.order;
+  length_is = c.log_pipe.ensures.length;
+  entries = c.log_pipe.ensures.entries;
+  room = c.log_pipe.ensures.room;
+  stepped = omega (arith, c.log_pipe.ensures.steps);
+}
+
+pub play_slot-requires-clause-room : goal.play_slot-requires-clause-room
+play_slot-requires-clause-room g c =
+    let p = c.loop-slot.invariant.played in
+    let fits = room_for (length c.args.buffer.now) (length c.args.log.now.frames) (taken_before c.loop-slot.entry c.loop-slot.slot) c.loop-slot.slot c.args.log.now.frame_room
+    (taken_few (length c.args.buffer.now) c.loop-slot.entry c.loop-slot.slot p.within) (omega arith) c.requires.room in
+    omega (arith, fits, p.total, c.loop-slot.invariant.length_is, c.loop-slot.invariant.room)
+
+pub loop-slot-preserved : goal.loop-slot-preserved
+loop-slot-preserved g c =
+    let asked : ℕ = length c.args.buffer.now in
+    let i : ℕ = c.loop-slot.slot in
+    let begun : CycleEntry = with_slot c.marked_entry-entry.result 0 c.log_pipe.result in
+    let more : (i + 1) * (asked + 7) ≡ i * (asked + 7) + (asked + 7) = one_more i (asked + 7) in
+    record {
+      low = omega arith;
+      played = subst (λ (n : ℕ). PlayedTo asked c.args.state.now (length c.args.log.now.frames) c.args.observer.now c.play_slot.new.observer c.log_pipe.new.log.frames c.play_slot.new.log.frames begun c.play_slot.new.entry n) (omega arith) (
+          slot_step asked c.args.state.now (length c.args.log.now.frames) c.args.observer.now c.log_pipe.new.log.frames begun c.loop-slot.observer c.play_slot.new.observer c.loop-slot.log.frames c.play_slot.new.log.frames c.loop-slot.entry c.play_slot.new.entry i
+          c.loop-slot.invariant.played (omega arith) (omega arith) c.loop-slot.invariant.order.whole
+          (subst (λ (n : ℕ). carries c.args.state.now i ≡ true → (e : SlotEntry) × LogsSlot n i c.loop-slot.observer c.play_slot.new.observer c.loop-slot.log.frames c.play_slot.new.log.frames e × (c.play_slot.new.entry ≡ with_slot c.loop-slot.entry i e)) c.loop-slot.invariant.length_is c.play_slot.ensures.plays)
+          c.play_slot.ensures.rests (carries c.args.state.now i) refl);
+      order = c.play_slot.ensures.order;
+      length_is = c.play_slot.ensures.length ∙ c.loop-slot.invariant.length_is;
+      entries = (c.play_slot.ensures.entries.0 ∙ c.loop-slot.invariant.entries.0, c.play_slot.ensures.entries.1 ∙ c.loop-slot.invariant.entries.1);
+      room = omega (arith, c.play_slot.ensures.room, c.loop-slot.invariant.room);
+      stepped = omega (arith, more, c.play_slot.ensures.steps, c.loop-slot.invariant.stepped, c.loop-slot.invariant.length_is);
+    }
+
+pub returns-clause-plays : goal.returns-clause-plays
+returns-clause-plays g c =
+    subst (λ (n : ℕ). PlaysSlots (length c.args.buffer.now) n c.args.state.now c.args.observer.now c.loop-slot.observer c.args.pipe.now c.log_pipe.new.pipe c.args.log.now.frames c.loop-slot.log.frames c.loop-slot.entry) c.number.ensures (
+    ends (length c.args.buffer.now) c.number.result c.args.state.now c.args.observer.now c.args.pipe.now c.log_pipe.new.pipe c.args.log.now.frames c.log_pipe.new.log.frames c.marked_entry-entry.result c.log_pipe.result c.marked_entry-entry.ensures c.log_pipe.ensures.logs
+    c.loop-slot.observer c.loop-slot.log.frames c.loop-slot.entry (subst (λ (n : ℕ). PlayedTo (length c.args.buffer.now) c.args.state.now (length c.args.log.now.frames) c.args.observer.now c.loop-slot.observer c.log_pipe.new.log.frames c.loop-slot.log.frames (with_slot c.marked_entry-entry.result 0 c.log_pipe.result) c.loop-slot.entry n) (omega arith) c.loop-slot.invariant.played))
+
+pub returns-clause-steps : goal.returns-clause-steps
+returns-clause-steps g c =
+    let asked : ℕ = length c.args.buffer.now in
+    let all : c.loop-slot.slot * (asked + 7) ≡ slots * (asked + 7) = ap (λ n. n * (asked + 7)) (omega arith) in
+    omega (arith, all, c.loop-slot.invariant.stepped)

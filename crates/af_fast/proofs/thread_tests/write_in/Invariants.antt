@@ -1,0 +1,6 @@
+use Rattle.std.proofs.Common.{◌≡◌}
+use Rattle.af_fast.specs.Ready.{IsClientOf}
+use Rattle.af_fast.proofs.thread_tests.write_in.Given as goal
+
+abbrev pub invariant-loop : goal.invariant-loop
+invariant-loop g l = IsClientOf l.block l.client

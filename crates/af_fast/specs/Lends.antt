@@ -1,0 +1,27 @@
+-- What a mixer ends as, once a part that it lent comes back.
+use Rattle.std.specs.Borrow.{Lends, Fml, MutBor}
+use Rattle.af_server.specs.Order.{ServerState}
+use Rattle.af_stateq.specs.Observes.{Observes}
+use Rattle.af_link.specs.declared.names.StreamNames.{StreamNames}
+use Rattle.af_server.specs.contracts.server.Server.{the_row as server_row}
+use Rattle.af_link.specs.contracts.names.StreamNames.{the_row as names_row}
+use Rattle.af_stateq.specs.contracts.observer.Observer.{the_row as observer_row}
+use Rattle.af_link.specs.contracts.reports.ReportWriter.{the_row as writer_row}
+use Rattle.af_link.specs.contracts.ends.PipeOut.{the_row as pipe_row}
+use Rattle.af_link.specs.PipeEnds.{OutSide}
+use Rattle.af_link.specs.Reports.{WriterSide}
+use Rattle.af_fast.specs.contracts.mixer.FastMixer.{the_row}
+use Rattle.af_fast.specs.Held.{stream_fits}
+use Rattle.af_fast.specs.Mixer.{MixerState}
+
+-- its observer is the last value written through r
+abbrev pub lends_observer : MutBor MixerState → MutBor (Observes ServerState StreamNames) → Fml
+lends_observer m r = Lends the_row (observer_row server_row names_row names_row (record { fits = stream_fits })) m r (λ o. record m.now { observer = o })
+
+-- its end of the report is the last value written through r
+abbrev pub lends_writer : MutBor MixerState → MutBor WriterSide → Fml
+lends_writer m r = Lends the_row writer_row m r (λ w. record m.now { writer = w })
+
+-- its end of the pipe is the last value written through r
+abbrev pub lends_pipe : MutBor MixerState → MutBor OutSide → Fml
+lends_pipe m r = Lends the_row pipe_row m r (λ p. record m.now { pipe = p })

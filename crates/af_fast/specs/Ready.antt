@@ -1,0 +1,29 @@
+-- When the ends that a test moves are ready for its next call.
+use Rattle.std.specs.Prelude.{◌≡◌, ℕ, false, List}
+use Rattle.std.specs.List.{AllZip}
+use Rattle.af_cblk.specs.Sides.{Made, client_made}
+use Rattle.af_client.specs.Order.{ClientState, IsInOrder as IsClientInOrder}
+use Rattle.af_server.specs.Order.{ServerState}
+use Rattle.af_stateq.specs.Mutates.{Mutates}
+use Rattle.af_link.specs.Reports.{ReaderSide}
+use Rattle.af_link.specs.declared.links.Links.{Links}
+use Rattle.af_link.specs.declared.names.StreamNames.{StreamNames}
+use Rattle.af_fast.specs.Held.{NamesBlocks}
+use Rattle.af_fast.specs.Mixer.{MixerState, IsInOrder, IsLinked}
+
+-- The ends are those of these links. The mixer is in order between two cycles of so many frames, and the mutator makes no edit
+pub record IsReady (links : Links) (frames : ℕ) (m : Mutates ServerState StreamNames) (f : MixerState) (r : ReaderSide) : Type 0 where
+  pub linked : IsLinked links f
+  pub order : IsInOrder f
+  pub turn : (f.adopted ≡ false) × (f.frames ≡ frames)
+  pub names : NamesBlocks m.past.key links.streams.now
+  pub queue : m.past.queue ≡ links.queue.now
+  pub idle : m.editing ≡ false
+  pub report : r.cell ≡ links.report.now
+
+-- each client was made with the block of its place, and is in order
+abbrev pub IsClientOf : Made → ClientState → Type 0
+IsClientOf block c = (client_made c.pass ≡ block) × IsClientInOrder c
+
+abbrev pub AreClientsOf : List Made → List ClientState → Type 0
+AreClientsOf = AllZip IsClientOf

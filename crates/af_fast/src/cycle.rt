@@ -1,0 +1,129 @@
+//! One cycle: a poll, and then the mix.
+ghost use Rattle.std.specs.Prelude.{◌≡◌, ◌+◌, ◌*◌, ◌≤◌, true, false, length};
+ghost use Rattle.af_model.specs.Cycles.{cycle_of, is_mixed};
+ghost use Rattle.af_fast.specs.Mixer.{IsInOrder, IsLinked, MixerState, is_over};
+ghost use Rattle.af_fast.specs.Mixing.{Adopts, MixesOnce};
+
+use crate::mixer::FastMixer;
+use crate::slots::still_entry;
+use af_base::{Command, Cycle, FastState, Frame, Steps};
+use af_link::Links;
+use std::sync::ledger::Ledger;
+
+// What a cycle is by its state.
+fn cycle_of(done: u32, state: Option<FastState>) -> Cycle
+    ensures { result ≡ cycle_of done state }
+{
+    let Some(state) = state else {
+        return Cycle::Idle;
+    };
+    match state.command {
+        Command::Exit => Cycle::Exit,
+        Command::ColdIdle if state.cold_gen == done => Cycle::Idle,
+        Command::ColdIdle => Cycle::Cold,
+        Command::MixWrite => Cycle::Mixed,
+        _ => Cycle::Idle,
+    }
+}
+
+// Whether a cycle mixes.
+fn is_mixed(cycle: Cycle) -> bool
+    ensures { result ≡ is_mixed cycle }
+{
+    matches!(cycle, Cycle::Mixed)
+}
+
+impl FastMixer {
+    // Whether Exit was answered or the log is full.
+    fn is_over(&self) -> bool
+        ensures { result ≡ is_over self.now }
+    {
+        self.exited || self.log.len() == self.cycles
+    }
+
+    /// Polls once, and adopts a new state with its items. It does nothing where Exit was answered or the log is full. At most nine steps.
+    ///
+    /// It comes first, and then after each mix.
+    pub fn adopt<L: Ledger>(&mut self, links: &Links<'_>, steps: &mut Steps<L>)
+        requires linked { IsLinked links.now self.old }
+        requires order { IsInOrder self.old }
+        requires turn { self.old.adopted ≡ false }
+        ensures linked { IsLinked links.now self.new }
+        ensures order { IsInOrder self.new }
+        ensures adopts { Adopts self.old self.new }
+        ensures steps { steps.new ≤ steps.old + 9 }
+    {
+        let over = self.is_over();
+        self.adopted = true;
+        if over {
+            return;
+        }
+        self.observer.poll(links.queue, steps);
+    }
+
+    /// The rest of the cycle, with the state adopted: Exit where it was answered before, else Spent where the log is full, and both leave all as it was. Else one entry is added to the log, and the report after it is stored.
+    ///
+    /// The entry is Idle where nothing was pushed. By the state's command it is Exit, or Cold where its cold generation wasn't performed yet, or Mixed for MixWrite, and else Idle. Only Mixed writes `out`, which has the frames of a cycle. At most `8 * frames + 56` steps.
+    pub fn mix<L: Ledger>(
+        &mut self,
+        links: &Links<'_>,
+        out: &mut [Frame],
+        steps: &mut Steps<L>,
+    ) -> Cycle
+        requires linked { IsLinked links.now self.old }
+        requires order { IsInOrder self.old }
+        requires turn { self.old.adopted ≡ true }
+        requires out { length out.old ≡ self.old.frames }
+        ensures linked { IsLinked links.now self.new }
+        ensures order { IsInOrder self.new }
+        ensures turn { self.new.adopted ≡ false }
+        ensures sizes { (self.new.frames ≡ self.old.frames) × (self.new.cycles ≡ self.old.cycles) }
+        ensures mixes { MixesOnce self.old out.old result self.new out.new }
+        ensures length { length out.new ≡ length out.old }
+        ensures steps { steps.new ≤ steps.old + 8 * self.old.frames + 56 }
+    {
+        self.adopted = false;
+        if self.exited {
+            return Cycle::Exit;
+        }
+        if self.log.len() == self.cycles {
+            return Cycle::Spent {
+                cycles: self.cycles,
+            };
+        }
+        let state = self.observer.current().copied();
+        let cycle = cycle_of(self.cold, state);
+        if !is_mixed(cycle) {
+            let entry = still_entry(self.observer.number(), cycle);
+            self.note(links, state, &entry, steps);
+            return cycle;
+        }
+        let Some(state) = state else { unreachable!() };
+        let entry = self.mix_slots(links, &state, out, steps);
+        self.note(links, Some(state), &entry, steps);
+        cycle
+    }
+
+    /// One cycle: `adopt`, and then `mix`. At most `8 * frames + 65` steps.
+    pub fn cycle<L: Ledger>(
+        &mut self,
+        links: &Links<'_>,
+        out: &mut [Frame],
+        steps: &mut Steps<L>,
+    ) -> Cycle
+        requires linked { IsLinked links.now self.old }
+        requires order { IsInOrder self.old }
+        requires turn { self.old.adopted ≡ false }
+        requires out { length out.old ≡ self.old.frames }
+        ensures linked { IsLinked links.now self.new }
+        ensures order { IsInOrder self.new }
+        ensures turn { self.new.adopted ≡ false }
+        ensures sizes { (self.new.frames ≡ self.old.frames) × (self.new.cycles ≡ self.old.cycles) }
+        ensures cycle { (middle : MixerState) × Adopts self.old middle × MixesOnce middle out.old result self.new out.new }
+        ensures length { length out.new ≡ length out.old }
+        ensures steps { steps.new ≤ steps.old + 8 * self.old.frames + 65 }
+    {
+        self.adopt(links, steps);
+        self.mix(links, out, steps)
+    }
+}

@@ -1,0 +1,109 @@
+//! How the entry of a cycle is made and noted.
+ghost use Rattle.std.specs.Prelude.{◌≡◌, ℕ, ◌+◌, ◌-◌, ◌*◌, ◌<◌, ◌≤◌, ◌^◌, ◌++◌, ◌∷◌, [], Some, if◌then◌else◌, length};
+ghost use Rattle.af_base.specs.Log.{slots, takes_of};
+ghost use Rattle.af_base.specs.Mix.{mix};
+ghost use Rattle.af_model.specs.Cycles.{is_cold, is_exit, cold_of};
+ghost use Rattle.af_base.specs.declared.state.FastState.{FastState};
+ghost use Rattle.af_stateq.specs.Observes.{InOrder};
+ghost use Rattle.af_link.specs.PipeEnds.{out_made};
+ghost use Rattle.af_link.specs.Reports.{last_cycle};
+ghost use Rattle.af_fast.specs.Held.{stream_fits, NamesBlocks};
+ghost use Rattle.af_fast.specs.Mixer.{AreFew};
+ghost use Rattle.af_fast.specs.Mixing.{Reports, notes};
+ghost use Rattle.af_fast.specs.Slots.{PlaysSlots};
+
+use crate::mixer::FastMixer;
+use crate::report::reports_after;
+use crate::slots::play_slots;
+use af_base::{Cycle, CycleEntry, FastState, Frame, Report, Steps};
+use af_gain::mix;
+use af_link::Links;
+use af_model::parts_of;
+use std::sync::ledger::Ledger;
+
+// The cold generation performed last, after an entry under a state.
+fn cold_after(done: u32, cycle: Cycle, state: Option<FastState>) -> u32
+    ensures { result ≡ (if is_cold cycle then cold_of state else done) }
+{
+    match (cycle, state) {
+        (Cycle::Cold, None) => 0,
+        (Cycle::Cold, Some(state)) => state.cold_gen,
+        _ => done,
+    }
+}
+
+impl FastMixer {
+    /// The slots of a mix are played, and what they took is mixed.
+    pub(crate) fn mix_slots<L: Ledger>(
+        &mut self,
+        links: &Links<'_>,
+        state: &FastState,
+        out: &mut [Frame],
+        steps: &mut Steps<L>,
+    ) -> CycleEntry
+        requires state { state.now ≡ self.old.observer.past.state }
+        requires order { InOrder stream_fits self.old.observer }
+        requires names { NamesBlocks self.old.observer.past.key links.now.streams.now }
+        requires made { out_made self.old.pipe ≡ links.now.pipe.now }
+        requires frames { (1 ≤ self.old.frames) × (self.old.frames ≤ 2 ^ 21) }
+        requires room { length self.old.log.frames + slots * self.old.frames ≤ self.old.log.frame_room }
+        requires out { length out.old ≡ self.old.frames }
+        ensures order { InOrder stream_fits self.new.observer }
+        ensures made { out_made self.new.pipe ≡ links.now.pipe.now }
+        ensures same { self.new ≡ (record self.old { observer = self.new.observer; pipe = self.new.pipe; log = self.new.log }) }
+        ensures log { (self.new.log.entries ≡ self.old.log.entries) × (self.new.log.room ≡ self.old.log.room) × (self.old.log.frame_room ≤ self.new.log.frame_room) }
+        ensures plays { PlaysSlots self.old.frames self.old.observer.past.number state.now self.old.observer self.new.observer self.old.pipe self.new.pipe self.old.log.frames self.new.log.frames result }
+        ensures mixes { out.new ≡ mix (takes_of self.new.log.frames result) (length out.old) }
+        ensures steps { steps.new ≤ steps.old + (self.old.frames + 3) + (slots - 1) * (self.old.frames + 7) }
+    {
+        let FastMixer {
+            observer,
+            pipe,
+            log,
+            sums,
+            buffer,
+            ..
+        } = self;
+        let entry = play_slots(observer, pipe, log, links, state, buffer, steps);
+        mix(&parts_of(log.frames(), &entry), sums, out);
+        entry
+    }
+
+    /// An entry under a state is added, and the report after it is stored.
+    pub(crate) fn note<L: Ledger>(
+        &mut self,
+        links: &Links<'_>,
+        state: Option<FastState>,
+        entry: &CycleEntry,
+        steps: &mut Steps<L>,
+    )
+        requires state { (x : FastState) → state ≡ Some x → x ≡ self.old.observer.past.state }
+        requires order { InOrder stream_fits self.old.observer }
+        requires cell { self.old.writer.cell ≡ links.now.report.now }
+        requires room { length self.old.log.entries < self.old.log.room }
+        requires later { last_cycle self.old.writer.events ≡ length self.old.log.entries }
+        requires few { AreFew (2 ^ 31) self.old.reports }
+        ensures notes { self.new ≡ notes state entry.now self.new.writer self.new.reports self.old }
+        ensures reports { Reports state entry.now self.old self.new }
+        ensures cell { self.new.writer.cell ≡ self.old.writer.cell }
+        ensures steps { steps.new ≡ steps.old + 1 }
+    {
+        self.log.push(*entry);
+        self.reports = reports_after(
+            &mut self.observer,
+            &self.reports,
+            state,
+            self.last,
+            entry,
+            self.frames,
+        );
+        self.last = state;
+        self.exited = entry.cycle == Cycle::Exit;
+        self.cold = cold_after(self.cold, entry.cycle, state);
+        let report = Report {
+            cycle: self.log.len() as u64,
+            slots: self.reports,
+        };
+        self.writer.store(links.report, &report, steps);
+    }
+}

@@ -1,0 +1,28 @@
+//! The fast mixer: each cycle polls for a state, mixes what the tracks and the pipe show, and never waits (AOSP's FastMixer).
+#![tactic(auto)]
+
+mod cycle;
+mod entry;
+mod held;
+mod mixer;
+mod report;
+mod slot;
+mod slots;
+mod submix;
+
+pub use mixer::FastMixer;
+
+#[cfg(test)]
+mod exit_tests;
+#[cfg(test)]
+mod flush_tests;
+#[cfg(test)]
+mod generation_tests;
+#[cfg(test)]
+mod plain_tests;
+#[cfg(test)]
+mod run_tests;
+#[cfg(test)]
+mod tests;
+#[cfg(test)]
+mod thread_tests;

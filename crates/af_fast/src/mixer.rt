@@ -1,0 +1,140 @@
+//! The fast mixer, how it is made, and what it lends.
+ghost use Rattle.std.specs.Prelude.{◌≡◌, ◌*◌, ◌≤◌, ◌^◌, IfOk, length};
+ghost use Rattle.std.specs.Borrow.{sem};
+ghost use Rattle.af_fast.specs.Lends.{lends_observer, lends_pipe, lends_writer};
+ghost use Rattle.af_stateq.specs.Observes.{InOrder};
+ghost use Rattle.af_fast.specs.Held.{stream_fits};
+ghost use Rattle.af_fast.specs.Mixer.{IsInOrder, IsUnused, made_of};
+
+use crate::report::no_slot;
+use af_base::{FastLog, FastState, Frame, Memory, SLOTS, SlotReport};
+use af_gain::Sum;
+use af_link::{PipeOut, ReportWriter, StreamNames};
+use af_server::Server;
+use af_stateq::Observer;
+use std::alloc::Global;
+use std::marker::Model;
+
+/// The mixer that never waits (AOSP's FastMixer): each cycle it polls for a state, mixes what the pipe and the tracks of the state show, and reports.
+///
+/// Contracts see its parts with their lists, its log, and the kept values. A mixer is in order where these are the ones that the lists give. `make` makes it so, and each call and each meeting keeps it so.
+#[derive(Drop)]
+pub struct FastMixer {
+    pub(crate) observer: Observer<Server, StreamNames>,
+    pub(crate) writer: ReportWriter,
+    pub(crate) pipe: PipeOut,
+    pub(crate) log: FastLog,
+    // The frames of a cycle, and the entries of the whole log.
+    pub(crate) frames: usize,
+    pub(crate) cycles: usize,
+    // Whether a state was adopted that no mix has used yet.
+    pub(crate) adopted: bool,
+    pub(crate) exited: bool,
+    // The cold generation performed last.
+    pub(crate) cold: u32,
+    // The state that the last entry used.
+    pub(crate) last: Option<FastState>,
+    pub(crate) reports: [SlotReport; SLOTS],
+    pub(crate) sums: Vec<Sum>,
+    pub(crate) buffer: Vec<Frame>,
+}
+
+impl Model for FastMixer {
+    ghost use Rattle.std.specs.Prelude.{◌≡◌, length};
+    ghost use Rattle.af_fast.specs.Mixer.{MixerState};
+
+    ghost Value = { MixerState };
+
+    ghost view = { λ m. record { observer = m.observer; writer = m.writer; pipe = m.pipe; log = m.log; frames = m.frames; cycles = m.cycles; adopted = m.adopted; exited = m.exited; cold = m.cold; last = m.last; reports = m.reports } };
+
+    ghost invariant = { λ m. (length m.sums.items ≡ m.frames) × (length m.buffer.items ≡ m.frames) };
+}
+
+// So many sums of 0.
+fn no_sums(alloc: Global, frames: usize) -> Result<Vec<Sum>, Memory>
+    ensures { IfOk result (λ v. length v.items ≡ frames) }
+{
+    let mut sums = Vec::with_capacity(alloc, frames)?;
+    sums.resize(frames, Sum { left: 0, right: 0 })?;
+    Ok(sums)
+}
+
+// So many frames of silence.
+fn silence(alloc: Global, frames: usize) -> Result<Vec<Frame>, Memory>
+    ensures { IfOk result (λ v. length v.items ≡ frames) }
+{
+    let mut buffer = Vec::with_capacity(alloc, frames)?;
+    buffer.resize(frames, Frame { left: 0, right: 0 })?;
+    Ok(buffer)
+}
+
+impl FastMixer {
+    /// A mixer over its three ends, on which nothing was done: for `cycles` entries, from 1 to 100,000, and `frames` frames a cycle, at least 1, with `cycles * frames` at most 2^21.
+    ///
+    /// It reserves the whole log, and the sums and frames of one cycle. No other call takes memory. Memory is its only refusal.
+    pub fn make(
+        alloc: Global,
+        observer: Observer<Server, StreamNames>,
+        writer: ReportWriter,
+        pipe: PipeOut,
+        cycles: usize,
+        frames: usize,
+    ) -> Result<FastMixer, Memory>
+        requires cycles { (1 ≤ cycles) × (cycles ≤ 100000) }
+        requires frames { (1 ≤ frames) × (cycles * frames ≤ 2 ^ 21) }
+        requires unused { IsUnused observer writer pipe }
+        requires order { InOrder stream_fits observer }
+        ensures made { IfOk result (λ m. m ≡ made_of observer writer pipe cycles frames) }
+        ensures order { IfOk result IsInOrder }
+    {
+        let log = FastLog::with_room(alloc, cycles, frames)?;
+        let sums = no_sums(alloc, frames)?;
+        let buffer = silence(alloc, frames)?;
+        Ok(FastMixer {
+            observer,
+            writer,
+            pipe,
+            log,
+            frames,
+            cycles,
+            adopted: false,
+            exited: false,
+            cold: 0,
+            last: None,
+            reports: [no_slot(); SLOTS],
+            sums,
+            buffer,
+        })
+    }
+
+    /// What was read, seen and taken in each cycle so far.
+    pub fn log(&self) -> &FastLog
+        ensures { result.now ≡ self.now.log }
+    {
+        &self.log
+    }
+
+    /// Lends the observer to a meeting.
+    pub fn observer(&mut self) -> &mut Observer<Server, StreamNames>
+        ensures value { result.now ≡ self.entry.now.observer }
+        ensures* lends { sem 𝓛 (lends_observer self.entry result) }
+    {
+        &mut self.observer
+    }
+
+    /// Lends the end of the report to a meeting.
+    pub fn writer(&mut self) -> &mut ReportWriter
+        ensures value { result.now ≡ self.entry.now.writer }
+        ensures* lends { sem 𝓛 (lends_writer self.entry result) }
+    {
+        &mut self.writer
+    }
+
+    /// Lends the end of the pipe to a meeting.
+    pub fn pipe(&mut self) -> &mut PipeOut
+        ensures value { result.now ≡ self.entry.now.pipe }
+        ensures* lends { sem 𝓛 (lends_pipe self.entry result) }
+    {
+        &mut self.pipe
+    }
+}

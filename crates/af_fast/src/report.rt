@@ -1,0 +1,167 @@
+//! What is reported of the slots after an entry.
+ghost use Rattle.std.specs.Prelude.{◌≡◌, ℕ, ◌<◌, ◌^◌, true, Some};
+ghost use Rattle.af_base.specs.Log.{slots};
+ghost use Rattle.af_model.specs.Reports.{no_slot, report_at, carried, counted_look, is_full, is_partial, is_empty, slot_report};
+ghost use Rattle.af_base.specs.declared.state.FastState.{FastState};
+ghost use Rattle.af_model.specs.StateQueue.{carries};
+ghost use Rattle.af_stateq.specs.Observes.{InOrder};
+ghost use Rattle.af_fast.specs.Held.{stream_fits};
+ghost use Rattle.af_fast.specs.Known.{known, known_of};
+
+use af_base::{CycleEntry, FastState, SLOTS, Seen, SlotReport};
+use af_link::StreamNames;
+use af_model::carries_item;
+use af_server::Server;
+use af_stateq::Observer;
+
+/// What is known of a server.
+#[derive(Clone, Copy)]
+pub struct KnownNow {
+    consumed: u64,
+    flush_seen: u32,
+    shut: bool,
+}
+
+/// What is known of a slot that never had an item, or counted for one that is new.
+pub(crate) fn no_slot() -> SlotReport
+    ensures { result ≡ no_slot }
+{
+    SlotReport {
+        consumed: 0,
+        shut: false,
+        generation: 0,
+        flush_seen: 0,
+        fulls: 0,
+        partials: 0,
+        empties: 0,
+    }
+}
+
+// What is known of the proxy that the observer holds for a slot.
+fn known_of(observer: &mut Observer<Server, StreamNames>, slot: usize) -> KnownNow
+    requires slot { (slot < slots) × (carries observer.old.past.state slot ≡ true) }
+    requires order { InOrder stream_fits observer.old }
+    ensures same { observer.new ≡ observer.old }
+    ensures known { known_of result ≡ known observer.old slot }
+{
+    let Some(server) = observer.item(slot as u32) else {
+        unreachable!()
+    };
+    KnownNow {
+        consumed: server.consumed(),
+        flush_seen: server.flush_seen(),
+        shut: server.shut().is_some(),
+    }
+}
+
+// Whether a look showed all that was asked for, some of it, or none.
+fn is_full(asked: usize, seen: Seen) -> bool
+    ensures { result ≡ is_full asked seen }
+{
+    match seen {
+        Seen::Frames { count } => count as usize == asked,
+        _ => false,
+    }
+}
+
+fn is_partial(asked: usize, seen: Seen) -> bool
+    ensures { result ≡ is_partial asked seen }
+{
+    match seen {
+        Seen::Frames { count } => count as usize != asked,
+        _ => false,
+    }
+}
+
+fn is_empty(seen: Seen) -> bool
+    ensures { result ≡ is_empty seen }
+{
+    matches!(seen, Seen::Empty)
+}
+
+// A report goes on with one more look at a server of which this is known.
+fn counted_look(
+    asked: usize,
+    generation: u32,
+    seen: Seen,
+    known: KnownNow,
+    before: SlotReport,
+) -> SlotReport
+    requires few { (before.fulls < 2 ^ 31) × (before.partials < 2 ^ 31) × (before.empties < 2 ^ 31) }
+    ensures { result ≡ counted_look asked generation seen (known_of known) before }
+{
+    SlotReport {
+        consumed: known.consumed,
+        shut: known.shut,
+        generation,
+        flush_seen: known.flush_seen,
+        fulls: before.fulls + u32::from(is_full(asked, seen)),
+        partials: before.partials + u32::from(is_partial(asked, seen)),
+        empties: before.empties + u32::from(is_empty(seen)),
+    }
+}
+
+// Whether there is a state that carries an item for a slot.
+fn carried(state: Option<FastState>, slot: usize) -> bool
+    requires { slot < slots }
+    ensures { result ≡ carried state slot }
+{
+    match state {
+        None => false,
+        Some(state) => carries_item(&state, slot),
+    }
+}
+
+// The report of one slot.
+fn report_after(
+    observer: &mut Observer<Server, StreamNames>,
+    before: SlotReport,
+    state: &FastState,
+    last: Option<FastState>,
+    entry: &CycleEntry,
+    slot: usize,
+    asked: usize,
+) -> SlotReport
+    requires slot { slot < slots }
+    requires state { state.now ≡ observer.old.past.state }
+    requires order { InOrder stream_fits observer.old }
+    requires few { (before.fulls < 2 ^ 31) × (before.partials < 2 ^ 31) × (before.empties < 2 ^ 31) }
+    ensures same { observer.new ≡ observer.old }
+    ensures reports { result ≡ slot_report asked (Some state.now) last entry.now (known observer.old slot) slot before }
+{
+    if !carries_item(state, slot) {
+        return before;
+    }
+    let known = known_of(observer, slot);
+    let generation = state.slots[slot].generation;
+    let seen = entry.slots[slot].seen;
+    if carried(last, slot) {
+        return counted_look(asked, generation, seen, known, before);
+    }
+    counted_look(asked, generation, seen, known, no_slot())
+}
+
+/// The reports of the slots after an entry under a state, after one under the state before it.
+pub(crate) fn reports_after(
+    observer: &mut Observer<Server, StreamNames>,
+    before: &[SlotReport; SLOTS],
+    state: Option<FastState>,
+    last: Option<FastState>,
+    entry: &CycleEntry,
+    asked: usize,
+) -> [SlotReport; SLOTS]
+    requires state { (x : FastState) → state ≡ Some x → x ≡ observer.old.past.state }
+    requires order { InOrder stream_fits observer.old }
+    requires few { (i : ℕ) → i < slots → ((report_at before.now i).fulls < 2 ^ 31) × ((report_at before.now i).partials < 2 ^ 31) × ((report_at before.now i).empties < 2 ^ 31) }
+    ensures same { observer.new ≡ observer.old }
+    ensures each { (i : ℕ) → i < slots → report_at result i ≡ slot_report asked state last entry.now (known observer.old i) i (report_at before.now i) }
+{
+    let mut reports = *before;
+    let Some(state) = state else {
+        return reports;
+    };
+    for slot in 0..SLOTS {
+        reports[slot] = report_after(observer, before[slot], &state, last, entry, slot, asked);
+    }
+    reports
+}

@@ -1,0 +1,187 @@
+//! What a cycle does with all slots of a mix.
+ghost use Rattle.std.specs.Prelude.{◌≡◌, suc, ◌+◌, ◌-◌, ◌*◌, ◌<◌, ◌≤◌, ◌^◌, true, false, length, slice_set};
+ghost use Rattle.af_base.specs.Log.{slots};
+ghost use Rattle.af_model.specs.Cycles.{is_mono, mix_scale, mono_marks, still_entry};
+ghost use Rattle.af_base.specs.declared.log.SlotEntry.{SlotEntry};
+ghost use Rattle.af_model.specs.StateQueue.{carries};
+ghost use Rattle.af_stateq.specs.Observes.{InOrder};
+ghost use Rattle.af_fast.specs.Held.{stream_fits, NamesBlocks};
+ghost use Rattle.af_link.specs.PipeEnds.{out_made};
+ghost use Rattle.af_fast.specs.Slots.{IsMarked, LogsPipe, LogsSlot, PlaysSlots};
+
+use crate::held::log_held;
+use crate::slot::count_of;
+use crate::submix::play_pipe;
+use af_base::{Cycle, CycleEntry, FastLog, FastState, Frame, SLOTS, Seen, SlotEntry, Steps};
+use af_cblk::Block;
+use af_link::{Links, PipeOut, StreamNames};
+use af_model::carries_item;
+use af_server::Server;
+use af_stateq::Observer;
+use std::sync::ledger::Ledger;
+
+/// An entry in which every slot is absent.
+pub(crate) fn still_entry(state: u64, cycle: Cycle) -> CycleEntry
+    ensures { result ≡ still_entry state cycle }
+{
+    let absent = SlotEntry {
+        gains: 0,
+        flush: 0,
+        rear: 0,
+        seen: Seen::Absent,
+        first: 0,
+    };
+    CycleEntry {
+        state,
+        cycle,
+        slots: [absent; SLOTS],
+        scales: [0; SLOTS],
+        mono: 0,
+    }
+}
+
+// Whether the track of a slot is mono.
+fn is_mono(state: &FastState, slot: usize) -> bool
+    requires { slot < slots }
+    ensures { result ≡ is_mono state.now slot }
+{
+    carries_item(state, slot) && state.slots[slot].mono
+}
+
+// The mono marks of the slots up to this one, by those of the slots before it.
+fn marks_to(marks: u32, state: &FastState, slot: usize) -> u32
+    requires { slot < slots }
+    ensures { marks ≡ mono_marks state.now slot → result ≡ mono_marks state.now (suc slot) }
+{
+    if is_mono(state, slot) {
+        return marks | (1 << slot);
+    }
+    marks
+}
+
+// The scale of a slot in the mix.
+fn mix_scale(state: &FastState, slot: usize) -> u16
+    requires { slot < slots }
+    ensures { result ≡ mix_scale state.now slot }
+{
+    if slot == 0 {
+        0x1000
+    } else if carries_item(state, slot) {
+        state.slots[slot].scale
+    } else {
+        0
+    }
+}
+
+/// The entry of a mix before its slots are played: with the scales and the mono marks of its state, and every slot absent.
+pub(crate) fn marked_entry(number: u64, state: &FastState) -> CycleEntry
+    ensures { IsMarked number state.now result }
+{
+    let mut entry = still_entry(number, Cycle::Mixed);
+    for slot in 0..SLOTS {
+        entry.scales[slot] = mix_scale(state, slot);
+        entry.mono = marks_to(entry.mono, state, slot);
+    }
+    entry
+}
+
+// Takes what the pipe shows into the log.
+fn log_pipe<L: Ledger>(
+    pipe: &mut PipeOut,
+    log: &mut FastLog,
+    block: &Block,
+    buffer: &mut [Frame],
+    steps: &mut Steps<L>,
+) -> SlotEntry
+    requires made { out_made pipe.old ≡ block.now }
+    requires few { length buffer.old < 2 ^ 32 }
+    requires room { length log.old.frames + length buffer.old ≤ log.old.frame_room }
+    ensures made { out_made pipe.new ≡ block.now }
+    ensures length { length buffer.new ≡ length buffer.old }
+    ensures logs { LogsPipe (length buffer.old) pipe.old pipe.new log.old.frames log.new.frames result }
+    ensures entries { (log.new.entries ≡ log.old.entries) × (log.new.room ≡ log.old.room) }
+    ensures room { log.old.frame_room ≤ log.new.frame_room }
+    ensures steps { steps.new ≤ steps.old + length buffer.old + 3 }
+{
+    let place = log.frames().len();
+    let entry = play_pipe(pipe, block, place, buffer, steps);
+    log.push_frames(&buffer[..count_of(entry.seen)]);
+    entry
+}
+
+// Plays the track of a slot into the entry, where the state has one for it.
+fn play_slot<L: Ledger>(
+    observer: &mut Observer<Server, StreamNames>,
+    log: &mut FastLog,
+    entry: &mut CycleEntry,
+    streams: &[Block],
+    state: &FastState,
+    slot: usize,
+    buffer: &mut [Frame],
+    steps: &mut Steps<L>,
+)
+    requires slot { slot < slots }
+    requires state { state.now ≡ observer.old.past.state }
+    requires order { InOrder stream_fits observer.old }
+    requires names { NamesBlocks observer.old.past.key streams.now }
+    requires some { 1 ≤ length buffer.old }
+    requires few { length buffer.old < 2 ^ 32 }
+    requires room { length log.old.frames + length buffer.old ≤ log.old.frame_room }
+    ensures order { InOrder stream_fits observer.new }
+    ensures length { length buffer.new ≡ length buffer.old }
+    ensures plays { carries state.now slot ≡ true → (slot_entry : SlotEntry)
+        × LogsSlot (length buffer.old) slot observer.old observer.new log.old.frames log.new.frames slot_entry
+        × (entry.new ≡ record entry.old { slots = slice_set entry.old.slots slot slot_entry }) }
+    ensures rests { carries state.now slot ≡ false → (observer.new ≡ observer.old) × (log.new.frames ≡ log.old.frames) × (entry.new ≡ entry.old) }
+    ensures entries { (log.new.entries ≡ log.old.entries) × (log.new.room ≡ log.old.room) }
+    ensures room { log.old.frame_room ≤ log.new.frame_room }
+    ensures steps { steps.new ≤ steps.old + length buffer.old + 7 }
+{
+    if !carries_item(state, slot) {
+        return;
+    }
+    let track = state.slots[slot].track;
+    entry.slots[slot] = log_held(observer, log, streams, slot, track, buffer, steps);
+}
+
+/// Plays all slots of a mix: the pipe, and then the tracks of the mask one after the other.
+pub(crate) fn play_slots<L: Ledger>(
+    observer: &mut Observer<Server, StreamNames>,
+    pipe: &mut PipeOut,
+    log: &mut FastLog,
+    links: &Links<'_>,
+    state: &FastState,
+    buffer: &mut [Frame],
+    steps: &mut Steps<L>,
+) -> CycleEntry
+    requires state { state.now ≡ observer.old.past.state }
+    requires order { InOrder stream_fits observer.old }
+    requires names { NamesBlocks observer.old.past.key links.now.streams.now }
+    requires made { out_made pipe.old ≡ links.now.pipe.now }
+    requires some { 1 ≤ length buffer.old }
+    requires few { length buffer.old < 2 ^ 32 }
+    requires room { length log.old.frames + slots * length buffer.old ≤ log.old.frame_room }
+    ensures order { InOrder stream_fits observer.new }
+    ensures made { out_made pipe.new ≡ links.now.pipe.now }
+    ensures length { length buffer.new ≡ length buffer.old }
+    ensures entries { (log.new.entries ≡ log.old.entries) × (log.new.room ≡ log.old.room) }
+    ensures room { log.old.frame_room ≤ log.new.frame_room }
+    ensures plays { PlaysSlots (length buffer.old) observer.old.past.number state.now observer.old observer.new pipe.old pipe.new log.old.frames log.new.frames result }
+    ensures steps { steps.new ≤ steps.old + (length buffer.old + 3) + (slots - 1) * (length buffer.old + 7) }
+{
+    let mut entry = marked_entry(observer.number(), state);
+    entry.slots[0] = log_pipe(pipe, log, links.pipe, buffer, steps);
+    for slot in 1..SLOTS {
+        play_slot(
+            observer,
+            log,
+            &mut entry,
+            links.streams,
+            state,
+            slot,
+            buffer,
+            steps,
+        );
+    }
+    entry
+}
