@@ -6,4 +6,3 @@ mod Parts
 mod Adopted
 mod Noted
 mod Added
-mod Zips
