@@ -6,3 +6,4 @@ mod Parts
 mod Adopted
 mod Noted
 mod Added
+mod Zips

@@ -1,10 +1,11 @@
 -- When the ends that a test moves are ready for its next call.
-use Rattle.std.specs.Prelude.{◌≡◌, ℕ, false, List}
+use Rattle.std.specs.Prelude.{◌≡◌, ℕ, suc, false, List, [], ◌∷◌}
 use Rattle.std.specs.List.{AllZip}
-use Rattle.af_cblk.specs.Sides.{Made, client_made}
+use Rattle.af_cblk.specs.Sides.{Made, client_made, server_made}
 use Rattle.af_client.specs.Order.{ClientState, IsInOrder as IsClientInOrder}
-use Rattle.af_server.specs.Order.{ServerState}
+use Rattle.af_server.specs.Order.{ServerState, IsInOrder as IsServerInOrder}
 use Rattle.af_stateq.specs.Mutates.{Mutates}
+use Rattle.af_link.specs.Names.{IsStreamOf}
 use Rattle.af_link.specs.Reports.{ReaderSide}
 use Rattle.af_link.specs.declared.links.Links.{Links}
 use Rattle.af_link.specs.declared.names.StreamNames.{StreamNames}
@@ -27,3 +28,12 @@ IsClientOf block c = (client_made c.pass ≡ block) × IsClientInOrder c
 
 abbrev pub AreClientsOf : List Made → List ClientState → Type 0
 AreClientsOf = AllZip IsClientOf
+
+-- a block with a client and a server that were made with it, and are in order
+abbrev pub IsLine : Made × ClientState × ServerState → Type 0
+IsLine l = IsClientOf l.0 l.1 × (server_made l.2.pass ≡ l.0) × IsServerInOrder l.2
+
+-- each server belongs to the track of its place, from i on
+abbrev pub AreStreamsOf : List Made → ℕ → List ServerState → Type 0
+AreStreamsOf blocks i [] = Unit {0}
+AreStreamsOf blocks i (s ∷ ss) = IsStreamOf blocks i s × AreStreamsOf blocks (suc i) ss

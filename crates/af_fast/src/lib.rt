@@ -19,6 +19,10 @@ mod flush_tests;
 #[cfg(test)]
 mod generation_tests;
 #[cfg(test)]
+mod plain_tests;
+#[cfg(test)]
+mod run_tests;
+#[cfg(test)]
 mod tests;
 #[cfg(test)]
 mod thread_tests;
