@@ -26,3 +26,5 @@ mod run_tests;
 mod tests;
 #[cfg(test)]
 mod thread_tests;
+#[cfg(test)]
+mod turn_tests;

@@ -6,10 +6,9 @@ ghost use Rattle.af_stateq.specs.Observes.{InOrder};
 ghost use Rattle.af_fast.specs.Held.{stream_fits};
 ghost use Rattle.af_fast.specs.Mixer.{IsInOrder, IsUnused, made_of};
 
-use crate::report::no_slot;
 use af_base::{FastLog, FastState, Frame, Memory, SLOTS, SlotReport};
 use af_gain::Sum;
-use af_link::{PipeOut, ReportWriter, StreamNames};
+use af_link::{PipeOut, ReportWriter, StreamNames, no_slot};
 use af_server::Server;
 use af_stateq::Observer;
 use std::alloc::Global;

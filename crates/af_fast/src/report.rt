@@ -9,7 +9,7 @@ ghost use Rattle.af_fast.specs.Held.{stream_fits};
 ghost use Rattle.af_fast.specs.Known.{known, known_of};
 
 use af_base::{CycleEntry, FastState, SLOTS, Seen, SlotReport};
-use af_link::StreamNames;
+use af_link::{StreamNames, no_slot};
 use af_model::carries_item;
 use af_server::Server;
 use af_stateq::Observer;
@@ -20,21 +20,6 @@ pub struct KnownNow {
     consumed: u64,
     flush_seen: u32,
     shut: bool,
-}
-
-/// What is known of a slot that never had an item, or counted for one that is new.
-pub(crate) fn no_slot() -> SlotReport
-    ensures { result ≡ no_slot }
-{
-    SlotReport {
-        consumed: 0,
-        shut: false,
-        generation: 0,
-        flush_seen: 0,
-        fulls: 0,
-        partials: 0,
-        empties: 0,
-    }
 }
 
 // What is known of the proxy that the observer holds for a slot.

@@ -14,7 +14,9 @@ pub use ends::{PipeIn, PipeOut, meet_pipe, pipe};
 pub use links::Links;
 pub use meetings::{meet_all, meet_flag, meet_track};
 pub use names::{StreamNames, stream_names};
-pub use reports::{ReportCell, ReportReader, ReportWriter, first_report, meet_report, report};
+pub use reports::{
+    ReportCell, ReportReader, ReportWriter, first_report, meet_report, no_slot, report,
+};
 
 #[cfg(test)]
 mod tests;

@@ -1,6 +1,7 @@
 //! The report's cell and its two ends.
 ghost use Rattle.std.specs.Prelude.{◌≡◌, ℕ, ◌+◌, ◌<◌, [], ◌∷◌, ◌++◌, length, IfOk};
 ghost use Rattle.af_model.specs.NewestValue.{HasHistory};
+ghost use Rattle.af_model.specs.Reports.{no_slot};
 ghost use Rattle.af_model.specs.declared.newest.WriterEvent.TheVariants as writes;
 ghost use Rattle.af_model.specs.declared.newest.ReaderEvent.TheVariants as reads;
 ghost use Rattle.af_latest.specs.Ends.{last_number, load_steps};
@@ -56,11 +57,11 @@ impl Model for ReportReader {
     ghost view = { λ r. record { cell = r.reader.cell; events = r.reader.events } };
 }
 
-/// The report before any cycle, of cycle 0: all zeros.
-pub fn first_report() -> Report
-    ensures { result ≡ no_report }
+/// What is known of a slot that never had an item: all zeros.
+pub fn no_slot() -> SlotReport
+    ensures { result ≡ no_slot }
 {
-    let slot = SlotReport {
+    SlotReport {
         consumed: 0,
         shut: false,
         generation: 0,
@@ -68,10 +69,16 @@ pub fn first_report() -> Report
         fulls: 0,
         partials: 0,
         empties: 0,
-    };
+    }
+}
+
+/// The report before any cycle, of cycle 0: all zeros.
+pub fn first_report() -> Report
+    ensures { result ≡ no_report }
+{
     Report {
         cycle: 0,
-        slots: [slot; SLOTS],
+        slots: [no_slot(); SLOTS],
     }
 }
 

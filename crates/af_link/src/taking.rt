@@ -1,36 +1,14 @@
 //! Taking frames out of a pipe.
-ghost use Rattle.std.specs.Prelude.{◌≡◌, ◌+◌, ◌^◌, ◌<◌, ◌≤◌, min, [], length};
+ghost use Rattle.std.specs.Prelude.{◌≡◌, ◌+◌, ◌≤◌, min, length};
 ghost use Rattle.af_cblk.specs.Parts.{ahead, saw_rear, server_saw_front};
 ghost use Rattle.af_cblk.specs.Sides.{server_made, ServerIs};
-ghost use Rattle.af_server.specs.Looks.{Reads};
 ghost use Rattle.af_link.specs.PipeEnds.{out_made, taken_by};
 
 use crate::ends::PipeOut;
 use af_base::{Frame, Steps};
-use af_cblk::{Block, ServerPass};
+use af_cblk::Block;
+use af_server::load_frames;
 use std::sync::ledger::Ledger;
-
-// Loads the cells of the positions from front on, one for each frame.
-fn load_frames<L: Ledger>(
-    block: &Block,
-    pass: &mut ServerPass,
-    front: u32,
-    into: &mut [Frame],
-    steps: &mut Steps<L>,
-)
-    requires made { server_made pass.old ≡ block.now }
-    requires front { front ≡ pass.old.part.front }
-    requires none { pass.old.part.loaded ≡ [] }
-    requires few { length into.old < 2 ^ 32 }
-    ensures made { server_made pass.new ≡ block.now }
-    ensures loaded { Reads pass.old pass.new into.new }
-    ensures steps { steps.new ≡ steps.old + length into.old }
-{
-    for i in 0..into.len() {
-        let word = block.load_cell(pass, front.wrapping_add(i as u32), steps);
-        into[i] = Frame::unpack(word);
-    }
-}
 
 impl PipeOut {
     /// How many frames may be taken: the lesser of `ask` and what the rear that this call sees shows. It loads rear and then front, and appends SawRear and SawFront. Two steps.

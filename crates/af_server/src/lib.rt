@@ -9,6 +9,7 @@ mod words;
 
 pub use look::Look;
 pub use server::{MOST_CONSUMED, Server};
+pub use take::load_frames;
 
 #[cfg(test)]
 mod calls;

@@ -9,8 +9,10 @@ use af_base::{Frame, Steps};
 use af_cblk::{Block, ServerPass};
 use std::sync::ledger::Ledger;
 
-// Loads the cells of the positions from front on, one for each frame.
-fn load_frames<L: Ledger>(
+/// Loads the cells of the positions from `front` on, which is the pass's front, one for each frame of `into`, below 2^32 of them. It raises nothing. So many steps.
+///
+/// Nothing was loaded since front was loaded or stored last.
+pub fn load_frames<L: Ledger>(
     block: &Block,
     pass: &mut ServerPass,
     front: u32,

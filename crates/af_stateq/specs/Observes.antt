@@ -22,10 +22,10 @@ pub record InOrder {P K : Type 0} (fits : K → ℕ → P → Type 0) (o : Obser
 
 -- the item held and the item on the shelf change places where one came for the slot, or the state x doesn't carry it
 abbrev pub changes : {P : Type 0} → FastState → List (Option P) → ℕ → Bool
-changes x rack i = has rack i || not (carries x i)
+changes x moving i = has moving i || not (carries x i)
 
 abbrev pub IsSettled : {P : Type 0} → FastState → List (Option P) → List (Option P) → List (Option P) → List (Option P) → ℕ → Type 0
-IsSettled x items rack items' rack' i = (at items' i ≡ (if changes x rack i then at rack i else at items i)) × (at rack' i ≡ (if changes x rack i then at items i else at rack i))
+IsSettled x items moving items' moving' i = (at items' i ≡ (if changes x moving i then at moving i else at items i)) × (at moving' i ≡ (if changes x moving i then at items i else at moving i))
 
 -- nothing was seen, and nothing is held
 pub record IsNewObserver {P K : Type 0} (key : K) (first : FastState) (o : Observes P K) : Type 0 where

@@ -119,7 +119,7 @@ pub fn queue<P: Drop, N: Fits<P>>(
     let returned = no_items(alloc)?;
     let spare = no_items(alloc)?;
     let items = no_items(alloc)?;
-    let rack = no_items(alloc)?;
+    let moving = no_items(alloc)?;
     let (queue, pushes, polls) = ends_of(alloc, first, key)?;
     let mutator = Mutator {
         end: pushes,
@@ -137,7 +137,7 @@ pub fn queue<P: Drop, N: Fits<P>>(
         current: None,
         previous: None,
         items,
-        rack,
+        moving,
     };
     Ok((queue, mutator, observer))
 }

@@ -23,7 +23,7 @@ pub struct Observer<P: Drop, N: Fits<P>> {
     pub(crate) current: Option<FastState>,
     pub(crate) previous: Option<FastState>,
     pub(crate) items: Vec<Option<P>>,
-    pub(crate) rack: Vec<Option<P>>,
+    pub(crate) moving: Vec<Option<P>>,
 }
 
 impl<P: Drop, N: Fits<P>> Model for Observer<P, N> {
@@ -35,18 +35,18 @@ impl<P: Drop, N: Fits<P>> Model for Observer<P, N> {
 
     ghost view = { λ o. record { past = o.end; current = o.current; previous = o.previous; items = o.items.items } };
 
-    ghost invariant = { λ o. (o.end.due ≡ false) × (o.rack.items ≡ nothing) × (o.end.number ≡ 0 → o.current ≡ None) × (0 < o.end.number → o.current ≡ Some o.end.state) × (o.end.number < 2 → o.previous ≡ None) × (2 ≤ o.end.number → is_some o.previous ≡ true) };
+    ghost invariant = { λ o. (o.end.due ≡ false) × (o.moving.items ≡ nothing) × (o.end.number ≡ 0 → o.current ≡ None) × (0 < o.end.number → o.current ≡ Some o.end.state) × (o.end.number < 2 → o.previous ≡ None) × (2 ≤ o.end.number → is_some o.previous ≡ true) };
 }
 
 /// Items that came are held, and those of slots that went off the state are given back.
-fn settle<P: Drop>(state: &FastState, items: &mut Vec<Option<P>>, rack: &mut Vec<Option<P>>)
-    requires lengths { (length items.old.items ≡ slots) × (length rack.old.items ≡ slots) }
-    ensures lengths { (length items.new.items ≡ slots) × (length rack.new.items ≡ slots) }
-    ensures each { (i : ℕ) → i < slots → IsSettled state.now items.old.items rack.old.items items.new.items rack.new.items i }
+fn settle<P: Drop>(state: &FastState, items: &mut Vec<Option<P>>, moving: &mut Vec<Option<P>>)
+    requires lengths { (length items.old.items ≡ slots) × (length moving.old.items ≡ slots) }
+    ensures lengths { (length items.new.items ≡ slots) × (length moving.new.items ≡ slots) }
+    ensures each { (i : ℕ) → i < slots → IsSettled state.now items.old.items moving.old.items items.new.items moving.new.items i }
 {
     for i in 0..SLOTS {
-        if rack[i].is_some() || !carries_item(state, i) {
-            mem::swap(&mut rack[i], &mut items[i]);
+        if moving[i].is_some() || !carries_item(state, i) {
+            mem::swap(&mut moving[i], &mut items[i]);
         }
     }
 }
@@ -67,17 +67,17 @@ impl<P: Drop, N: Fits<P>> Observer<P, N> {
             current,
             previous,
             items,
-            rack,
+            moving,
         } = self;
-        let Some(state) = end.look(queue, rack, steps) else {
+        let Some(state) = end.look(queue, moving, steps) else {
             return if end.number == 0 {
                 Poll::Nothing
             } else {
                 Poll::Same
             };
         };
-        settle(&state, items, rack);
-        end.acknowledge(queue, rack, steps);
+        settle(&state, items, moving);
+        end.acknowledge(queue, moving, steps);
         *previous = *current;
         *current = Some(state);
         Poll::New { number: end.number }

@@ -6,6 +6,6 @@ use Rattle.af_stateq.proofs.observer.settle.Given as goal
 
 abbrev pub invariant-loop-i : goal.invariant-loop-i
 invariant-loop-i g l =
-    (length l.items.items ≡ slots) × (length l.rack.items ≡ slots)
-    × ((k : ℕ) → k < l.i → IsSettled l.state l.fn.items.items l.fn.rack.items l.items.items l.rack.items k)
-    × ((k : ℕ) → l.i ≤ k → (at l.items.items k ≡ at l.fn.items.items k) × (at l.rack.items k ≡ at l.fn.rack.items k))
+    (length l.items.items ≡ slots) × (length l.moving.items ≡ slots)
+    × ((k : ℕ) → k < l.i → IsSettled l.state l.fn.items.items l.fn.moving.items l.items.items l.moving.items k)
+    × ((k : ℕ) → l.i ≤ k → (at l.items.items k ≡ at l.fn.items.items k) × (at l.moving.items k ≡ at l.fn.moving.items k))

@@ -11,7 +11,7 @@ acknowledge-requires-clause-items g c =
     let l = c.in-Some.ensures.seen in
     let x : FastState = c.in-Some.state in
     let o = c.self.inside.end in
-    let R : List (Option g.row.P.Denot) = c.settle.new.rack.items in
+    let R : List (Option g.row.P.Denot) = c.settle.new.moving.items in
     let r = subst (λ z. InOrder g.N.Fits.fits z) (sym c.self.view_is) c.requires.order in
     subst (λ (z : Polls g.row.P.Denot g.row.N-Key.Denot). AreOf z.state z.next R × FitAt g.N.Fits.fits z.key z.state R) (sym l.0) (
       gives_back x o.state c.self.inside.items.items c.look.new.items.items c.settle.new.items.items R r.held l.1 c.settle.ensures.each c.settle.ensures.lengths.1 r.state,
@@ -24,7 +24,7 @@ returns-clause-answer g c =
     let x : FastState = c.in-Some.state in
     let v = c.self.view_is in
     let came : List (Option g.row.P.Denot) = c.look.new.items.items in
-    let R : List (Option g.row.P.Denot) = c.settle.new.rack.items in
+    let R : List (Option g.row.P.Denot) = c.settle.new.moving.items in
     let done = c.acknowledge.ensures.state ∙ ap (acknowledged R) l.0 ∙ ap (λ (z : Observes g.row.P.Denot g.row.N-Key.Denot). acknowledged R (took x came z.past)) v in (
       ap (λ (z : Polls g.row.P.Denot g.row.N-Key.Denot). z.number) (c.end-2.view_is ∙ done),
       (
@@ -45,7 +45,7 @@ returns-clause-order g c =
     let x : FastState = c.in-Some.state in
     let o = c.self.inside.end in
     let items' : List (Option g.row.P.Denot) = c.settle.new.items.items in
-    let R : List (Option g.row.P.Denot) = c.settle.new.rack.items in
+    let R : List (Option g.row.P.Denot) = c.settle.new.moving.items in
     let r = subst (λ z. InOrder g.N.Fits.fits z) (sym c.self.view_is) c.requires.order in
     subst (λ (z : Polls g.row.P.Denot g.row.N-Key.Denot). InOrder g.N.Fits.fits record { past = z; current = Some x; previous = c.self.inside.current; items = items' }) (sym (c.acknowledge.ensures.state ∙ ap (acknowledged R) l.0)) record {
       state = l.1.3;

@@ -2,7 +2,7 @@ use Rattle.std.proofs.Common.{◌∙◌, sym, arith}
 use Rattle.std.proofs.lemmas.Slice.Zip.{AllZip-long}
 use Rattle.af_fast.specs.Ready.{IsClientOf}
 use Rattle.af_fast.proofs.Zips.{zip_at, zip_set}
-use Rattle.af_fast.proofs.run_tests.clients_turn.Goals as goal
+use Rattle.af_fast.proofs.turn_tests.clients_turn.Goals as goal
 
 pub bounds-clients-i : goal.bounds-clients-i
 bounds-clients-i g c = omega (arith, AllZip-long IsClientOf c.args.streams.now c.loop-i.clients c.loop-i.invariant)
