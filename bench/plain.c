@@ -3,6 +3,7 @@
    plain random SEED DIR   a small session drawn from a number, and its script
    plain mix DIR OUT       mixes the session of DIR into OUT
    plain ring ROUNDS       64 frames through a ring of one producer and one consumer, ROUNDS times; prints a check
+   plain cycle HOW FRAMES  seven rings of 65,536 frames each, filled, and mixed FRAMES at a time unless HOW is `fill`; `log` keeps what was taken, as the fast mixer does, and `runs` too, but copies a ring in at most two runs and not frame by frame; prints a check
    plain kernel ROUNDS     four takes of 64 frames, added up and finished, ROUNDS times; prints a check */
 #include <stdatomic.h>
 #include <stdint.h>
@@ -176,11 +177,64 @@ static void ring(uint32_t rounds) {
     printf("%u\n", check);
 }
 
+enum { DEEP = 65536 };
+typedef struct { _Atomic uint32_t front, rear, gains; Frame cells[DEEP]; } Ring;
+static Ring rings[MOST];
+
+static void fill(Ring *r) {
+    for (int chunk = 0; chunk < DEEP / 64; chunk++) {
+        uint32_t at = atomic_load_explicit(&r->rear, memory_order_relaxed);
+        for (uint32_t i = 0; i < 64; i++) {
+            uint32_t word = i * 0x01234567u;
+            r->cells[(at + i) & (DEEP - 1)] = (Frame){ (int16_t)(word & 0xffff), (int16_t)(word >> 16) };
+        }
+        atomic_store_explicit(&r->rear, at + 64, memory_order_release);
+    }
+}
+
+static uint32_t take(Ring *r, Frame *into, uint32_t n, int in_runs) {
+    uint32_t at = atomic_load_explicit(&r->front, memory_order_relaxed);
+    uint32_t there = atomic_load_explicit(&r->rear, memory_order_acquire) - at;
+    if (n > there) n = there;
+    if (in_runs) {
+        uint32_t from = at & (DEEP - 1), first = n < DEEP - from ? n : DEEP - from;
+        memcpy(into, r->cells + from, first * sizeof *into);
+        memcpy(into + first, r->cells, (n - first) * sizeof *into);
+    } else
+        for (uint32_t i = 0; i < n; i++) into[i] = r->cells[(at + i) & (DEEP - 1)];
+    atomic_store_explicit(&r->front, at + n, memory_order_release);
+    return n;
+}
+
+static void cycle(const char *how, uint32_t len) {
+    int in_runs = !strcmp(how, "runs"), keeps = in_runs || !strcmp(how, "log");
+    uint32_t check = 0, cycles = strcmp(how, "fill") ? DEEP / len : 0;
+    Frame *buffer = malloc(len * sizeof *buffer), *out = malloc(len * sizeof *out), *kept = malloc(MOST * DEEP * sizeof *kept);
+    Sum *sums = malloc(len * sizeof *sums);
+    for (int i = 0; i < MOST; i++) {
+        fill(&rings[i]);
+        rings[i].gains = 0x08000800u + 0x00100020u * i;
+    }
+    for (uint32_t round = 0; round < cycles; round++) {
+        memset(sums, 0, len * sizeof *sums);
+        for (int i = 0; i < MOST; i++) {
+            uint32_t gains = atomic_load_explicit(&rings[i].gains, memory_order_acquire);
+            uint32_t n = take(&rings[i], buffer, len, in_runs);
+            if (keeps) { memcpy(kept, buffer, n * sizeof *buffer); kept += n; }
+            accumulate(buffer, n, 0, used(gains & 0xffff, UNITY), used(gains >> 16, UNITY), sums);
+        }
+        finish(sums, len, out);
+        check = check * 31 ^ ((uint16_t)out[len - 1].left | (uint32_t)(uint16_t)out[len - 1].right << 16);
+    }
+    printf("%u\n", check);
+}
+
 int main(int words, char **word) {
     if (words == 3 && !strcmp(word[1], "make")) make(word[2]);
     else if (words == 4 && !strcmp(word[1], "random")) make_random(strtoul(word[2], 0, 10), word[3]);
     else if (words == 4 && !strcmp(word[1], "mix")) mix(word[2], word[3]);
     else if (words == 3 && !strcmp(word[1], "kernel")) kernel(strtoul(word[2], 0, 10));
+    else if (words == 4 && !strcmp(word[1], "cycle")) cycle(word[2], strtoul(word[3], 0, 10));
     else if (words == 3 && !strcmp(word[1], "ring")) ring(strtoul(word[2], 0, 10));
     else return 2;
     return 0;
