@@ -1,4 +1,6 @@
 -- What a mixer ends as, once a part that it lent comes back.
+use denote.Struct.Tuple.{Tuple}
+use Rattle.std.specs.Prelude.{[], ◌∷◌}
 use Rattle.std.specs.Borrow.{Lends, Fml, MutBor}
 use Rattle.af_server.specs.Order.{ServerState}
 use Rattle.af_stateq.specs.Observes.{Observes}
@@ -18,10 +20,6 @@ use Rattle.af_fast.specs.Mixer.{MixerState}
 abbrev pub lends_observer : MutBor MixerState → MutBor (Observes ServerState StreamNames) → Fml
 lends_observer m r = Lends the_row (observer_row server_row names_row names_row (record { fits = stream_fits })) m r (λ o. record m.now { observer = o })
 
--- its end of the report is the last value written through r
-abbrev pub lends_writer : MutBor MixerState → MutBor WriterSide → Fml
-lends_writer m r = Lends the_row writer_row m r (λ w. record m.now { writer = w })
-
--- its end of the pipe is the last value written through r
-abbrev pub lends_pipe : MutBor MixerState → MutBor OutSide → Fml
-lends_pipe m r = Lends the_row pipe_row m r (λ p. record m.now { pipe = p })
+-- its ends of the report and of the pipe are the last two values written through r
+abbrev pub lends_ends : MutBor MixerState → MutBor (WriterSide × OutSide) → Fml
+lends_ends m r = Lends the_row (Tuple (writer_row ∷ pipe_row ∷ [])) m r (λ e. record m.now { writer = e.0; pipe = e.1 })
