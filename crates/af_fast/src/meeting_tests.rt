@@ -34,6 +34,23 @@ fn meet_both<L: Ledger>(
     ensures reader { reader.new.cell ≡ links.now.report.now }
     ensures from { in_made from.new ≡ links.now.pipe.now }
 {
+    let (writer, pipe) = mixer.pair();
+    meet_report(links.report, writer, reader, steps);
+    meet_pipe(links.pipe, from, pipe, steps);
+}
+
+// The last meeting, by two references: no proof goes on with the mixer after it.
+fn meet_last<L: Ledger>(
+    mixer: &mut FastMixer,
+    links: &Links<'_>,
+    reader: &mut ReportReader,
+    from: &mut PipeIn,
+    steps: &mut Steps<L>,
+)
+    requires linked { IsLinked links.now mixer.old }
+    requires reader { reader.old.cell ≡ links.now.report.now }
+    requires from { in_made from.old ≡ links.now.pipe.now }
+{
     let (writer, pipe) = mixer.ends();
     meet_report(links.report, writer, reader, steps);
     meet_pipe(links.pipe, from, pipe, steps);
@@ -75,7 +92,7 @@ fn heard(turned: &Turned, cycles: u64) -> bool {
     turned.out == out && turned.report.cycle == cycles
 }
 
-// Two cycles with a meeting after each.
+// Two cycles with a meeting after each, and a last meeting.
 fn meets<L: Ledger>(alloc: Global, blank: Blank) -> Result<bool, Memory>
     requires name { blank.name ≡ L.name }
     requires parts { (blank.parts ≡ L.parts) × (0 < blank.parts) }
@@ -86,6 +103,13 @@ fn meets<L: Ledger>(alloc: Global, blank: Blank) -> Result<bool, Memory>
     push_command(&mut ends.mutator, &links, Command::MixWrite, &mut steps);
     let first = passes(&mut ends, &links, &mut steps);
     let second = passes(&mut ends, &links, &mut steps);
+    let Ends {
+        mut mixer,
+        mut reader,
+        mut pipe,
+        ..
+    } = ends;
+    meet_last(&mut mixer, &links, &mut reader, &mut pipe, &mut steps);
     Ok(heard(&first, 1) && heard(&second, 2))
 }
 

@@ -1,7 +1,7 @@
 //! The fast mixer, how it is made, and what it lends.
 ghost use Rattle.std.specs.Prelude.{◌≡◌, ◌*◌, ◌≤◌, ◌^◌, IfOk, length};
 ghost use Rattle.std.specs.Borrow.{sem};
-ghost use Rattle.af_fast.specs.Lends.{lends_ends, lends_observer};
+ghost use Rattle.af_fast.specs.Lends.{lends_ends, lends_observer, lends_pair};
 ghost use Rattle.af_stateq.specs.Observes.{InOrder};
 ghost use Rattle.af_fast.specs.Held.{stream_fits};
 ghost use Rattle.af_fast.specs.Mixer.{IsInOrder, IsUnused, made_of};
@@ -121,11 +121,22 @@ impl FastMixer {
         &mut self.observer
     }
 
-    /// Lends the ends of the report and of the pipe to their meetings, both at once: `let (writer, pipe) = mixer.ends();`.
-    pub fn ends(&mut self) -> &mut (ReportWriter, PipeOut)
+    /// Lends the ends of the report and of the pipe to their meetings, both at once, by one reference to the pair: `let (writer, pipe) = mixer.pair();`.
+    ///
+    /// It is `ends` for a caller whose own proof goes on with the mixer.
+    pub fn pair(&mut self) -> &mut (ReportWriter, PipeOut)
+        ensures* lends { sem 𝓛 (lends_pair self.entry result) }
         ensures value { (result.now.0 ≡ self.entry.now.writer) × (result.now.1 ≡ self.entry.now.pipe) }
-        ensures* lends { sem 𝓛 (lends_ends self.entry result) }
     {
         &mut self.ends
+    }
+
+    /// Lends the ends of the report and of the pipe to their meetings, both at once.
+    pub fn ends(&mut self) -> (&mut ReportWriter, &mut PipeOut)
+        ensures* lends { sem 𝓛 (lends_ends self.entry result) }
+        ensures value { (result.0.now ≡ self.entry.now.writer) × (result.1.now ≡ self.entry.now.pipe) }
+    {
+        let pair = self.pair();
+        (&mut pair.0, &mut pair.1)
     }
 }

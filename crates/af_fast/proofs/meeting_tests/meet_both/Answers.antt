@@ -7,4 +7,4 @@ use Rattle.af_fast.proofs.meeting_tests.meet_both.Goals as goal
 pub returns-clause-order : goal.returns-clause-order
 returns-clause-order g c =
     let count = length c.args.reader.now.events in
-    met_order c.args.mixer.now c.meet_report.new.writer c.meet_pipe.new.to count c.requires.order (c.meet_report.ensures.writer ∙ ap (λ (w : WriterSide). w.events ++ writes.Learn count ∷ []) c.ends.ensures.value.0)
+    met_order c.args.mixer.now c.meet_report.new.writer c.meet_pipe.new.to count c.requires.order (c.meet_report.ensures.writer ∙ ap (λ (w : WriterSide). w.events ++ writes.Learn count ∷ []) c.pair.ensures.value.0)
