@@ -6,4 +6,5 @@ mod Parts
 mod Adopted
 mod Noted
 mod Added
+mod Meeting
 mod Zips

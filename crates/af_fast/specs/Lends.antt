@@ -1,5 +1,7 @@
 -- What a mixer ends as, once a part that it lent comes back.
-use Rattle.std.specs.Borrow.{Lends, Fml, MutBor}
+use denote.Struct.Tuple.{Tuple}
+use Rattle.std.specs.Prelude.{[], ◌∷◌}
+use Rattle.std.specs.Borrow.{Lends, LendsBoth, Fml, MutBor}
 use Rattle.af_server.specs.Order.{ServerState}
 use Rattle.af_stateq.specs.Observes.{Observes}
 use Rattle.af_link.specs.declared.names.StreamNames.{StreamNames}
@@ -18,10 +20,10 @@ use Rattle.af_fast.specs.Mixer.{MixerState}
 abbrev pub lends_observer : MutBor MixerState → MutBor (Observes ServerState StreamNames) → Fml
 lends_observer m r = Lends the_row (observer_row server_row names_row names_row (record { fits = stream_fits })) m r (λ o. record m.now { observer = o })
 
--- its end of the report is the last value written through r
-abbrev pub lends_writer : MutBor MixerState → MutBor WriterSide → Fml
-lends_writer m r = Lends the_row writer_row m r (λ w. record m.now { writer = w })
+-- its ends of the report and of the pipe are the parts of the last value written through r
+abbrev pub lends_pair : MutBor MixerState → MutBor (WriterSide × OutSide) → Fml
+lends_pair m r = Lends the_row (Tuple (writer_row ∷ pipe_row ∷ [])) m r (λ e. record m.now { writer = e.0; pipe = e.1 })
 
--- its end of the pipe is the last value written through r
-abbrev pub lends_pipe : MutBor MixerState → MutBor OutSide → Fml
-lends_pipe m r = Lends the_row pipe_row m r (λ p. record m.now { pipe = p })
+-- they are the last values written through the two references
+abbrev pub lends_ends : MutBor MixerState → MutBor WriterSide × MutBor OutSide → Fml
+lends_ends m r = LendsBoth the_row writer_row pipe_row m r (λ w p. record m.now { writer = w; pipe = p })

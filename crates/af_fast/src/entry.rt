@@ -58,12 +58,13 @@ impl FastMixer {
     {
         let FastMixer {
             observer,
-            pipe,
+            ends,
             log,
             sums,
             buffer,
             ..
         } = self;
+        let (_, pipe) = ends;
         let entry = play_slots(observer, pipe, log, links, state, buffer, steps);
         mix(&parts_of(log.frames(), &entry), sums, out);
         entry
@@ -104,6 +105,6 @@ impl FastMixer {
             cycle: self.log.len() as u64,
             slots: self.reports,
         };
-        self.writer.store(links.report, &report, steps);
+        self.ends.0.store(links.report, &report, steps);
     }
 }

@@ -19,6 +19,8 @@ mod flush_tests;
 #[cfg(test)]
 mod generation_tests;
 #[cfg(test)]
+mod meeting_tests;
+#[cfg(test)]
 mod plain_tests;
 #[cfg(test)]
 mod run_tests;

@@ -1,7 +1,7 @@
 //! The fast mixer, how it is made, and what it lends.
 ghost use Rattle.std.specs.Prelude.{◌≡◌, ◌*◌, ◌≤◌, ◌^◌, IfOk, length};
 ghost use Rattle.std.specs.Borrow.{sem};
-ghost use Rattle.af_fast.specs.Lends.{lends_observer, lends_pipe, lends_writer};
+ghost use Rattle.af_fast.specs.Lends.{lends_ends, lends_observer, lends_pair};
 ghost use Rattle.af_stateq.specs.Observes.{InOrder};
 ghost use Rattle.af_fast.specs.Held.{stream_fits};
 ghost use Rattle.af_fast.specs.Mixer.{IsInOrder, IsUnused, made_of};
@@ -20,8 +20,8 @@ use std::marker::Model;
 #[derive(Drop)]
 pub struct FastMixer {
     pub(crate) observer: Observer<Server, StreamNames>,
-    pub(crate) writer: ReportWriter,
-    pub(crate) pipe: PipeOut,
+    // The ends of the report and of the pipe.
+    pub(crate) ends: (ReportWriter, PipeOut),
     pub(crate) log: FastLog,
     // The frames of a cycle, and the entries of the whole log.
     pub(crate) frames: usize,
@@ -44,7 +44,7 @@ impl Model for FastMixer {
 
     ghost Value = { MixerState };
 
-    ghost view = { λ m. record { observer = m.observer; writer = m.writer; pipe = m.pipe; log = m.log; frames = m.frames; cycles = m.cycles; adopted = m.adopted; exited = m.exited; cold = m.cold; last = m.last; reports = m.reports } };
+    ghost view = { λ m. record { observer = m.observer; writer = m.ends.0; pipe = m.ends.1; log = m.log; frames = m.frames; cycles = m.cycles; adopted = m.adopted; exited = m.exited; cold = m.cold; last = m.last; reports = m.reports } };
 
     ghost invariant = { λ m. (length m.sums.items ≡ m.frames) × (length m.buffer.items ≡ m.frames) };
 }
@@ -91,8 +91,7 @@ impl FastMixer {
         let buffer = silence(alloc, frames)?;
         Ok(FastMixer {
             observer,
-            writer,
-            pipe,
+            ends: (writer, pipe),
             log,
             frames,
             cycles,
@@ -121,19 +120,22 @@ impl FastMixer {
         &mut self.observer
     }
 
-    /// Lends the end of the report to a meeting.
-    pub fn writer(&mut self) -> &mut ReportWriter
-        ensures value { result.now ≡ self.entry.now.writer }
-        ensures* lends { sem 𝓛 (lends_writer self.entry result) }
+    /// Lends the ends of the report and of the pipe to their meetings, both at once, by one reference to the pair: `let (writer, pipe) = mixer.pair();`.
+    ///
+    /// It is `ends` for a caller whose own proof goes on with the mixer.
+    pub fn pair(&mut self) -> &mut (ReportWriter, PipeOut)
+        ensures* lends { sem 𝓛 (lends_pair self.entry result) }
+        ensures value { (result.now.0 ≡ self.entry.now.writer) × (result.now.1 ≡ self.entry.now.pipe) }
     {
-        &mut self.writer
+        &mut self.ends
     }
 
-    /// Lends the end of the pipe to a meeting.
-    pub fn pipe(&mut self) -> &mut PipeOut
-        ensures value { result.now ≡ self.entry.now.pipe }
-        ensures* lends { sem 𝓛 (lends_pipe self.entry result) }
+    /// Lends the ends of the report and of the pipe to their meetings, both at once.
+    pub fn ends(&mut self) -> (&mut ReportWriter, &mut PipeOut)
+        ensures* lends { sem 𝓛 (lends_ends self.entry result) }
+        ensures value { (result.0.now ≡ self.entry.now.writer) × (result.1.now ≡ self.entry.now.pipe) }
     {
-        &mut self.pipe
+        let pair = self.pair();
+        (&mut pair.0, &mut pair.1)
     }
 }

@@ -207,6 +207,7 @@ pub(crate) fn turn<L: Ledger>(ends: &mut Ends, links: &Links<'_>, steps: &mut St
     requires ready { IsReady links.now 4 ends.old.mutator ends.old.mixer ends.old.reader }
     ensures ready { IsReady links.now 4 ends.new.mutator ends.new.mixer ends.new.reader }
     ensures same { ends.new.mutator ≡ ends.old.mutator }
+    ensures pipe { ends.new.pipe ≡ ends.old.pipe }
 {
     let mut out = [BEFORE; 4];
     let cycle = one_cycle(&mut ends.mixer, links, &mut out, steps);

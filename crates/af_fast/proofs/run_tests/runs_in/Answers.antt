@@ -1,4 +1,4 @@
-use Rattle.std.proofs.Common.{◌≡◌, Option, sym, ap, subst, ◌∙◌}
+use Rattle.std.proofs.Common.{Option, sym, ap, subst, ◌∙◌}
 use Rattle.af_server.specs.Order.{ServerState}
 use Rattle.af_stateq.specs.Ends.{Pushes}
 use Rattle.af_link.specs.declared.names.StreamNames.{StreamNames}

@@ -1,4 +1,3 @@
-use Rattle.std.proofs.Common.{◌≡◌}
 use Rattle.af_fast.specs.Ready.{IsClientOf}
 use Rattle.af_fast.proofs.thread_tests.write_in.Given as goal
 
