@@ -12,7 +12,7 @@ invariant-loop-number g l = record {
       ≡ behind (map track_view l.tracks.items) (tracks_in (g.S.Store.files l.fn.store) l.number l.total (map playable_view (drop l.number l.list)));
   same : g.S.Store.told l.fn.store → SameFiles (g.S.Store.files l.fn.store) (g.S.Store.files l.store);
   tells : g.S.Store.told l.fn.store → g.S.Store.told l.store;
-  later : g.S.Store.faults l.fn.store ≤ g.S.Store.faults l.store;
+  stays : g.S.Store.faults l.store ≡ g.S.Store.faults l.fn.store;
   total : l.total ≤ 16777216;
   ready : All IsReady l.tracks.items;
   count : length l.tracks.items ≡ l.number;
