@@ -3,7 +3,9 @@ use crate::status::Status;
 use crate::words::names_of;
 use af_io::{MemSink, MemStore, NoGate};
 use std::alloc::Global;
+use std::process::Abort;
 use std::test::Fail;
+use std::thread::Threads;
 
 /// Two frames of one stereo track in one cycle.
 const ONE: &str =
@@ -95,6 +97,7 @@ fn refusals_print_their_lines(rt: HostRuntime) -> Result<(), Fail> {
 }
 
 /// A track of a worked case: its channels, its key of scale, its op of gain, and the samples that its client writes.
+#[derive(Clone, Copy)]
 struct Voice<'a> {
     channels: u32,
     scale: &'a str,
@@ -139,13 +142,13 @@ fn store_of(alloc: Global, voices: &[Voice<'_>]) -> Result<MemStore, Fail> {
 }
 
 /// The output of some tracks, and the line without its line feed.
-fn expect_mix(
-    rt: &HostRuntime,
+fn expect_mix<R: Threads + Sync + Abort>(
+    rt: &R,
+    alloc: Global,
     voices: &[Voice<'_>],
     want: [u8; 8],
     line: &str,
 ) -> Result<(), Fail> {
-    let alloc = rt.alloc();
     let mut store = store_of(alloc, voices)?;
     let mut out = MemSink::new(alloc, Vec::new(alloc));
     let words = first_words(alloc)?;
@@ -178,12 +181,14 @@ fn tracks_are_added(rt: HostRuntime) -> Result<(), Fail> {
     let turned = [0x01, 0x80, 0, 0];
     expect_mix(
         &rt,
+        rt.alloc(),
         &[plain(2, 2, &TONE), plain(2, 1, &loud)],
         [0xff, 0x7f, 0x00, 0x80, 0xd0, 7, 0x30, 0xf8],
         "cycles 1 mixed 3 dropped 0 queued 0 peak 32768",
     )?;
     expect_mix(
         &rt,
+        rt.alloc(),
         &[plain(2, 1, &loud), plain(2, 1, &loud), plain(2, 1, &turned)],
         [0xff, 0x7f, 0x00, 0x80, 0, 0, 0, 0],
         "cycles 1 mixed 3 dropped 0 queued 0 peak 32768",
@@ -191,6 +196,7 @@ fn tracks_are_added(rt: HostRuntime) -> Result<(), Fail> {
     let one = [0xe8, 3];
     expect_mix(
         &rt,
+        rt.alloc(),
         &[
             plain(1, 1, &one),
             plain(1, 1, &one),
@@ -262,7 +268,7 @@ fn gains_are_applied(rt: HostRuntime) -> Result<(), Fail> {
             count,
             bytes: &bytes,
         };
-        expect_mix(&rt, &[voice], want, line)?;
+        expect_mix(&rt, rt.alloc(), &[voice], want, line)?;
     }
     Ok(())
 }
