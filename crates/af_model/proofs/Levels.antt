@@ -138,12 +138,6 @@ found-all step size Counts starts found n short below = record {
   complete = λ s ws m c e k. below.complete s ws m c e (short s ws m c e) k;
 }
 
-pub next-none : {W M : Type 0} (step : W → M → Option M) (now : List M) → IsNext step (take 0 now) []
-next-none step now = record {
-  sound = λ n c. absurd (omega (arith, c.1));
-  complete = λ w m n c e. absurd (omega (arith, c.1));
-}
-
 -- what one place of now leads to is added
 pub next-more : {W M : Type 0} (step : W → M → Option M) (now old new : List M) (i : ℕ) (m d : M)
     → i < length now → m ≡ get_or now i d → IsNext step (take i now) old → Spreads step m old new → IsNext step (take (i + 1) now) new
@@ -180,13 +174,6 @@ pub All-from_adds : {M : Type 0} (P : M → Type 0) (old : List M) (found : Opti
     → Adds old found new → IfSome found P → All P old → All P new
 All-from_adds P old found new adds here all =
     All-added P old new (λ x. found ≡ Some x) adds.only (λ x e. MatchOption-at_some _ P x e here) all
-
-pub collects-none : {M : Type 0} (Counts : M → Type 0) (now old : List M) → Collects Counts (take 0 now) old old
-collects-none Counts now old = record {
-  keeps = λ x c. c;
-  has = λ x c k. absurd (omega (arith, c.1));
-  only = λ x c. inl c;
-}
 
 chosen : {M : Type 0} (b : Bool) (m x : M) → cond b (Some m) None ≡ Some x → m ≡ x
 chosen true m x e = same_Some _ _ e
