@@ -1,7 +1,6 @@
 -- Writes in a loop.
-use Rattle.std.proofs.Common.{◌≡◌, ℕ, ◌+◌, ◌≤◌, List, [], ◌++◌, length, take, drop, Option, Some, None, IsSome, unwrap_or, IfSome, Result, Ok, Err, IsErrOf, refl, sym, ap, ◌∙◌, subst, append-nil, append_assoc, arith}
-use Rattle.std.proofs.lemmas.List.{take_at, take_all}
-use Rattle.std.specs.Io.KnownBytes.{Appends as AppendsKnown, Keeps, Consumes, IsAtEnd}
+use Rattle.std.proofs.Common.{◌≡◌, ℕ, ◌+◌, List, [], ◌++◌, take, Option, Some, None, IsSome, unwrap_or, Result, Ok, Err, IsErrOf, refl, ap, ◌∙◌, append_assoc}
+use Rattle.std.specs.Io.KnownBytes.{Appends as AppendsKnown}
 use Rattle.af_io.specs.declared.store.StoreError.{StoreError}
 use Rattle.af_io.specs.declared.store.StoreError.TheVariants.{Failed, Memory}
 use Rattle.af_io.specs.Files.{Appends}

@@ -1,5 +1,5 @@
 -- Whole reads and writes, over a reader or a writer that tells its bytes.
-use Rattle.std.specs.Prelude.{◌≡◌, ℕ, ◌+◌, List, [], ◌++◌, take, Option, Some, None, is_some, unwrap_or, IfSome, Result, Ok, Err, OnOk}
+use Rattle.std.specs.Prelude.{◌≡◌, ℕ, ◌+◌, List, take, Option, IfSome, Result, Ok, Err, OnOk}
 use Rattle.std.specs.Io.KnownBytes.{Appends as AppendsKnown}
 
 -- after a whole read: what the reader had left, up to one byte past the limit
