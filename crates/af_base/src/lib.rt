@@ -29,6 +29,3 @@ pub use turn::{
     TurnEntry,
 };
 pub use want::Memory;
-
-#[cfg(test)]
-mod tests;

@@ -2,23 +2,13 @@
 #![tactic(auto)]
 
 mod events;
-#[cfg(test)]
-mod merge_plain;
-#[cfg(test)]
-mod merge_random;
-#[cfg(test)]
-mod merge_tests;
 mod merging;
 mod mixing;
-#[cfg(test)]
-mod mixing_tests;
 mod newest;
 mod pieces;
 mod plain_calls;
 mod plain_places;
 mod plain_queue;
-#[cfg(test)]
-mod plain_queue_tests;
 mod point;
 mod search;
 mod states;

@@ -18,6 +18,16 @@ mod causes;
 #[cfg(test)]
 mod hostile_tests;
 #[cfg(test)]
+mod merge_plain;
+#[cfg(test)]
+mod merge_random;
+#[cfg(test)]
+mod merge_tests;
+#[cfg(test)]
+mod mixing_tests;
+#[cfg(test)]
+mod plain_queue_tests;
+#[cfg(test)]
 mod relay;
 #[cfg(test)]
 mod sides;

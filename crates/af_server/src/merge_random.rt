@@ -2,10 +2,10 @@
 ghost use Rattle.std.specs.Prelude.{◌<◌};
 ghost use Rattle.af_model.specs.Merges.{IsStart};
 
-use crate::TrackPoint;
 use crate::merge_plain::{Lists, some_order};
 use crate::merge_tests::decide;
 use af_base::{ClientEvent, HandEvent, ServerEvent};
+use af_model::TrackPoint;
 use std::alloc::{AllocError, Global};
 use std::test::Fail;
 

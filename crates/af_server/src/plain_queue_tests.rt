@@ -1,6 +1,6 @@
 //! Cases of calls whose answers were worked out by hand.
-use crate::{PlainQueue, Poll, QueueAnswer, QueueCall};
 use af_base::{Command, Memory, Push};
+use af_model::{PlainQueue, Poll, QueueAnswer, QueueCall};
 use std::alloc::{AllocError, Global};
 use std::test::Fail;
 

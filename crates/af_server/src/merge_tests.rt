@@ -3,8 +3,8 @@ ghost use Rattle.std.specs.Prelude.{◌<◌, ◌≤◌, ◌^◌, IsTrue, length}
 ghost use Rattle.af_model.specs.Merges.{IsStart};
 
 use crate::merge_plain::Lists;
-use crate::{Merge, TrackPoint, merge_check};
 use af_base::{ClientEvent, HandEvent, Memory, ServerEvent};
+use af_model::{Merge, TrackPoint, merge_check};
 use std::alloc::Global;
 use std::test::Fail;
 
@@ -195,5 +195,16 @@ fn rear_may_wait_for_its_word(rt: HostRuntime) -> Result<(), Fail> {
         &fresh(0),
     )?;
     assert_eq!(rt; got, (true, (false, false, true)));
+    Ok(())
+}
+
+/// Three free lists without a meeting cost what their different stages cost, and not what their orders would.
+#[test]
+fn free_lists_cost_their_stages(rt: HostRuntime) -> Result<(), Fail> {
+    let client = [ClientEvent::Release { count: 1 }; 80];
+    let server = [ServerEvent::Tally { missing: 1 }; 80];
+    let hand = [HandEvent::SetFlags { bits: 8 }; 80];
+    let legal = merge_check(rt.alloc(), &client, &server, &hand, &fresh(0))?;
+    assert!(rt; legal);
     Ok(())
 }

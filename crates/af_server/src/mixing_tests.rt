@@ -1,5 +1,5 @@
-use crate::mix_entry;
 use af_base::{Cycle, CycleEntry, FastLog, Frame, Seen, SlotEntry};
+use af_model::mix_entry;
 use std::test::Fail;
 
 #[test]

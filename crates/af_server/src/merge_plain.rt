@@ -1,6 +1,6 @@
 //! A search over all orders of three lists, one by one, for the tests.
-use crate::TrackPoint;
 use af_base::{ClientEvent, HandEvent, ServerEvent};
+use af_model::TrackPoint;
 
 pub(crate) type Lists<'a> = (&'a [ClientEvent], &'a [ServerEvent], &'a [HandEvent]);
 

@@ -1,4 +1,4 @@
-use crate::{
+use af_base::{
     Command, CommandLook, CommandLooks, Cycle, CycleEntry, FastLog, Frame, Gains, Part, Seen,
     SlotEntry, plain_frame, plain_mix,
 };
