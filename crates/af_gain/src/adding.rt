@@ -9,7 +9,7 @@ use std::simd::prelude::*;
 
 /// The samples of the frame at a place and of the next one as they are heard, in lanes.
 #[inline(always)]
-fn heard_two(frames: &[Frame], mono: bool, at: usize) -> i32x4
+pub(crate) fn heard_two(frames: &[Frame], mono: bool, at: usize) -> i32x4
     requires { at + 2 ≤ length frames.now }
     ensures lanes { result ≡ (frame_at frames.now at).left ∷ right_sample mono (frame_at frames.now at) ∷ (frame_at frames.now (at + 1)).left ∷ right_sample mono (frame_at frames.now (at + 1)) ∷ [] }
     ensures heard { (IsHeard mono (frame_at frames.now at)) × (IsHeard mono (frame_at frames.now (at + 1))) }

@@ -1,8 +1,9 @@
 ghost use Rattle.std.specs.Prelude.{◌≡◌, ◌≤◌, ◌+◌, ◌*◌, ◌^◌, pos, ◌+ℤ◌, ◌*ℤ◌, unsigned_abs};
+ghost use Rattle.af_base.specs.Gain.{gains_used};
 ghost use Rattle.af_base.specs.Mix.{right_sample};
 ghost use Rattle.af_gain.specs.Sums.{IsWithin, IsHeard, added};
 
-use af_base::Frame;
+use af_base::{Frame, Gains};
 
 /// The running sums of one position: for each side the sum of sample times gain, in units of a sample divided by unity.
 #[derive(Clone, Copy, Debug, PartialEq, Eq)]
@@ -38,4 +39,12 @@ pub(crate) fn grown_one(sum: Sum, frame: Frame, mono: bool, left_gain: u16, righ
         left: grown(sum.left, frame.left, left_gain),
         right: grown(sum.right, right_of(frame, mono), right_gain),
     }
+}
+
+/// The gains that a gain word gives at a scale.
+pub(crate) fn gains_of(word: u32, scale: u16) -> Gains
+    requires { scale ≤ 4096 }
+    ensures { result ≡ gains_used word scale }
+{
+    Gains::clamped(word).scaled(scale)
 }
