@@ -4,7 +4,7 @@
    plain mix DIR OUT       mixes the session of DIR into OUT
    plain ring ROUNDS       64 frames through a ring of one producer and one consumer, ROUNDS times; prints a check
    plain cycle HOW FRAMES  seven rings of 65,536 frames each, filled, and mixed FRAMES at a time unless HOW is `fill`; `log` keeps what was taken, as the fast mixer does, and `runs` too, but copies a ring in at most two runs and not frame by frame; prints a check
-   plain kernel ROUNDS     four takes of 64 frames, added up and finished, ROUNDS times; prints a check */
+   plain kernel BITS WHAT FRAMES   a kernel over sums of 64 or 32 bits, 1000 times, and takes of 64 or 240 frames: `stereo` and `mono` clear the sums and add one take, `clear` only clears, `finish` finishes, and `mix` mixes four takes; prints a check */
 #include <stdatomic.h>
 #include <stdint.h>
 #include <stdio.h>
@@ -129,19 +129,56 @@ static void mix(const char *folder, const char *target) {
     fclose(out);
 }
 
-static void kernel(uint32_t rounds) {
-    static Frame frames[64], out[64];
-    static Sum sums[64];
-    uint32_t check = 0;
-    for (int i = 0; i < 64; i++) frames[i] = (Frame){ 1234 + i, -2345 - i };
-    for (uint32_t round = 0; round < rounds; round++) {
-        memset(sums, 0, sizeof sums);
-        for (int take = 0; take < 4; take++) accumulate(frames, 64, 0, used(round & 0xffff, UNITY), used(round >> 16, UNITY), sums);
-        finish(sums, 64, out);
-        check ^= (uint16_t)out[round % 64].left;
+/* The kernels over sums of so many bits, each behind a call that isn't inlined. */
+#define ONCE static __attribute__((noinline)) void
+#define KERNELS(BITS) \
+    typedef struct { int##BITS##_t left, right; } Sum##BITS; \
+    static int16_t clamp##BITS(int##BITS##_t x) { return x < -32768 ? -32768 : x > 32767 ? 32767 : x; } \
+    static inline void add##BITS(const Frame *frames, uint32_t n, uint32_t mono, int32_t left, int32_t right, Sum##BITS *sums) { \
+        if (mono) \
+            for (uint32_t i = 0; i < n; i++) { sums[i].left += frames[i].left * left; sums[i].right += frames[i].left * right; } \
+        else \
+            for (uint32_t i = 0; i < n; i++) { sums[i].left += frames[i].left * left; sums[i].right += frames[i].right * right; } \
+    } \
+    static inline void end##BITS(const Sum##BITS *sums, uint32_t n, Frame *out) { \
+        for (uint32_t i = 0; i < n; i++) { out[i].left = clamp##BITS(sums[i].left >> 12); out[i].right = clamp##BITS(sums[i].right >> 12); } \
+    } \
+    ONCE clear_once##BITS(Sum##BITS *sums, uint32_t n) { memset(sums, 0, n * sizeof *sums); } \
+    ONCE add_once##BITS(const Frame *frames, uint32_t n, uint32_t mono, int32_t left, int32_t right, Sum##BITS *sums) { add##BITS(frames, n, mono, left, right, sums); } \
+    ONCE finish_once##BITS(const Sum##BITS *sums, uint32_t n, Frame *out) { end##BITS(sums, n, out); } \
+    ONCE mix_once##BITS(const Part *parts, int count, Sum##BITS *sums, Frame *out, uint32_t n) { \
+        memset(sums, 0, n * sizeof *sums); \
+        for (int i = 0; i < count; i++) add##BITS(parts[i].frames, parts[i].n, parts[i].mono, used(parts[i].gains & 0xffff, parts[i].scale), used(parts[i].gains >> 16, parts[i].scale), sums); \
+        end##BITS(sums, n, out); \
+    } \
+    static uint32_t kernel##BITS(const char *what, uint32_t n) { \
+        static Frame takes[4][240], out[240]; \
+        static Sum##BITS sums[240]; \
+        uint32_t check = 0; \
+        for (int i = 0; i < 240; i++) { \
+            takes[0][i] = (Frame){ 1 + i, -2345 - i }; \
+            takes[1][i] = (Frame){ 200 + i, -2345 - i }; \
+            takes[2][i] = (Frame){ 300 + i, -2345 - i }; \
+            takes[3][i] = (Frame){ 900 + i, -2345 - i }; \
+            sums[i] = (Sum##BITS){ 77777777, -55555555 }; \
+        } \
+        for (uint32_t round = 0; round < 1000; round++) { \
+            uint32_t gains = round * 0x00010003, adds = !strcmp(what, "stereo") || !strcmp(what, "mono"); \
+            if (adds || !strcmp(what, "clear")) clear_once##BITS(sums, n); \
+            if (adds) add_once##BITS(takes[0], n, what[0] == 'm', used(gains & 0xffff, UNITY), used(gains >> 16, UNITY), sums); \
+            if (!strcmp(what, "finish")) finish_once##BITS(sums, n, out); \
+            if (!strcmp(what, "mix")) { \
+                Part parts[4] = { { takes[0], n, 0, gains, UNITY }, { takes[1], n, 0, 0x08000700, UNITY }, { takes[2], n, 0, 0x01001000, UNITY }, { takes[3], n, 0, 0x0f000f00, UNITY } }; \
+                mix_once##BITS(parts, 4, sums, out, n); \
+            } \
+            check = check * 31 ^ ((uint16_t)out[n - 1].left | (uint32_t)(uint16_t)out[n - 1].right << 16) ^ (what[0] == 'm' && what[1] == 'i' ? 0 : sums[n - 1].left & 0xffff); \
+        } \
+        return check; \
     }
-    printf("%u\n", check);
-}
+
+typedef struct { const Frame *frames; uint32_t n, mono, gains, scale; } Part;
+KERNELS(64)
+KERNELS(32)
 
 enum { CELLS = 128, ROOM = 100 };
 static Frame cells[CELLS];
@@ -233,7 +270,10 @@ int main(int words, char **word) {
     if (words == 3 && !strcmp(word[1], "make")) make(word[2]);
     else if (words == 4 && !strcmp(word[1], "random")) make_random(strtoul(word[2], 0, 10), word[3]);
     else if (words == 4 && !strcmp(word[1], "mix")) mix(word[2], word[3]);
-    else if (words == 3 && !strcmp(word[1], "kernel")) kernel(strtoul(word[2], 0, 10));
+    else if (words == 5 && !strcmp(word[1], "kernel")) {
+        uint32_t frames = strtoul(word[4], 0, 10);
+        printf("%u\n", !strcmp(word[2], "64") ? kernel64(word[3], frames) : kernel32(word[3], frames));
+    }
     else if (words == 4 && !strcmp(word[1], "cycle")) cycle(word[2], strtoul(word[3], 0, 10));
     else if (words == 3 && !strcmp(word[1], "ring")) ring(strtoul(word[2], 0, 10));
     else return 2;

@@ -1,0 +1,12 @@
+-- The sums of eight positions.
+use Rattle.std.specs.Prelude.{ℕ, ◌+◌, List}
+use Rattle.af_base.specs.Mix.{Take}
+use Rattle.af_gain.specs.declared.narrow.Eight.{Eight}
+use Rattle.af_gain.specs.Narrow.{AreLanesOf}
+
+-- the sums of some takes at eight positions
+pub record AreEightOf (takes : List Take) (at : ℕ) (sums : Eight) : Type 0 where
+  pub first : AreLanesOf takes at sums.first
+  pub second : AreLanesOf takes (at + 2) sums.second
+  pub third : AreLanesOf takes (at + 4) sums.third
+  pub fourth : AreLanesOf takes (at + 6) sums.fourth
