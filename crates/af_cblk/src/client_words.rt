@@ -3,6 +3,7 @@ ghost use Rattle.std.specs.Prelude.{◌≡◌, ◌+◌, ◌<◌, true};
 ghost use Rattle.af_base.specs.declared.event.ClientEvent.TheVariants as client_event;
 ghost use Rattle.af_model.specs.History.{is_lawful, flushes_of};
 ghost use Rattle.af_cblk.specs.Parts.{ahead, released, room, AreStored, client_did, stored_at, rear_stored, recorded};
+ghost use Rattle.af_cblk.specs.Plays.{HasFlags};
 ghost use Rattle.af_cblk.specs.Sides.{client_made, ClientSawFront};
 
 use crate::block::Block;
@@ -71,10 +72,13 @@ impl Block {
     }
 
     /// Loads the flags. It appends SawFlags, with the flags where INVALID (0x04) is set in them, and else with 0.
+    ///
+    /// Of a client that has not poked all bits are those of the flags at the end of a history of its list.
     pub fn load_flags<L: Ledger>(&self, pass: &mut ClientPass, steps: &mut Steps<L>) -> u32
         requires { client_made pass.old ≡ self.now }
         ensures made { client_made pass.new ≡ self.now }
         ensures saw { pass.new.part ≡ client_did pass.old.part (client_event.SawFlags (recorded result)) }
+        ensures flags { is_lawful pass.old.part.events ≡ true → HasFlags pass.old.part result }
         ensures steps { steps.new ≡ steps.old + 1 }
     {
         let found = self

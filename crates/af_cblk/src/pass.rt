@@ -68,8 +68,17 @@ impl Model for FlagHand {
     ghost invariant = { λ p. (p.seat.me.0.is_hand ≡ true) × (p.seat.me.1 ≡ []) };
 }
 
-/// The two kinds of pass, the client's and the server's, either of which loads front.
-pub trait BlockPass {
+// Only the two kinds of pass are of it.
+mod sealed {
+    pub trait Sealed {}
+}
+
+impl sealed::Sealed for ClientPass {}
+
+impl sealed::Sealed for ServerPass {}
+
+/// The two kinds of pass, the client's and the server's, either of which loads front. No other type can be one.
+pub trait BlockPass: sealed::Sealed {
     ghost use Rattle.af_cblk.specs.Sides.{Made};
     ghost use Rattle.std.specs.Prelude.{ℕ};
 
