@@ -104,21 +104,21 @@ impl Block {
         (found & 0xffff_ffff) as u32
     }
 
-    /// Adds one to the flush count, and answers the new count. It appends Flush. Of a client that has not poked the count is that of its own flushes.
+    /// Adds one to the flush count, and answers how many flushes this client has asked for, which is the new count where it has not poked. It appends Flush.
     pub fn add_flush<L: Ledger>(&self, pass: &mut ClientPass, steps: &mut Steps<L>) -> u32
         requires made { client_made pass.old ≡ self.now }
         requires room { flushes_of pass.old.part.events < 4294967294 }
         ensures made { client_made pass.new ≡ self.now }
         ensures flushed { pass.new.part ≡ client_did pass.old.part client_event.Flush }
-        ensures count { is_lawful pass.old.part.events ≡ true → result ≡ flushes_of pass.old.part.events + 1 }
+        ensures count { result ≡ flushes_of pass.old.part.events + 1 }
         ensures steps { steps.new ≡ steps.old + 1 }
     {
-        let found = self
-            .table
+        self.table
             .shared
             .fetch_add::<Flushes>(&mut pass.seat, FLUSHES, 1);
         steps.tick();
-        ((found & 0xffff_ffff) as u32).wrapping_add(1)
+        pass.flushes += 1;
+        pass.flushes
     }
 
     /// Stores the gains: left in the low 16 bits, right in the high 16 bits, each in 4.12. It appends SetGain.
