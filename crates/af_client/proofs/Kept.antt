@@ -15,12 +15,9 @@ use Rattle.af_cblk.specs.Parts.{released, client_did, client_met}
 use Rattle.af_base.specs.declared.event.ServerEvent.{ServerEvent}
 use Rattle.af_cblk.specs.Rule.{new_client}
 use Rattle.af_cblk.specs.Sides.{ClientSide}
+use Rattle.af_cblk.proofs.Passes.{flushes-append}
 use Rattle.af_client.specs.Order.{ClientState, Keeps, kept_of, IsInOrder}
 use Rattle.af_client.specs.Calls.{Answers}
-
-pub flushes-append : (xs ys : List ClientEvent) → flushes_of (xs ++ ys) ≡ flushes_of xs + flushes_of ys
-flushes-append [] ys = (let e : flushes_of ys ≡ 0 + flushes_of ys = omega arith in e)
-flushes-append (x ∷ xs) ys = let r = flushes-append xs ys in omega arith
 
 both_left : (a b : Bool) → (a && b) ≡ true → a ≡ true
 both_left true b e = refl

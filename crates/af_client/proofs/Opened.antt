@@ -171,21 +171,6 @@ corrupt_keeps c d asked front back answer k a spelled opens counts = by c.shut r
         (λ ok. absurd (h.3 ok))
     by (Some words) some h = same_keeps c d k h.1 counts (opens.0 ∙ ap Some (sym h.0) ∙ some)
 
-pub corrupt_outside : (c : ClientState) (d : ClientPart) (shut : Option (ℕ × ℕ)) (front back : ℕ) → IsInOrder c
-    → Opens c.pass.part c.rear c.shut (opened.Corrupt front back) d shut → c.pass.part.shape.frames < ahead front back
-corrupt_outside c d shut front back k opens = by c.shut refl opens.1
-  where
-    p : ClientPart
-    p = c.pass.part
-
-    by : (o : Option (ℕ × ℕ)) → o ≡ c.shut
-        → MatchOption o ((d ≡ saw_both p front) × (back ≡ c.rear) × (p.shape.frames < filled d) × (is_lawful p.events ≡ true → ⊥)) (λ words. (words ≡ (front, back)) × (d ≡ p))
-        → p.shape.frames < ahead front back
-    by None none h =
-        let back_is : back ≡ wrapped (kept_of p).position = h.1 ∙ k.rear_is ∙ ap wrapped (sym k.position_is) in
-        subst (λ (z : ℕ). p.shape.frames < z) (filled_is c d front k h.0 ∙ ap (ahead front) (sym back_is)) h.2
-    by (Some words) some h = subst (λ (w : ℕ × ℕ). p.shape.frames < ahead w.0 w.1) h.0 (shut_outside c words k (sym some))
-
 -- ## Putting
 
 pub same_end : (k : Shape) (rear n : ℕ) → IsShape k → rear ≡ wrapped n → rear % k.cells ≡ n % k.cells

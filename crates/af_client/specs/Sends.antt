@@ -35,11 +35,6 @@ send_steps c (sent.Full front) = 2
 send_steps c (sent.Dead flags) = 1
 send_steps c (sent.Corrupt front rear) = if is_some c.shut then 0 else 2
 
--- the words of a corrupt answer do not fit the block
-abbrev pub CorruptSendIs : ℕ → Sent → Type 0
-CorruptSendIs frames (sent.Corrupt front rear) = frames < ahead front rear
-CorruptSendIs frames _ = Unit {0}
-
 abbrev pub IsCorruptSend : Sent → Type 0
 IsCorruptSend (sent.Corrupt front rear) = Unit {0}
 IsCorruptSend _ = ⊥
