@@ -43,7 +43,7 @@ outside-some frames front rear lt = ap (λ (b : Bool). if b then Some (front, re
 abbrev pub LieOutside : ℕ → Option (ℕ × ℕ) → Type 0
 LieOutside frames o = MatchOption o (Unit {0}) (λ words. frames < ahead words.0 words.1)
 
-chosen : (frames front rear : ℕ) (b : Bool) → nat_lt frames (ahead front rear) ≡ b → LieOutside frames (if b then Some (front, rear) else None)
+pub chosen : (frames front rear : ℕ) (b : Bool) → nat_lt frames (ahead front rear) ≡ b → LieOutside frames (if b then Some (front, rear) else None)
 chosen frames front rear true e = search arith
 chosen frames front rear false e = tt
 

@@ -8,9 +8,10 @@ use Rattle.af_model.specs.Room.{ahead, outside}
 use Rattle.af_model.specs.ServerCalls.{ServerKept, server_keeps, server_begins, server_kept, look_at, drops_of, look_events, shown_by, IsServerList, looks}
 use Rattle.af_cblk.specs.declared.view.ServerPart.{ServerPart}
 use Rattle.af_cblk.specs.Parts.{front_stored, dropped, took, MayStoreFront}
+use Rattle.af_client.proofs.Opened.{LieOutside, chosen}
 use Rattle.af_server.specs.Order.{ServerState, Keeps, IsReady, kept_of, counted, IsInOrder}
 use Rattle.af_server.specs.Looks.{shut_of, saw_all}
-use Rattle.af_server.proofs.Kept.{kept-more}
+use Rattle.af_server.proofs.Kept.{kept-more, fewer}
 
 -- ## What a look shows
 
@@ -59,9 +60,6 @@ may_drop c flush rear front k new =
     let other : (flush == s.flush) ≡ false = ne_eqb flush s.flush (λ e. new (e ∙ k.seen_is ∙ sym k.flush_is)) in
     let noticed : (saw_all s flush rear front).noticed ≡ true = noticed_is s flush rear front false k.settled other in
     ((λ _. (refl, refl)), (λ e. absurd (true≢false (sym noticed ∙ e))))
-
-fewer : (M a b : ℕ) → min M (min M a + b) ≡ min M (a + b)
-fewer M a b = omega arith
 
 pub discard_keeps : (c d : ServerState) (asked flush rear front : ℕ) → IsInOrder c → c.shut ≡ None → 1 ≤ asked → flush ≢ c.flush
     → d.pass.part ≡ front_stored (saw_all c.pass.part flush rear front) rear
@@ -139,14 +137,6 @@ judge_keeps c d asked flush rear front k unshut some same is flush_is front_is s
     subst (λ (x : ServerPart × ℕ × ℕ × Option ℕ × ℕ × Option (ℕ × ℕ)). Keeps x.0 x.1 x.2 x.3 x.4 x.5) (λ i. (sym is i, sym flush_is i, sym front_is i, sym shown' i, sym consumed_is i, sym shut' i)) done
 
 -- ## Words that do not fit
-
--- the words that shut a proxy do not fit the block
-abbrev pub LieOutside : ℕ → Option (ℕ × ℕ) → Type 0
-LieOutside size o = MatchOption o (Unit {0}) (λ words. size < ahead words.0 words.1)
-
-chosen : (size front rear : ℕ) (b : Bool) → nat_lt size (ahead front rear) ≡ b → LieOutside size (if b then Some (front, rear) else None)
-chosen size front rear true e = search arith
-chosen size front rear false e = tt
 
 either : (size : ℕ) (b : Bool) (o : Option (ℕ × ℕ)) → LieOutside size o → LieOutside size (if b then None else o)
 either size true o h = tt

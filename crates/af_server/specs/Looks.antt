@@ -50,11 +50,6 @@ sight_steps _ = 3
 abbrev pub look_steps : ServerState → Seen → ℕ
 look_steps c answer = if is_some c.shut then 0 else sight_steps answer
 
--- the words of a Shut answer do not fit the block
-abbrev pub ShutIs : ℕ → Seen → Type 0
-ShutIs size (seen.Shut front rear) = size < ahead front rear
-ShutIs size _ = Unit {0}
-
 -- ## The parts of a look and a take
 
 -- flush, rear and front were seen
