@@ -1,9 +1,8 @@
 -- What the calls of a client's proxy come to, by their answers.
-use Rattle.std.specs.Prelude.{◌≡◌, ℕ, ◌+◌, ◌<◌, ◌≤◌, true, if◌then◌else◌, is_some, MatchOption, Option, Some, None, List, [], ◌∷◌, ◌++◌, length}
+use Rattle.std.specs.Prelude.{◌≡◌, ℕ, ◌+◌, ◌<◌, true, if◌then◌else◌, is_some, MatchOption, Option, Some, None, List, [], ◌∷◌, ◌++◌, length}
 use Rattle.af_base.specs.declared.event.ClientCall.{ClientCall}
 use Rattle.af_base.specs.declared.event.ClientCall.TheVariants as call
 use Rattle.af_base.specs.declared.event.ClientEvent.TheVariants as client
-use Rattle.af_model.specs.Room.{ahead}
 use Rattle.af_model.specs.History.{is_lawful}
 use Rattle.af_model.specs.ClientCalls.{filled_by, IsInvalid, ClientAnswers, client_events_of}
 use Rattle.af_cblk.specs.declared.view.ClientPart.{ClientPart}

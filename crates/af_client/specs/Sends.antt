@@ -1,8 +1,7 @@
 -- What a send comes to, by its answer.
-use Rattle.std.specs.Prelude.{ℕ, ◌<◌, if◌then◌else◌, is_some, Option, Some, None, List, [], ◌∷◌}
+use Rattle.std.specs.Prelude.{ℕ, if◌then◌else◌, is_some, Option, Some, None, List, [], ◌∷◌}
 use Rattle.af_base.specs.declared.event.ClientCall.{ClientCall}
 use Rattle.af_base.specs.declared.event.ClientCall.TheVariants as call
-use Rattle.af_model.specs.Room.{ahead}
 use Rattle.af_client.specs.declared.send.Sent.{Sent}
 use Rattle.af_client.specs.declared.send.Sent.TheVariants as sent
 use Rattle.af_client.specs.Order.{ClientState}

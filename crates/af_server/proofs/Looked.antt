@@ -1,14 +1,14 @@
 -- What a look leaves in order.
-use Rattle.std.proofs.Common.{◌≡◌, ◌≢◌, ℕ, ◌+◌, ◌≤◌, ◌<◌, min, Bool, true, false, true≢false, not, nat_lt, ◌==◌, ◌||◌, if◌then◌else◌, MatchOption, Option, Some, None, fold, List, [], ◌∷◌, ◌++◌, refl, sym, ap, ◌∙◌, subst, arith, append_assoc, eq-eqb, ne_eqb}
+use Rattle.std.proofs.Common.{◌≡◌, ◌≢◌, ℕ, ◌+◌, ◌≤◌, min, Bool, true, false, true≢false, not, nat_lt, ◌==◌, ◌||◌, if◌then◌else◌, MatchOption, Option, Some, None, fold, List, [], ◌∷◌, ◌++◌, refl, sym, ap, ◌∙◌, subst, arith, append_assoc, eq-eqb, ne_eqb}
 use Rattle.af_base.specs.declared.event.ServerEvent.{ServerEvent}
 use Rattle.af_base.specs.declared.event.ServerEvent.TheVariants as server
 use Rattle.af_base.specs.declared.seen.Seen.{Seen}
 use Rattle.af_base.specs.declared.seen.Seen.TheVariants as seen
 use Rattle.af_model.specs.Room.{ahead, outside}
 use Rattle.af_model.specs.ServerCalls.{ServerKept, server_keeps, server_begins, server_kept, look_at, drops_of, look_events, shown_by, IsServerList, looks}
+use Rattle.af_model.proofs.Logic.{LieOutside, server_outside}
 use Rattle.af_cblk.specs.declared.view.ServerPart.{ServerPart}
 use Rattle.af_cblk.specs.Parts.{front_stored, dropped, took, MayStoreFront}
-use Rattle.af_client.proofs.Opened.{LieOutside, chosen}
 use Rattle.af_server.specs.Order.{ServerState, Keeps, IsReady, kept_of, counted, IsInOrder}
 use Rattle.af_server.specs.Looks.{shut_of, saw_all}
 use Rattle.af_server.proofs.Kept.{kept-more, fewer}
@@ -138,26 +138,7 @@ judge_keeps c d asked flush rear front k unshut some same is flush_is front_is s
 
 -- ## Words that do not fit
 
-either : (size : ℕ) (b : Bool) (o : Option (ℕ × ℕ)) → LieOutside size o → LieOutside size (if b then None else o)
-either size true o h = tt
-either size false o h = h
-
-lie_on : (size : ℕ) (kept : ServerKept) (e : ServerEvent) → LieOutside size kept.shut → LieOutside size (server_keeps size kept e).shut
-lie_on size kept (server.SawGain word) h = h
-lie_on size kept (server.SawFlush flush) h = h
-lie_on size kept (server.SawRear rear) h = h
-lie_on size kept (server.SawFront front) h = either size kept.is_new (outside size front kept.rear) (chosen size front kept.rear (nat_lt size (ahead front kept.rear)) refl)
-lie_on size kept (server.Drop to) h = h
-lie_on size kept (server.Take count) h = h
-lie_on size kept (server.Tally missing) h = h
-lie_on size kept (server.SetFlags bits) h = h
-lie_on size kept (server.SetStatus word) h = h
-lie_on size kept (server.Learn count) h = h
-
-lie_all : (size : ℕ) (kept : ServerKept) (es : List ServerEvent) → LieOutside size kept.shut → LieOutside size (fold (server_keeps size) kept es).shut
-lie_all size kept [] h = h
-lie_all size kept (e ∷ es) h = lie_all size (server_keeps size kept e) es (lie_on size kept e h)
-
+-- the words that shut a proxy do not fit the block
 pub shut_outside : (c : ServerState) → IsInOrder c → LieOutside c.pass.part.shape.frames c.shut
 shut_outside c k =
-    subst (λ (o : Option (ℕ × ℕ)). LieOutside c.pass.part.shape.frames o) (sym k.shut_is) (lie_all c.pass.part.shape.frames (server_begins c.pass.part.shape.base) c.pass.part.events tt)
+    subst (λ (o : Option (ℕ × ℕ)). LieOutside c.pass.part.shape.frames o) (sym k.shut_is) (server_outside c.pass.part.shape.frames (server_begins c.pass.part.shape.base) c.pass.part.events tt)

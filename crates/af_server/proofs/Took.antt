@@ -1,5 +1,5 @@
 -- What a take leaves in order.
-use Rattle.std.proofs.Common.{◌≡◌, ℕ, ◌+◌, ◌%◌, ◌^◌, ◌≤◌, ◌<◌, min, Bool, true, false, true≢false, if◌then◌else◌, Option, Some, None, List, [], ◌∷◌, ◌++◌, length, take, map, set, refl, sym, ap, ◌∙◌, subst, arith, eq-eqb, length-take-le}
+use Rattle.std.proofs.Common.{◌≡◌, ℕ, ◌+◌, ◌%◌, ◌^◌, ◌≤◌, ◌<◌, Bool, true, false, true≢false, if◌then◌else◌, Option, Some, None, List, [], ◌∷◌, ◌++◌, length, take, map, set, refl, sym, ap, ◌∙◌, subst, arith, eq-eqb, length-take-le}
 use Rattle.std.proofs.lemmas.List.{length-map, take_more_set, map-append}
 use Rattle.af_base.specs.declared.frame.Frame.{Frame}
 use Rattle.af_base.specs.declared.event.ServerEvent.TheVariants as server

@@ -18,8 +18,8 @@ use std::sync::ledger::{Blank, Ledger};
 use std::test::*;
 use std::thread::{Threads, join, yield_now};
 
-// The most calls of each thread.
-const MOST: u32 = 1_000_000;
+// The most rounds of each thread. A round makes at most three calls, so a thread makes at most 999,999.
+const MOST: u32 = 333_333;
 
 // Writes some of the frames, and answers how many.
 fn send_some<L: Ledger>(

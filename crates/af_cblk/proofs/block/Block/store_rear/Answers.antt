@@ -1,6 +1,5 @@
 use Rattle.std.proofs.Common.{rules, ◌+◌, ◌%◌, ◌^◌, ℕ, sym, ap, ◌∙◌, subst}
 use Rattle.af_cblk.specs.declared.view.ClientPart.{ClientPart}
-use Rattle.af_model.specs.Point.{wrapped}
 use Rattle.af_cblk.specs.Parts.{AreStored, released}
 use Rattle.af_cblk.specs.Sides.{Made, client_made}
 use Rattle.af_cblk.proofs.Calls.{rear_by_client, rear_is}

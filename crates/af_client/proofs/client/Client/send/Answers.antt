@@ -27,6 +27,8 @@ pub returns-else-room-lt2-clause-ready : goal.returns-else-room-lt2-clause-ready
 returns-else-room-lt2-clause-ready g c =
     let old : ClientState = c.args.self.now in
     let put = c.put_two in
-    let a : Answers old 2 (call.Sent c.in-Open.front c.args.code c.args.argument) = search rules in
-    (put.ensures.made, put_keeps old c.open.new.self put.new.self 2 c.in-Open.front c.in-Open.room 2 (c.args.code ∷ c.args.argument ∷ []) (call.Sent c.in-Open.front c.args.code c.args.argument) c.requires.ready.1 a refl
-    c.in-Open.ensures.opens c.in-Open.ensures.kept put.ensures.put refl put.ensures.rear put.ensures.released put.ensures.kept)
+    let a : Answers old 2 (call.Sent c.in-Open.front c.args.code c.args.argument) = search rules in (
+      put.ensures.made,
+      put_keeps old c.open.new.self put.new.self 2 c.in-Open.front c.in-Open.room 2 (c.args.code ∷ c.args.argument ∷ []) (call.Sent c.in-Open.front c.args.code c.args.argument) c.requires.ready.1 a refl
+          c.in-Open.ensures.opens c.in-Open.ensures.kept put.ensures.put refl put.ensures.rear put.ensures.released put.ensures.kept,
+    )

@@ -29,6 +29,8 @@ returns-else-room-eq0-clause-ready g c =
     let old : ClientState = c.args.self.now in
     let put = c.put-count in
     let a : Answers old (length c.args.frames.now) (call.Put c.in-Open.front put.result) = search rules in
-    let few : put.result ≤ length c.args.frames.now = (let e = put.ensures.count in omega arith) in
-    (put.ensures.made, put_keeps old c.open.new.self put.new.self (length c.args.frames.now) c.in-Open.front c.in-Open.room put.result (map packed_word (take put.result c.args.frames.now)) (call.Put c.in-Open.front put.result) c.requires.ready.1 a refl
-    c.in-Open.ensures.opens c.in-Open.ensures.kept put.ensures.put (words_are put.result c.args.frames.now few) put.ensures.rear put.ensures.released put.ensures.kept)
+    let few : put.result ≤ length c.args.frames.now = (let e = put.ensures.count in omega arith) in (
+      put.ensures.made,
+      put_keeps old c.open.new.self put.new.self (length c.args.frames.now) c.in-Open.front c.in-Open.room put.result (map packed_word (take put.result c.args.frames.now)) (call.Put c.in-Open.front put.result) c.requires.ready.1 a refl
+          c.in-Open.ensures.opens c.in-Open.ensures.kept put.ensures.put (words_are put.result c.args.frames.now few) put.ensures.rear put.ensures.released put.ensures.kept,
+    )

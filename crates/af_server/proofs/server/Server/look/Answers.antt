@@ -1,4 +1,4 @@
-use Rattle.std.proofs.Common.{rules, ◌≡◌, ◌≢◌, ℕ, ◌+◌, Option, Some, None, sym, ap, ◌∙◌, subst}
+use Rattle.std.proofs.Common.{rules, ◌≡◌, ◌≢◌, ℕ, ◌+◌, None, sym, ap, ◌∙◌, subst}
 use Rattle.af_model.specs.Room.{ahead}
 use Rattle.af_model.specs.ServerCalls.{look_at, shown_by}
 use Rattle.af_cblk.specs.Parts.{front_stored}
@@ -25,11 +25,13 @@ returns-then-words-self-clause-ready g c =
     let e = c.discard-seen.ensures in
     let part : c.discard-seen.new.self.pass.part ≡ front_stored (saw_all old.pass.part flush rear front) rear =
     ap (λ (x : ServerSide). x.part) e.pass ∙ ap (λ (x : ServerSide). front_stored x.part rear) words.ensures.saw ∙ ap (λ (x : ServerState). front_stored (saw_all x.pass.part flush rear front) rear) c.self.view_is in
-    let new : flush ≢ old.flush = (λ q. c.if-words-self.true (q ∙ sym (ap (λ (x : ServerState). x.flush) c.self.view_is))) in
-    (c.discard-seen.ensures.made, discard_keeps old c.discard-seen.new.self c.args.ask flush rear front c.requires.ready.1 none c.requires.some new part
-    (ap (λ (x : ServerState). x.flush) e.kept) (ap (λ (x : ServerState). x.shown) e.kept)
-    (ap (λ (x : ServerState). x.consumed) e.kept ∙ ap (λ (x : ServerState). counted (x.consumed + ahead front rear)) c.self.view_is)
-    (ap (λ (x : ServerState). x.shut) e.kept ∙ ap (λ (x : ServerState). x.shut) c.self.view_is ∙ none))
+    let new : flush ≢ old.flush = (λ q. c.if-words-self.true (q ∙ sym (ap (λ (x : ServerState). x.flush) c.self.view_is))) in (
+      c.discard-seen.ensures.made,
+      discard_keeps old c.discard-seen.new.self c.args.ask flush rear front c.requires.ready.1 none c.requires.some new part
+          (ap (λ (x : ServerState). x.flush) e.kept) (ap (λ (x : ServerState). x.shown) e.kept)
+          (ap (λ (x : ServerState). x.consumed) e.kept ∙ ap (λ (x : ServerState). counted (x.consumed + ahead front rear)) c.self.view_is)
+          (ap (λ (x : ServerState). x.shut) e.kept ∙ ap (λ (x : ServerState). x.shut) c.self.view_is ∙ none),
+    )
 
 pub returns-else-words-self-clause-ready : goal.returns-else-words-self-clause-ready
 returns-else-words-self-clause-ready g c =
@@ -45,9 +47,11 @@ returns-else-words-self-clause-ready g c =
     c.judge-seen.ensures.seen ∙ ap (λ (x : ℕ × ℕ). look_at x.0 x.1 c.args.ask flush rear front) (λ i. (size i, (c.self.view_is i).flush)) in
     let part : c.judge-seen.new.self.pass.part ≡ saw_all old.pass.part flush rear front =
     ap (λ (x : ServerState). x.pass.part) e ∙ ap (λ (x : ServerSide). x.part) words.ensures.saw ∙ ap (λ (x : ServerState). saw_all x.pass.part flush rear front) c.self.view_is in
-    let same : flush ≡ old.flush = c.if-words-self.false ∙ ap (λ (x : ServerState). x.flush) c.self.view_is in
-    (search rules, judge_keeps old c.judge-seen.new.self c.args.ask flush rear front c.requires.ready.1 none c.requires.some same part
-    (ap (λ (x : ServerState). x.flush) e ∙ ap (λ (x : ServerState). x.flush) c.self.view_is) (ap (λ (x : ServerState). x.front) e)
-    (ap (λ (x : ServerState). x.shown) e ∙ ap shown_by seen)
-    (ap (λ (x : ServerState). x.consumed) e ∙ ap (λ (x : ServerState). x.consumed) c.self.view_is)
-    (ap (λ (x : ServerState). x.shut) e ∙ ap shut_of seen))
+    let same : flush ≡ old.flush = c.if-words-self.false ∙ ap (λ (x : ServerState). x.flush) c.self.view_is in (
+      search rules,
+      judge_keeps old c.judge-seen.new.self c.args.ask flush rear front c.requires.ready.1 none c.requires.some same part
+          (ap (λ (x : ServerState). x.flush) e ∙ ap (λ (x : ServerState). x.flush) c.self.view_is) (ap (λ (x : ServerState). x.front) e)
+          (ap (λ (x : ServerState). x.shown) e ∙ ap shown_by seen)
+          (ap (λ (x : ServerState). x.consumed) e ∙ ap (λ (x : ServerState). x.consumed) c.self.view_is)
+          (ap (λ (x : ServerState). x.shut) e ∙ ap shut_of seen),
+    )
