@@ -8,9 +8,11 @@ mod take;
 mod words;
 
 pub use look::Look;
-pub use server::{MOST_CONSUMED, Server};
+pub use server::Server;
 pub use take::load_frames;
 
+#[cfg(test)]
+mod block_tests;
 #[cfg(test)]
 mod calls;
 #[cfg(test)]
