@@ -1,18 +1,13 @@
 -- From the places where walks of one length end to those of the next.
-use Rattle.std.proofs.Common.{◌≡◌, ◌⊎◌, ℕ, zero, suc, ◌+◌, ◌<◌, ◌≤◌, List, [], ◌∷◌, ◌++◌, length, take, drop, get_or, Option, Some, None, Bool, true, false, cond, ◌==◌, refl, ap, ◌∙◌, sym, subst, inl, inr, arith}
+use Rattle.std.proofs.Common.{◌≡◌, ◌⊎◌, ℕ, ◌+◌, ◌<◌, ◌≤◌, List, [], ◌∷◌, ◌++◌, length, take, get_or, Option, Some, None, Bool, true, false, cond, ◌==◌, refl, ap, ◌∙◌, sym, subst, inl, inr, arith}
 use Rattle.std.specs.Option.{option_and_then, IfSome}
 use Rattle.std.specs.List.{Contains, All}
 use Rattle.std.proofs.lemmas.Option.{option_and_then_some, same_Some, MatchOption-at_some}
 use Rattle.std.proofs.lemmas.List.{take_more}
-use Rattle.std.proofs.lemmas.List.Elements.{Contains-get_or, Contains-append_left, Contains-append_right, Contains-push, Contains-push_cases, All-contains}
+use Rattle.std.proofs.lemmas.List.Elements.{Contains-get_or, Contains-append_left, Contains-push, Contains-push_cases, All-contains}
 use Rattle.std.proofs.lemmas.Bool.{cases_lt}
 use Rattle.std.proofs.lemmas.Bool.Decides.{nat_tests}
-use Rattle.af_model.specs.Walks.{walk, IsNext, IsLevel, IsFoundBelow, IsReached, Collects, Adds, Spreads}
-
-take-drop : {X : Type 0} (n : ℕ) (xs : List X) → take n xs ++ drop n xs ≡ xs
-take-drop zero xs = refl
-take-drop (suc n) [] = refl
-take-drop (suc n) (x ∷ xs) = ap (λ t. x ∷ t) (take-drop n xs)
+use Rattle.af_model.specs.Walks.{walk, IsNext, IsLevel, IsFoundBelow, IsReached, Collects, Adds, Spreads, HasSame}
 
 -- one step more at the end of a walk
 pub walk-push : {W M : Type 0} (step : W → M → Option M) (ws : List W) (w : W) (start m n : M)
@@ -219,11 +214,16 @@ collects-more test now old mid new i m d h at collects adds =
           ];
     }
 
+-- the same places make the same level
+pub level-same : {W M : Type 0} (step : W → M → Option M) (size : M → ℕ) (starts now new : List M) (n : ℕ) → IsLevel step size starts n now → HasSame now new → IsLevel step size starts n new
+level-same step size starts now new n level same = record {
+  sound = λ m c. level.sound m (same.only m c);
+  complete = λ s ws m c e k. same.keeps m (level.complete s ws m c e k);
+}
+
+pub All-same : {M : Type 0} (P : M → Type 0) (old new : List M) → HasSame old new → All P old → All P new
+All-same P old new same all k d h = All-contains P old _ all (same.only (get_or new k d) (Contains-get_or new k d h))
+
 pub no_items : {X : Type 0} (xs : List X) → length xs ≡ 0 → xs ≡ []
 no_items [] h = refl
 no_items (x ∷ xs) h = absurd (omega arith)
-
--- an element of the end of a list
-pub contains_drop : {X : Type 0} (n : ℕ) (xs ys : List X) (x : X) → ys ≡ drop n xs → Contains ys x → Contains xs x
-contains_drop n xs ys x e c =
-    subst (λ zs. Contains zs x) (take-drop n xs) (Contains-append_right (take n xs) (drop n xs) x (subst (λ zs. Contains zs x) e c))
