@@ -1,7 +1,6 @@
 -- A call with both ends in one hand answers as the plain queue does, and leaves the ends as it says.
-use Rattle.std.proofs.Common.{◌≡◌, ℕ, ◌+◌, ◌<◌, ◌≤◌, ◌==◌, ◌&&◌, ◌||◌, not, if◌then◌else◌, Bool, true, false, List, [], ◌∷◌, ◌++◌, Option, Some, None, is_some, slice_set, refl, ap, sym, ◌∙◌, subst, arith, eq-eqb, ne_eqb, append_assoc, length-set}
+use Rattle.std.proofs.Common.{◌≡◌, ℕ, ◌+◌, ◌<◌, ◌==◌, ◌&&◌, ◌||◌, not, if◌then◌else◌, Bool, true, false, List, [], ◌∷◌, ◌++◌, Option, Some, None, is_some, slice_set, refl, ap, sym, ◌∙◌, subst, arith, eq-eqb, ne_eqb, append_assoc, length-set}
 use Rattle.std.proofs.lemmas.List.{map-set, set-get_or}
-use Rattle.std.proofs.lemmas.Bool.{ltb-true, leb-true}
 use Rattle.std.proofs.Math.Seq.{map-set_same}
 use mathlib.Core.Logic.{dite}
 use native.Mathlib.Decide.{ℕ_discrete}
@@ -22,17 +21,16 @@ use Rattle.af_model.specs.declared.plain_calls.QueueCall.{QueueCall}
 use Rattle.af_model.specs.declared.plain_calls.QueueCall.TheVariants as call
 use Rattle.af_model.specs.declared.plain_calls.QueueAnswer.{QueueAnswer}
 use Rattle.af_model.specs.declared.plain_calls.QueueAnswer.TheVariants as answer
-use Rattle.af_model.specs.StateQueue.{slots, carries, HasHistory}
+use Rattle.af_model.specs.StateQueue.{slots, carries, mutated, observed, HasHistory}
 use Rattle.af_model.specs.Draft.{attached, detached}
-use Rattle.af_model.specs.PlainQueue.{QueueState, place_at, is_placed, returned_of, let_go, left, moved_from, readiness, is_shelf, is_allowed, shown, allowed_step, step}
+use Rattle.af_model.specs.PlainQueue.{QueueState, place_at, is_placed, returned_of, let_go, left, moved_from, readiness, is_allowed, shown, allowed_step, step}
 use Rattle.af_stateq.specs.Shelved.{word}
 use Rattle.af_stateq.specs.Ends.{Pushes, Polls, saw, looked, took, acknowledged}
 use Rattle.af_stateq.specs.Mutates.{Mutates, at, is_out, InDraft}
-use Rattle.af_stateq.specs.Observes.{Observes, InOrder}
+use Rattle.af_stateq.specs.Observes.{Observes}
 use Rattle.af_stateq.specs.Answers.{shows, WasPushed, WasAcked, WasPolled, sees_same}
-use Rattle.af_stateq.specs.Laws.{last_items, last_given}
 use Rattle.af_stateq.specs.OneHand.{AreAt, HaveMet, plain_of, Agrees, ready_of, Made, Tried, items_going, items_coming}
-use Rattle.af_stateq.proofs.Slots.{both_ways, none_back, not_false, and_one}
+use Rattle.af_stateq.proofs.Slots.{both_ways, none_back, not_false, and_one, on_shelf}
 use Rattle.af_stateq.proofs.InPlaces.{is_placed-left, is_placed-let_go, attach_at, detach_at, take_at}
 use Rattle.af_stateq.proofs.EndEvents.{look_is_exact, ack_is_exact}
 use Rattle.af_stateq.proofs.EndMoves.{Each, set_each, out_is, sees_it, sees_nothing, sees_older, shows_it, looks, takes, meets}
@@ -104,7 +102,7 @@ module _ {P K : Type 0} (m : Mutates P K) (o : Observes P K) (places : List (Pla
         let same : o.past.number ≡ m.past.number = (let l = here.in_step.level in omega arith) in
         let e = eq-eqb o.past.number m.past.number same in
         let clear = begins z in
-        let none : items_coming m.past o.past ≡ [] = ap (λ b. if b || not (o.past.number == m.past.number) then [] else last_given [] o.past.events) clear in
+        let none : items_coming m.past o.past ≡ [] = ap (λ b. if b || not (o.past.number == m.past.number) then [] else (observed o.past.events).given) clear in
         kept_as call.Push _ m' o (answer.Pushed (pushing.Pushed (m.past.number + 1))) (shows m) o (ap (λ k. answer.Pushed (pushing.Pushed k)) w.1) (w.2 z).0 refl (
           moved_from Send 0 (moved_from SeeAck 0 places),
           shows_it m o (moved_from SeeAck 0 places) (sees_nothing m o places here none) same clear,
@@ -154,7 +152,7 @@ module _ {P K : Type 0} (m : Mutates P K) (o : Observes P K) (places : List (Pla
         let f = look_is_exact m.past o.past here.in_step met (o.past.number + 1) (Some x) came (Ack (o.past.number + 1) back ∷ [])
         (subst (λ (l : List (ObserverEvent P)). HasHistory m.past.first m.past.events l) (append_assoc o.past.events (SawNext (o.past.number + 1) (Some x) came ∷ []) (Ack (o.past.number + 1) back ∷ [])) (subst (λ (z : Observes P K). HasOrder m.past z.past) eo h)) in
         let e = ne_eqb o.past.number m.past.number (λ z. let y = f.0 in omega arith) in
-        let brought : came ≡ items_going m.past o.past = f.1.1 ∙ ap (λ b. if b then [] else last_items [] m.past.events) (sym e) in
+        let brought : came ≡ items_going m.past o.past = f.1.1 ∙ ap (λ b. if b then [] else (mutated m.past.first m.past.events).items) (sym e) in
         kept_as call.Poll _ m o' (answer.Polled (polling.New m.past.number)) m o0 (ap (λ k. answer.Polled (polling.New k)) (w.0 ∙ f.0)) refl eo (
           moved_from (Take x) 0 places,
           takes m o places here x came back (Some x) o.current o'.items w.1.1.3 f.0 brought,
@@ -163,9 +161,6 @@ module _ {P K : Type 0} (m : Mutates P K) (o : Observes P K) (places : List (Pla
             record q { number = f.0 i; current = Some (f.1.0 i); previous = o.current; places = moved_from (Take (f.1.0 i)) 0 places },
           )) ∙ (λ i. poll_by (sym e i) (m.past.number == 0)),
         )
-
-on_shelf : (slot : ℕ) → is_shelf slot ≡ true → (1 ≤ slot) × (slot < slots)
-on_shelf slot e = let t = and_one _ _ e in (leb-true 1 slot t.0, ltb-true slot slots t.1)
 
 module _ {P K : Type 0} (fits : K → ℕ → P → Type 0) (m : Mutates P K) (o : Observes P K) (places : List (Place P)) (here : AreAt places m o) (draft : InDraft fits m) where
   abbrev going : List (Option P)
@@ -274,6 +269,3 @@ call_answers {P = P} {K = K} fits queue c m o a m' o' agrees draft met tried h =
 pub meeting_agrees : {P K : Type 0} (q : QueueState P) (m : Mutates P K) (o : Observes P K) (m' : Mutates P K) (o' : Observes P K) (c d : ℕ) → Agrees q m o
     → m' ≡ record m { past = record m.past { events = m.past.events ++ mutator.Learn d ∷ [] } } → o' ≡ record o { past = record o.past { events = o.past.events ++ observer.Learn c ∷ [] } } → Agrees q m' o'
 meeting_agrees {P = P} {K = K} queue m o m' o' c d agrees em eo = subst (λ (t : Mutates P K × Observes P K). Agrees queue t.0 t.1) (λ i. (sym em i, sym eo i)) (agrees.0, meets m o queue.places agrees.1 c d)
-
-pub order_learns : {P K : Type 0} (fits : K → ℕ → P → Type 0) (o : Observes P K) (o' : Observes P K) (es : List (ObserverEvent P)) → InOrder fits o → o' ≡ record o { past = record o.past { events = es } } → InOrder fits o'
-order_learns {P = P} {K = K} fits o o' es r e = subst (λ (z : Observes P K). InOrder fits z) (sym e) record { state = r.state; whole = r.whole; held = r.held; fit = r.fit }
