@@ -162,16 +162,18 @@ static void mix(const char *folder, const char *target) {
             takes[3][i] = (Frame){ 900 + i, -2345 - i }; \
             sums[i] = (Sum##BITS){ 77777777, -55555555 }; \
         } \
+        int adds = !strcmp(what, "stereo") || !strcmp(what, "mono"), clears = adds || !strcmp(what, "clear"); \
+        int mono = !strcmp(what, "mono"), finishes = !strcmp(what, "finish"), mixes = !strcmp(what, "mix"); \
         for (uint32_t round = 0; round < 1000; round++) { \
-            uint32_t gains = round * 0x00010003, adds = !strcmp(what, "stereo") || !strcmp(what, "mono"); \
-            if (adds || !strcmp(what, "clear")) clear_once##BITS(sums, n); \
-            if (adds) add_once##BITS(takes[0], n, what[0] == 'm', used(gains & 0xffff, UNITY), used(gains >> 16, UNITY), sums); \
-            if (!strcmp(what, "finish")) finish_once##BITS(sums, n, out); \
-            if (!strcmp(what, "mix")) { \
+            uint32_t gains = round * 0x00010003; \
+            if (clears) clear_once##BITS(sums, n); \
+            if (adds) add_once##BITS(takes[0], n, mono, used(gains & 0xffff, UNITY), used(gains >> 16, UNITY), sums); \
+            if (finishes) finish_once##BITS(sums, n, out); \
+            if (mixes) { \
                 Part parts[4] = { { takes[0], n, 0, gains, UNITY }, { takes[1], n, 0, 0x08000700, UNITY }, { takes[2], n, 0, 0x01001000, UNITY }, { takes[3], n, 0, 0x0f000f00, UNITY } }; \
                 mix_once##BITS(parts, 4, sums, out, n); \
             } \
-            check = check * 31 ^ ((uint16_t)out[n - 1].left | (uint32_t)(uint16_t)out[n - 1].right << 16) ^ (what[0] == 'm' && what[1] == 'i' ? 0 : sums[n - 1].left & 0xffff); \
+            check = check * 31 ^ ((uint16_t)out[n - 1].left | (uint32_t)(uint16_t)out[n - 1].right << 16) ^ (mixes ? 0 : sums[n - 1].left & 0xffff); \
         } \
         return check; \
     }
