@@ -11,7 +11,7 @@ use Rattle.af_stateq.specs.Mutates.{at}
 use Rattle.af_stateq.specs.Observes.{Observes, InOrder}
 use Rattle.af_link.specs.Names.{IsStreamOf}
 use Rattle.af_link.specs.declared.names.StreamNames.{StreamNames}
-use Rattle.af_fast.specs.Held.{stream_fits, NamesBlocks}
+use Rattle.af_fast.specs.Fits.{stream_fits, NamesBlocks}
 
 pub some_same : {X : Type 0} (x y : X) → Some x ≡ Some y → x ≡ y
 some_same x y e = ap (λ o. unwrap_or o x) e

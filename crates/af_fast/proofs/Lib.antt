@@ -1,4 +1,3 @@
-mod Played
 mod HeldFacts
 mod SlotSteps
 mod SlotsDone

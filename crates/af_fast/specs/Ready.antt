@@ -9,7 +9,7 @@ use Rattle.af_link.specs.Names.{IsStreamOf}
 use Rattle.af_link.specs.Reports.{ReaderSide}
 use Rattle.af_link.specs.declared.links.Links.{Links}
 use Rattle.af_link.specs.declared.names.StreamNames.{StreamNames}
-use Rattle.af_fast.specs.Held.{NamesBlocks}
+use Rattle.af_fast.specs.Fits.{NamesBlocks}
 use Rattle.af_fast.specs.Mixer.{MixerState, IsInOrder, IsLinked}
 
 -- The ends are those of these links. The mixer is in order between two cycles of so many frames, and the mutator makes no edit

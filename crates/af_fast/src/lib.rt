@@ -4,9 +4,9 @@
 mod cycle;
 mod entry;
 mod held;
+mod meetings;
 mod mixer;
 mod report;
-mod slot;
 mod slots;
 mod submix;
 

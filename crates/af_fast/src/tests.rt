@@ -6,7 +6,7 @@ ghost use Rattle.af_client.specs.Order.{IsInOrder as IsClientInOrder};
 ghost use Rattle.af_link.specs.Linked.{AreLinked};
 ghost use Rattle.af_link.specs.Names.{IsStreamOf};
 ghost use Rattle.af_link.specs.PipeEnds.{in_made, out_made};
-ghost use Rattle.af_fast.specs.Held.{NamesBlocks};
+ghost use Rattle.af_fast.specs.Fits.{NamesBlocks};
 ghost use Rattle.af_fast.specs.Mixer.{IsInOrder, IsLinked};
 ghost use Rattle.af_fast.specs.Ready.{IsReady};
 

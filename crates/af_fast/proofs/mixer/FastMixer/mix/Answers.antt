@@ -6,7 +6,7 @@ use Rattle.af_base.specs.Mix.{mix}
 use Rattle.af_model.specs.Cycles.{cycle_of, is_mixed, still_entry}
 use Rattle.af_fast.specs.contracts.mixer.FastMixer.{the_view}
 use Rattle.af_fast.specs.Mixer.{MixerState, IsInOrder, AreFew, is_over}
-use Rattle.af_fast.specs.Mixing.{MixesOnce, Reports, notes}
+use Rattle.af_fast.specs.Mixing.{MixesOnce, StoresReport, notes}
 use Rattle.af_fast.proofs.Adopted.{rest_order}
 use Rattle.af_fast.proofs.Added.{mix_step, still_step, adds_so, few_reports, current_copied, none_current, goes_on, is_full}
 use Rattle.af_fast.proofs.mixer.FastMixer.mix.Goals as goal
@@ -31,7 +31,7 @@ returns-then-not-is_mixed-clause-order g c = (
     still_step m c.note.new.self c.still_entry-entry.result c.cycle_of-cycle.result k goes answer_is (sym c.is_mixed.ensures ∙ c.if-not-is_mixed.true)
     (c.still_entry-entry.ensures ∙ ap (λ (n : ℕ). still_entry n c.cycle_of-cycle.result) c.number.ensures)
     (subst (λ (y : Option FastState). c.note.new.self ≡ notes y c.still_entry-entry.result c.note.new.self.writer c.note.new.self.reports (record m { adopted = false })) current_is c.note.ensures.notes)
-    (subst (λ (y : Option FastState). Reports y c.still_entry-entry.result (record m { adopted = false }) c.note.new.self) current_is c.note.ensures.reports)).0
+    (subst (λ (y : Option FastState). StoresReport y c.still_entry-entry.result (record m { adopted = false }) c.note.new.self) current_is c.note.ensures.reports)).0
 
 pub returns-then-not-is_mixed-clause-mixes : goal.returns-then-not-is_mixed-clause-mixes
 returns-then-not-is_mixed-clause-mixes g c =
@@ -46,7 +46,7 @@ returns-then-not-is_mixed-clause-mixes g c =
     still_step m c.note.new.self c.still_entry-entry.result c.cycle_of-cycle.result k goes answer_is (sym c.is_mixed.ensures ∙ c.if-not-is_mixed.true)
     (c.still_entry-entry.ensures ∙ ap (λ (n : ℕ). still_entry n c.cycle_of-cycle.result) c.number.ensures)
     (subst (λ (y : Option FastState). c.note.new.self ≡ notes y c.still_entry-entry.result c.note.new.self.writer c.note.new.self.reports (record m { adopted = false })) current_is c.note.ensures.notes)
-    (subst (λ (y : Option FastState). Reports y c.still_entry-entry.result (record m { adopted = false }) c.note.new.self) current_is c.note.ensures.reports)) in
+    (subst (λ (y : Option FastState). StoresReport y c.still_entry-entry.result (record m { adopted = false }) c.note.new.self) current_is c.note.ensures.reports)) in
     subst (λ (y : MixerState). MixesOnce y c.args.out.now c.cycle_of-cycle.result c.note.new.self c.args.out.now) c.self.view_is
     (adds_so m c.note.new.self c.args.out.now c.args.out.now c.cycle_of-cycle.result c.still_entry-entry.result goes comes.1 comes.2
     ((λ mixed. absurd (true≢false (sym mixed ∙ ap is_mixed (sym comes.1) ∙ sym c.is_mixed.ensures ∙ c.if-not-is_mixed.true))), (λ _. refl)))

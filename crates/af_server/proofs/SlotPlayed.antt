@@ -11,14 +11,14 @@ use Rattle.af_model.specs.ServerCalls.{look_at, look_events, shown_by}
 use Rattle.af_server.specs.declared.look.Look.{Look}
 use Rattle.af_server.specs.Looks.{Looks}
 use Rattle.af_server.specs.Order.{ServerState, IsInOrder, did}
-use Rattle.af_fast.specs.Slots.{listed, Follows}
+use Rattle.af_server.specs.Slot.{listed, HasDone}
 
 -- gains, the events of a look and what follows it, one after the other
 joined : (before : List ServerEvent) (gain : ServerEvent) (own rest : List ServerEvent) → ((before ++ gain ∷ []) ++ own) ++ rest ≡ before ++ (gain ∷ own ++ rest)
 joined before gain own rest = append_assoc (before ++ gain ∷ []) own rest ∙ append_assoc before (gain ∷ []) (own ++ rest)
 
 module _ (asked first : ℕ) (s u v : ServerState) (gains : ℕ) (look : Look) (frames : List Frame) (order : IsInOrder s)
-    (looks : Looks (did s (server.SawGain gains)) asked look u) (follows : Follows u (after_look asked (is_some s.shut) look.seen) frames v) where
+    (looks : Looks (did s (server.SawGain gains)) asked look u) (follows : HasDone u (after_look asked (is_some s.shut) look.seen) frames v) where
   abbrev slot : SlotEntry
   slot = record { gains = gains; flush = look.flush; rear = look.rear; seen = look.seen; first = first }
 
@@ -74,7 +74,7 @@ module _ (asked first : ℕ) (s u v : ServerState) (gains : ℕ) (look : Look) (
   played = by_words s.shut refl
 
 pub played_by : (asked first : ℕ) (s t u v : ServerState) (gains : ℕ) (look : Look) (was_shut : Bool) (frames : List Frame) → IsInOrder s
-    → t ≡ did s (server.SawGain gains) → was_shut ≡ is_some s.shut → Looks t asked look u → Follows u (after_look asked was_shut look.seen) frames v
+    → t ≡ did s (server.SawGain gains) → was_shut ≡ is_some s.shut → Looks t asked look u → HasDone u (after_look asked was_shut look.seen) frames v
     → TrackSlot asked (listed s) v.pass.part.events record { gains = gains; flush = look.flush; rear = look.rear; seen = look.seen; first = first }
 played_by asked first s t u v gains look was_shut frames order read shut looks follows =
-    played asked first s u v gains look frames order (subst (λ (x : ServerState). Looks x asked look u) read looks) (subst (λ (b : Bool). Follows u (after_look asked b look.seen) frames v) shut follows)
+    played asked first s u v gains look frames order (subst (λ (x : ServerState). Looks x asked look u) read looks) (subst (λ (b : Bool). HasDone u (after_look asked b look.seen) frames v) shut follows)
