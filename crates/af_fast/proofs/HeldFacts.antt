@@ -1,7 +1,7 @@
 -- The proxies that the observer holds, as one of them is played.
 use Rattle.std.proofs.Common.{◌≡◌, ℕ, ◌<◌, ◌⊎◌, inl, inr, List, length, length-set, Option, Some, None, is_some, unwrap_or, slice_set, sym, ap, subst, ◌∙◌, arith}
 use Rattle.std.proofs.lemmas.Bool.{cases_eq}
-use Rattle.std.proofs.lemmas.List.{get_or-set_same, get_or-set_other}
+use Rattle.std.proofs.lemmas.List.{get_or-set_same, get_or-set_other, get_or-replicate}
 use Rattle.std.proofs.lemmas.Option.{slice_get_within}
 use Rattle.af_base.specs.Log.{slots}
 use Rattle.af_model.specs.StateQueue.{slot_of, carries, has}
@@ -9,12 +9,18 @@ use Rattle.af_cblk.specs.Sides.{Made, server_made}
 use Rattle.af_server.specs.Order.{ServerState}
 use Rattle.af_stateq.specs.Mutates.{at}
 use Rattle.af_stateq.specs.Observes.{Observes, InOrder}
+use Rattle.af_stateq.specs.Shelved.{nothing}
 use Rattle.af_link.specs.Names.{IsStreamOf}
 use Rattle.af_link.specs.declared.names.StreamNames.{StreamNames}
 use Rattle.af_fast.specs.Fits.{stream_fits, NamesBlocks}
+use Rattle.af_fast.specs.Mixer.{CarriesNone}
 
 pub some_same : {X : Type 0} (x y : X) → Some x ≡ Some y → x ≡ y
 some_same x y e = ap (λ o. unwrap_or o x) e
+
+-- an observer that holds no items has a state that carries none
+pub begins_bare : (o : Observes ServerState StreamNames) → InOrder stream_fits o → o.items ≡ nothing → o.past.number ≡ 0 → CarriesNone o.past.state
+begins_bare o order empty none i lt = sym (order.held i lt) ∙ ap (λ (items : List (Option ServerState)). has items i) empty ∙ ap is_some (get_or-replicate slots i None None lt)
 
 module _ (o : Observes ServerState StreamNames) (blocks : List Made) (slot track : ℕ) (order : InOrder stream_fits o) (names : NamesBlocks o.past.key blocks) (inside : slot < slots)
     (same : track ≡ (slot_of o.past.state slot).track) (s : ServerState) (was : at o.items slot ≡ Some s) where

@@ -44,10 +44,16 @@ polled-learn y (SawNext n None items ∷ es) k = polled-learn y es k
 polled-learn y (Ack n items ∷ es) k = ap (λ (l : List FastState). y ∷ l) (polled-learn y es k)
 polled-learn y (observes.Learn c ∷ es) k = polled-learn y es k
 
+-- an observer that learns is in order
+learnt_order : (o : Observes ServerState StreamNames) (k : ℕ) → InOrder stream_fits o → InOrder stream_fits (record o { past = record o.past { events = o.past.events ++ observes.Learn k ∷ [] } })
+learnt_order o k order = record { state = order.state; whole = order.whole; held = order.held; fit = order.fit }
+
 -- all ends met
-pub met_order : (m : MixerState) (o : Others) → IsInOrder m → InOrder stream_fits (mixer_met m o).observer → IsInOrder (mixer_met m o)
-met_order m o k order =
-    let states : adopted_states (mixer_met m o) ≡ adopted_states m = polled-learn _ m.observer.past.events (length o.mutator.past.events) in
+pub met_order : (m : MixerState) (o : Others) → IsInOrder m → IsInOrder (mixer_met m o)
+met_order m o k =
+    let count : ℕ = length o.mutator.past.events in
+    let order = learnt_order m.observer count k.observer in
+    let states : adopted_states (mixer_met m o) ≡ adopted_states m = polled-learn _ m.observer.past.events count in
     record {
       observer = order;
       begins = k.begins;

@@ -1,5 +1,5 @@
 //! What a mixer does with the server of one slot.
-ghost use Rattle.std.specs.Prelude.{◌≡◌, ◌+◌, ◌<◌, ◌≤◌, ◌^◌, length, take, Bool};
+ghost use Rattle.std.specs.Prelude.{◌≡◌, ◌+◌, ◌<◌, ◌≤◌, ◌^◌, length, take, Bool, []};
 ghost use Rattle.af_base.specs.Log.{count_seen};
 ghost use Rattle.af_model.specs.Cycles.{after_look, place_of, tally};
 ghost use Rattle.af_model.specs.ServerCalls.{shown_by};
@@ -22,6 +22,16 @@ pub fn place_of(place: usize, seen: Seen) -> usize
 {
     match seen {
         Seen::Frames { count } if count > 0 => place,
+        _ => 0,
+    }
+}
+
+/// How many frames a look showed.
+pub fn count_of(seen: Seen) -> u32
+    ensures { result ≡ count_seen seen }
+{
+    match seen {
+        Seen::Frames { count } => count,
         _ => 0,
     }
 }

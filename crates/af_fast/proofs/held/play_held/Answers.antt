@@ -26,4 +26,4 @@ pub returns-clause-order : goal.returns-clause-order
 returns-clause-order g c =
     let fits = held_fits c.args.observer.now c.args.streams.now c.args.slot c.args.track c.requires.order c.requires.names c.requires.slot.0 c.requires.track c.in-Some.server.now c.in-Some.ensures.value in
     order_held c.args.observer.now c.args.streams.now c.args.slot c.args.track c.requires.order c.requires.names c.requires.slot.0 c.requires.track c.in-Some.server.now c.in-Some.ensures.value
-    c.play.new.server (record { made = fits.made ∙ ap (λ (m : Made). Some m) (sym (get_or_from_slice_get c.args.streams.now c.args.track (server_made c.in-Some.server.now.pass) c.index-streams-track.result fits.made) ∙ sym c.index-streams-track.is ∙ sym c.play.ensures.made); in_order = c.play.ensures.order })
+    c.play.new.self (record { made = fits.made ∙ ap (λ (m : Made). Some m) (sym (get_or_from_slice_get c.args.streams.now c.args.track (server_made c.in-Some.server.now.pass) c.index-streams-track.result fits.made) ∙ sym c.index-streams-track.is ∙ sym c.play.ensures.made); in_order = c.play.ensures.order })

@@ -37,7 +37,7 @@ loop-slot-preserved g c =
       played = subst (λ (n : ℕ). PlayedTo asked c.args.state.now (length c.args.log.now.frames) c.args.observer.now c.play_slot.new.observer c.log_pipe.new.log.frames c.play_slot.new.log.frames begun c.play_slot.new.entry n) (omega arith) (
           slot_step asked c.args.state.now (length c.args.log.now.frames) c.args.observer.now c.log_pipe.new.log.frames begun c.loop-slot.observer c.play_slot.new.observer c.loop-slot.log.frames c.play_slot.new.log.frames c.loop-slot.entry c.play_slot.new.entry i
           c.loop-slot.invariant.played (omega arith) (omega arith) c.loop-slot.invariant.order.whole
-          (subst (λ (n : ℕ). carries c.args.state.now i ≡ true → (e : SlotEntry) × LogsSlot n i c.loop-slot.observer c.play_slot.new.observer c.loop-slot.log.frames c.play_slot.new.log.frames e × (c.play_slot.new.entry ≡ with_slot c.loop-slot.entry i e)) c.loop-slot.auto.buffer c.play_slot.ensures.plays)
+          (subst (λ (n : ℕ). carries c.args.state.now i ≡ true → (e : SlotEntry) × LogsSlot n i c.loop-slot.observer c.play_slot.new.observer c.loop-slot.log.frames c.play_slot.new.log.frames e × (c.play_slot.new.entry ≡ with_slot c.loop-slot.entry i e)) (c.loop-slot.auto.buffer ∙ c.log_pipe.auto.buffer) c.play_slot.ensures.plays)
           c.play_slot.ensures.rests (carries c.args.state.now i) refl);
       order = c.play_slot.ensures.order;
       log_is = (
