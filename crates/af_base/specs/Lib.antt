@@ -4,4 +4,5 @@ pub mod Mix
 pub mod Command
 pub mod Part
 pub mod Log
-pub mod Listed
+pub mod Roomy
+pub mod Turn

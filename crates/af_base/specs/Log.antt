@@ -21,6 +21,14 @@ pub record Logged : Type 0 where
   pub room : ℕ
   pub frame_room : ℕ
 
+-- What a log says, whatever room it has: contracts compare logs by this
+pub record LogContents : Type 0 where
+  pub entries : List CycleEntry
+  pub frames : List Frame
+
+abbrev pub log_of : Logged → LogContents
+log_of l = record { entries = l.entries; frames = l.frames }
+
 -- the entry of a number, from 0
 abbrev pub no_entry : CycleEntry
 no_entry = record { state = 0; cycle = Idle; slots = []; scales = []; mono = 0 }

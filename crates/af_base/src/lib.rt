@@ -2,6 +2,7 @@
 #![tactic(auto)]
 
 mod event;
+mod flags;
 mod frame;
 mod gains;
 mod log;
@@ -14,6 +15,7 @@ mod turn;
 mod want;
 
 pub use event::{ClientCall, ClientEvent, HandEvent, ServerEvent};
+pub use flags::{DISABLED, INVALID, UNDERRUN};
 pub use frame::Frame;
 pub use gains::Gains;
 pub use log::{Cycle, CycleEntry, FastLog, SlotEntry};

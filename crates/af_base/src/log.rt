@@ -52,7 +52,7 @@ pub struct CycleEntry {
 
 /// The entries of some cycles, with the frames that they took (AOSP has a FastMixerDumpState, of counts alone).
 ///
-/// Contracts see the entries, the frames, and for how many of each there is room in all.
+/// Contracts see the entries, the frames, and for how many of each there is room in all. They compare two logs by `log_of`, which leaves the room out.
 #[derive(Drop)]
 pub struct FastLog {
     entries: Vec<CycleEntry>,

@@ -14,3 +14,18 @@ pub enum Seen {
     /// Front and rear lie further apart than the block has frames: the block is shut for good.
     Shut { front: u32, rear: u32 },
 }
+
+impl Seen {
+    ghost use Rattle.std.specs.Prelude.{◌≡◌};
+    ghost use Rattle.af_base.specs.Log.{count_seen};
+
+    /// How many frames the look showed, all of which may be taken: 0 unless it showed some.
+    pub fn count(self) -> u32
+        ensures { result ≡ count_seen self }
+    {
+        match self {
+            Seen::Frames { count } => count,
+            _ => 0,
+        }
+    }
+}

@@ -97,5 +97,6 @@ fn a_list_with_room(rt: HostRuntime) -> Result<(), Fail> {
     let mut looks = CommandLooks::with_room(rt.alloc(), 64)?;
     looks.push(look);
     assert_eq!(rt; looks.as_slice(), [look].as_slice());
+    assert_eq!(rt; look.seen.count() + Seen::Empty.count(), 2);
     Ok(())
 }

@@ -15,8 +15,9 @@ use Rattle.af_model.specs.Room.{ahead}
 use Rattle.af_model.specs.ClientCalls.{client_begins, IsClientList}
 use Rattle.af_model.specs.ServerCalls.{ServerKept, server_keeps, server_begins, server_kept, look_at, drops_of, IsServerList, begins, looks, takes, reads_gains, tallies, sets_flags, sets_status, rests, meets}
 use Rattle.af_model.proofs.Fates.{in_turn}
-use Rattle.af_model.proofs.RoomKept.{AllFit, fit_split, all_fit, room_in, ahead-between}
+use Rattle.af_model.proofs.RoomKept.{AllFit, fit_split, all_fit, room_in}
 use Rattle.af_model.proofs.OneFate.{same_consumed, hand_consumed}
+use Rattle.af_model.proofs.Logic.{ahead-between}
 
 -- the last event saw front
 abbrev saw_front : Bool → ServerEvent → Bool

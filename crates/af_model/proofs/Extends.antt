@@ -22,7 +22,9 @@ use Rattle.af_model.specs.declared.pieces.Search.{Search}
 use Rattle.af_model.proofs.Levels.{walk-push, walk-append}
 use Rattle.af_model.proofs.StageCounts.{IsWithin, only_one}
 use Rattle.af_model.proofs.EagerMets.{eager-walk, follows-walk, ahead-itself}
-use Rattle.af_model.proofs.Mets.{and_true, and_parts, keeps-append}
+use Rattle.std.proofs.lemmas.Bool.{and_parts}
+use Rattle.af_model.proofs.Logic.{both_are}
+use Rattle.af_model.proofs.Mets.{keeps-append}
 
 get_front : {X : Type 0} (xs ys : List X) (i : ℕ) (x : X) → slice_get xs i ≡ Some x → slice_get (xs ++ ys) i ≡ Some x
 get_front [] ys i x e = cc
@@ -38,7 +40,7 @@ pub keeps-front : (a b : List HandEvent) (place i k : ℕ) → keeps_mets (a ++ 
 keeps-front [] b place i k e = refl
 keeps-front (h ∷ a) b place i k e =
     let both = and_parts (keeps_event h place i k) (keeps_mets (a ++ b) (place + 1) i k) e in
-    and_true (keeps_event h place i k) (keeps_mets a (place + 1) i k) both.0 (keeps-front a b (place + 1) i k both.1)
+    both_are (keeps_event h place i k) (keeps_mets a (place + 1) i k) both.0 (keeps-front a b (place + 1) i k both.1)
 
 new-met : (known n i k place : ℕ) → nat_le n known ≡ true → i ≤ n → k ≤ place
     → ((nat_le k (place + 1) || nat_le known i) && (nat_le i known || nat_le place k)) ≡ true
@@ -50,7 +52,7 @@ keeps-new n [] place i k names p q = refl
 keeps-new n (hand.SetFlags bits ∷ hs) place i k names p q = keeps-new n hs (place + 1) i k names p (omega arith)
 keeps-new n (hand.Met known ∷ hs) place i k names p q =
     let both = and_parts (nat_le n known) (names_at_least n hs) names in
-    and_true _ (keeps_mets hs (place + 1) i k) (new-met known n i k place both.0 p q) (keeps-new n hs (place + 1) i k both.1 p (omega arith))
+    both_are _ (keeps_mets hs (place + 1) i k) (new-met known n i k place both.0 p q) (keeps-new n hs (place + 1) i k both.1 p (omega arith))
 
 old-met : (known i k place : ℕ) → place < k → ((nat_le (k + 1) (place + 1) || nat_le known i) && (nat_le i known || nat_le place (k + 1))) ≡ true → nat_le known i ≡ true
 old-met known i k place h e = grind (arith, nat_tests)
@@ -61,14 +63,14 @@ knows-kept [] place i k h e = refl
 knows-kept (hand.SetFlags bits ∷ hs) place i k h e = knows-kept hs (place + 1) i k (omega arith) e
 knows-kept (hand.Met known ∷ hs) place i k h e =
     let both = and_parts (keeps_event (hand.Met known) place i (k + 1)) (keeps_mets hs (place + 1) i (k + 1)) e in
-    and_true _ (knows_no_more hs i) (old-met known i k place (omega arith) both.0) (knows-kept hs (place + 1) i k (omega arith) both.1)
+    both_are _ (knows_no_more hs i) (old-met known i k place (omega arith) both.0) (knows-kept hs (place + 1) i k (omega arith) both.1)
 
 pub knows-front : (a b : List HandEvent) (i : ℕ) → knows_no_more (a ++ b) i ≡ true → knows_no_more a i ≡ true
 knows-front [] b i e = refl
 knows-front (hand.SetFlags bits ∷ a) b i e = knows-front a b i e
 knows-front (hand.Met known ∷ a) b i e =
     let both = and_parts (nat_le known i) (knows_no_more (a ++ b) i) e in
-    and_true (nat_le known i) (knows_no_more a i) both.0 (knows-front a b i both.1)
+    both_are (nat_le known i) (knows_no_more a i) both.0 (knows-front a b i both.1)
 
 -- a step that can be made can still be made when more events have come
 pub record Lifts (l : Lists) (cs : List ClientEvent) (ss : List ServerEvent) (hs : List HandEvent) (w : Who) (x y : Stage) : Type 0 where
@@ -164,7 +166,7 @@ open-server : (l : Lists) (x : Stage) → x.servers ≡ length l.server → is_o
 open-server l x h = or_second (x.clients == length l.client) (x.servers == length l.server) _ (same_is _ _ h)
 
 open-hand : (l : Lists) (x : Stage) → x.hands ≡ length l.hand → knows_no_more l.hand x.clients ≡ true → is_open l x ≡ true
-open-hand l x h k = or_third (x.clients == length l.client) (x.servers == length l.server) _ (and_true (x.hands == length l.hand) _ (same_is _ _ h) k)
+open-hand l x h k = or_third (x.clients == length l.client) (x.servers == length l.server) _ (both_are (x.hands == length l.hand) _ (same_is _ _ h) k)
 
 drops : (l : Lists) (cs : List ClientEvent) (ss : List ServerEvent) (hs : List HandEvent) (w : Who) (x y : Stage)
     → IsWithin l x → move (joined l cs ss hs) w x ≡ Some y → Drops l w x y
@@ -221,7 +223,7 @@ first-met known place = grind (arith, nat_tests)
 pub keeps_first : (hs : List HandEvent) (place : ℕ) → keeps_mets hs place 0 0 ≡ true
 keeps_first [] place = refl
 keeps_first (hand.SetFlags bits ∷ hs) place = keeps_first hs (place + 1)
-keeps_first (hand.Met known ∷ hs) place = and_true _ (keeps_mets hs (place + 1) 0 0) (first-met known place) (keeps_first hs (place + 1))
+keeps_first (hand.Met known ∷ hs) place = both_are _ (keeps_mets hs (place + 1) 0 0) (first-met known place) (keeps_first hs (place + 1))
 
 met-front : (a b : List HandEvent) (p : ℕ) → p < length a → is_met (slice_get a p) ≡ true → is_met (slice_get (a ++ b) p) ≡ true
 met-front [] b p h m = absurd (omega arith)

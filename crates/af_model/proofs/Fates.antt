@@ -1,5 +1,5 @@
 -- Where nothing was dropped, what was taken begins what was released.
-use Rattle.std.proofs.Common.{◌≡◌, ℕ, ◌+◌, ◌-◌, ◌≤◌, Bool, true, false, true≢false, ◌&&◌, List, [], ◌∷◌, ◌++◌, take, drop, refl, sym, ap, ◌∙◌, subst, arith, take-add}
+use Rattle.std.proofs.Common.{◌≡◌, ℕ, ◌+◌, ◌-◌, ◌≤◌, true, true≢false, ◌&&◌, List, [], ◌∷◌, ◌++◌, take, drop, refl, sym, ap, ◌∙◌, subst, arith, take-add}
 use Rattle.af_base.specs.declared.event.ClientEvent.{ClientEvent}
 use Rattle.af_base.specs.declared.event.ClientEvent.TheVariants as client
 use Rattle.af_base.specs.declared.event.ServerEvent.{ServerEvent}
@@ -10,6 +10,7 @@ use Rattle.af_model.specs.declared.point.TrackPoint.{TrackPoint}
 use Rattle.af_model.specs.Point.{start, ServerMay, after_client, after_server, after_hand}
 use Rattle.af_model.specs.History.{Moment, by_client, by_server, by_hand, server_of, after, IsLegal, with_taken, taken_of, HasHistory}
 use Rattle.af_model.specs.Fates.{keeps_all, drops_none, InTurn}
+use Rattle.af_model.proofs.Logic.{both_left, both_right, both_are}
 
 client_turn : (base : ℕ) (p : TrackPoint) (e : ClientEvent) → InTurn base p → InTurn base (after_client p e)
 client_turn base p (client.Release count) t = record { from_base = t.from_base; to_seen = t.to_seen; to_released = (let a = t.to_released in omega arith) }
@@ -44,14 +45,6 @@ in_turn base [] h = record { from_base = omega arith; to_seen = omega arith; to_
 in_turn base (by_client e ∷ order) h = client_turn base _ e (in_turn base order h.1)
 in_turn base (by_server e ∷ order) h = server_turn base _ _ e h.0 (in_turn base order h.1)
 in_turn base (by_hand e ∷ order) h = hand_turn base _ e (in_turn base order h.1)
-
-both_left : (a b : Bool) → (a && b) ≡ true → a ≡ true
-both_left true b e = refl
-both_left false b e = e
-
-both_right : (a b : Bool) → (a && b) ≡ true → b ≡ true
-both_right true b e = e
-both_right false b e = absurd (true≢false (sym e))
 
 before_it : (es : List ServerEvent) (e : ServerEvent) → drops_none (es ++ e ∷ []) ≡ true → (drops_none es ≡ true) × (keeps_all e ≡ true)
 before_it [] e h = (refl, both_left (keeps_all e) true h)
@@ -105,10 +98,6 @@ pub taken_begins : (base : ℕ) (ce : List ClientEvent) (cf : List ℕ) (se : Li
     → (n : ℕ) × (sf ≡ take n cf)
 taken_begins base ce cf se sf he h none =
     (_, sym h.taken_is ∙ begins cf base h.order h.legal (subst (λ es. drops_none es ≡ true) (sym h.server_is) none))
-
-both_are : (a b : Bool) → a ≡ true → b ≡ true → (a && b) ≡ true
-both_are true b x y = y
-both_are false b x y = x
 
 -- an event that drops nothing adds no drop
 pub drops_more : (es : List ServerEvent) (e : ServerEvent) → keeps_all e ≡ true → drops_none es ≡ true → drops_none (es ++ e ∷ []) ≡ true

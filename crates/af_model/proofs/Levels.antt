@@ -1,18 +1,13 @@
 -- From the places where walks of one length end to those of the next.
-use Rattle.std.proofs.Common.{◌≡◌, ◌⊎◌, ℕ, zero, suc, ◌+◌, ◌<◌, ◌≤◌, List, [], ◌∷◌, ◌++◌, length, take, drop, get_or, Option, Some, None, Bool, true, false, cond, ◌==◌, refl, ap, ◌∙◌, sym, subst, inl, inr, arith}
+use Rattle.std.proofs.Common.{◌≡◌, ◌⊎◌, ℕ, ◌+◌, ◌<◌, ◌≤◌, List, [], ◌∷◌, ◌++◌, length, take, drop, get_or, Option, Some, None, Bool, true, false, cond, ◌==◌, refl, ap, ◌∙◌, sym, subst, inl, inr, arith}
 use Rattle.std.specs.Option.{option_and_then, IfSome}
 use Rattle.std.specs.List.{Contains, All}
 use Rattle.std.proofs.lemmas.Option.{option_and_then_some, same_Some, MatchOption-at_some}
-use Rattle.std.proofs.lemmas.List.{take_more}
+use Rattle.std.proofs.lemmas.List.{take_more, take-append-drop}
 use Rattle.std.proofs.lemmas.List.Elements.{Contains-get_or, Contains-append_left, Contains-append_right, Contains-push, Contains-push_cases, All-contains}
 use Rattle.std.proofs.lemmas.Bool.{cases_lt}
 use Rattle.std.proofs.lemmas.Bool.Decides.{nat_tests}
 use Rattle.af_model.specs.Walks.{walk, IsNext, IsLevel, IsFoundBelow, IsReached, Collects, Adds, Spreads}
-
-take-drop : {X : Type 0} (n : ℕ) (xs : List X) → take n xs ++ drop n xs ≡ xs
-take-drop zero xs = refl
-take-drop (suc n) [] = refl
-take-drop (suc n) (x ∷ xs) = ap (λ t. x ∷ t) (take-drop n xs)
 
 -- one step more at the end of a walk
 pub walk-push : {W M : Type 0} (step : W → M → Option M) (ws : List W) (w : W) (start m n : M)
@@ -226,4 +221,4 @@ no_items (x ∷ xs) h = absurd (omega arith)
 -- an element of the end of a list
 pub contains_drop : {X : Type 0} (n : ℕ) (xs ys : List X) (x : X) → ys ≡ drop n xs → Contains ys x → Contains xs x
 contains_drop n xs ys x e c =
-    subst (λ zs. Contains zs x) (take-drop n xs) (Contains-append_right (take n xs) (drop n xs) x (subst (λ zs. Contains zs x) e c))
+    subst (λ zs. Contains zs x) (take-append-drop n xs) (Contains-append_right (take n xs) (drop n xs) x (subst (λ zs. Contains zs x) e c))

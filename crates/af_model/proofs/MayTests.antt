@@ -1,5 +1,5 @@
 -- The tests of the search say what the definition says.
-use Rattle.std.proofs.Common.{◌≡◌, ℕ, ◌+◌, ◌≤◌, Bool, true, false, cond, ◌==◌, nat_le, refl, arith}
+use Rattle.std.proofs.Common.{◌≡◌, ℕ, ◌+◌, Bool, true, false, cond, ◌==◌, refl, arith}
 use Rattle.std.specs.Prelude.{MatchBool, bit_and}
 use Rattle.std.proofs.lemmas.Bool.Decides.{nat_tests}
 use Rattle.af_base.specs.declared.event.ClientEvent.{ClientEvent}
@@ -9,18 +9,13 @@ use Rattle.af_base.specs.declared.event.ServerEvent.TheVariants as server
 use Rattle.af_model.specs.declared.point.TrackPoint.{TrackPoint}
 use Rattle.af_model.specs.Point.{wrapped, ClientMay, ServerMay}
 use Rattle.af_model.specs.MergeSteps.{client_may, server_may}
+use Rattle.af_model.proofs.Logic.{le_is, is_le}
 
 is_same : (a b : ℕ) → (a == b) ≡ true → a ≡ b
 is_same a b h = grind (arith, nat_tests)
 
 same_is : (a b : ℕ) → a ≡ b → (a == b) ≡ true
 same_is a b h = grind (arith, nat_tests)
-
-is_le : (a b : ℕ) → nat_le a b ≡ true → a ≤ b
-is_le a b h = grind (arith, nat_tests)
-
-le_is : (a b : ℕ) → a ≤ b → nat_le a b ≡ true
-le_is a b h = grind (arith, nat_tests)
 
 flags_are : (b : Bool) (x y u v : ℕ) → cond b (x == y) (u == v) ≡ true → MatchBool b (x ≡ y) (u ≡ v)
 flags_are true x y u v h = is_same x y h
@@ -39,7 +34,7 @@ client_may-legal p n (client.SawFlags flags) h = flags_are (bit_and flags 4 == 0
 client_may-legal p n (client.SawFront front) h = is_same front (wrapped p.consumed) h
 client_may-legal p n (client.SawStatus word) h = is_same word p.status h
 client_may-legal p n (client.Poke word value) h = cc
-client_may-legal p n (client.Learn count) h = is_le count n h
+client_may-legal p n (client.Learn count) h = le_is count n h
 
 pub client_legal-may : (p : TrackPoint) (n : ℕ) (e : ClientEvent) → ClientMay p n e → client_may p n e ≡ true
 client_legal-may p n (client.Release count) h = refl
@@ -50,7 +45,7 @@ client_legal-may p n (client.SawFlags flags) h = are_flags (bit_and flags 4 == 0
 client_legal-may p n (client.SawFront front) h = same_is front (wrapped p.consumed) h
 client_legal-may p n (client.SawStatus word) h = same_is word p.status h
 client_legal-may p n (client.Poke word value) h = absurd h
-client_legal-may p n (client.Learn count) h = le_is count n h
+client_legal-may p n (client.Learn count) h = is_le count n h
 
 pub server_may-legal : (p : TrackPoint) (n : ℕ) (e : ServerEvent) → server_may p n e ≡ true → ServerMay p n e
 server_may-legal p n (server.SawGain word) h = is_same word p.gains h
@@ -58,11 +53,11 @@ server_may-legal p n (server.SawFlush flush) h = is_same flush p.flushes h
 server_may-legal p n (server.SawRear rear) h = is_same rear (wrapped p.released) h
 server_may-legal p n (server.SawFront front) h = is_same front (wrapped p.consumed) h
 server_may-legal p n (server.Drop to) h = is_same to (wrapped p.rear_seen) h
-server_may-legal p n (server.Take count) h = is_le (p.consumed + count) p.rear_seen h
+server_may-legal p n (server.Take count) h = le_is (p.consumed + count) p.rear_seen h
 server_may-legal p n (server.Tally missing) h = tt
 server_may-legal p n (server.SetFlags bits) h = tt
 server_may-legal p n (server.SetStatus word) h = tt
-server_may-legal p n (server.Learn count) h = is_le count n h
+server_may-legal p n (server.Learn count) h = le_is count n h
 
 pub server_legal-may : (p : TrackPoint) (n : ℕ) (e : ServerEvent) → ServerMay p n e → server_may p n e ≡ true
 server_legal-may p n (server.SawGain word) h = same_is word p.gains h
@@ -70,8 +65,8 @@ server_legal-may p n (server.SawFlush flush) h = same_is flush p.flushes h
 server_legal-may p n (server.SawRear rear) h = same_is rear (wrapped p.released) h
 server_legal-may p n (server.SawFront front) h = same_is front (wrapped p.consumed) h
 server_legal-may p n (server.Drop to) h = same_is to (wrapped p.rear_seen) h
-server_legal-may p n (server.Take count) h = le_is (p.consumed + count) p.rear_seen h
+server_legal-may p n (server.Take count) h = is_le (p.consumed + count) p.rear_seen h
 server_legal-may p n (server.Tally missing) h = refl
 server_legal-may p n (server.SetFlags bits) h = refl
 server_legal-may p n (server.SetStatus word) h = refl
-server_legal-may p n (server.Learn count) h = le_is count n h
+server_legal-may p n (server.Learn count) h = is_le count n h

@@ -6,7 +6,7 @@ use Rattle.af_base.specs.declared.event.HandEvent.{HandEvent}
 use Rattle.af_base.specs.declared.event.HandEvent.TheVariants as hand
 use Rattle.af_model.specs.Stages.{keeps_event, keeps_mets, known_by, event_before}
 use Rattle.af_model.specs.MergePieces.{names_at_least, knows_no_more}
-use Rattle.af_model.proofs.Mets.{and_parts}
+use Rattle.std.proofs.lemmas.Bool.{and_parts}
 
 front_met : (known place i k : ℕ) → place ≤ k → ((nat_le k (place + 1) || nat_le known i) && (nat_le i known || nat_le place k)) ≡ true
     → ((nat_le k (place + 1) || nat_le known (i + 1)) && (nat_le (i + 1) known || nat_le place k)) ≡ true

@@ -6,7 +6,9 @@ use Rattle.af_base.specs.declared.event.HandEvent.TheVariants as hand
 use Rattle.af_model.specs.History.{Moment, by_client, by_server, by_hand, hand_of, met_by, met_in}
 use Rattle.af_model.specs.Stages.{keeps_event, keeps_mets}
 use Rattle.af_model.specs.MergePieces.{names_at_least, knows_no_more}
-use Rattle.af_model.proofs.Mets.{and_true, and_parts, keeps-append}
+use Rattle.std.proofs.lemmas.Bool.{and_parts}
+use Rattle.af_model.proofs.Logic.{both_are, le_is, is_le}
+use Rattle.af_model.proofs.Mets.{keeps-append}
 use Rattle.af_model.proofs.MetTests.{past}
 use Rattle.af_model.proofs.Extends.{keeps-front, knows-front}
 
@@ -27,19 +29,13 @@ keeps-stood (hand.SetFlags bits ∷ hs) place i k h e = keeps-stood hs (place + 
 keeps-stood (hand.Met known ∷ hs) place i k h e =
     let both = and_parts (keeps_event (hand.Met known) place i k) (keeps_mets hs (place + 1) i k) e in
     let know = and_parts (nat_le known i) (knows_no_more hs i) h in
-    and_true _ (keeps_mets hs (place + 1) i (k + 1)) (met-stood known place i k know.0 both.0) (keeps-stood hs (place + 1) i k know.1 both.1)
+    both_are _ (keeps_mets hs (place + 1) i (k + 1)) (met-stood known place i k know.0 both.0) (keeps-stood hs (place + 1) i k know.1 both.1)
 
 -- one more event of the hand, where what was met before it has stood
 pub hand-more : (a b : List HandEvent) (i : ℕ) → knows_no_more a i ≡ true → keeps_mets (a ++ b) 0 i (length a) ≡ true → keeps_mets (a ++ b) 0 i (length a + 1) ≡ true
 hand-more a b i h e =
     keeps-append a b 0 i (length a + 1) (keeps-stood a 0 i (length a) h (keeps-front a b 0 i (length a) e))
     (past b (0 + length a) i (length a) (omega arith) (keeps-back a b 0 i (length a) e))
-
-pub le_is : (a b : ℕ) → nat_le a b ≡ true → a ≤ b
-le_is a b h = grind (arith, nat_tests)
-
-pub is_le : (a b : ℕ) → a ≤ b → nat_le a b ≡ true
-is_le a b h = grind (arith, nat_tests)
 
 pub max_left : (a b i : ℕ) → max a b ≤ i → a ≤ i
 max_left a b i h = omega arith
@@ -53,11 +49,11 @@ max_le a b i h k = omega arith
 -- the last event beside the ones before it
 pub knows-push : (hs : List HandEvent) (e : HandEvent) (i : ℕ) → knows_no_more hs i ≡ true → met_by e ≤ i → knows_no_more (hs ++ e ∷ []) i ≡ true
 knows-push [] (hand.SetFlags bits) i h m = refl
-knows-push [] (hand.Met known) i h m = and_true (nat_le known i) true (is_le known i m) refl
+knows-push [] (hand.Met known) i h m = both_are (nat_le known i) true (is_le known i m) refl
 knows-push (hand.SetFlags bits ∷ hs) e i h m = knows-push hs e i h m
 knows-push (hand.Met known ∷ hs) e i h m =
     let both = and_parts (nat_le known i) (knows_no_more hs i) h in
-    and_true (nat_le known i) (knows_no_more (hs ++ e ∷ []) i) both.0 (knows-push hs e i both.1 m)
+    both_are (nat_le known i) (knows_no_more (hs ++ e ∷ []) i) both.0 (knows-push hs e i both.1 m)
 
 pub knows-end : (hs : List HandEvent) (e : HandEvent) (i : ℕ) → knows_no_more (hs ++ e ∷ []) i ≡ true → met_by e ≤ i
 knows-end [] (hand.SetFlags bits) i h = omega arith
@@ -82,7 +78,7 @@ met-known (by_hand e ∷ order) i h =
 pub names-zero : (hs : List HandEvent) → names_at_least 0 hs ≡ true
 names-zero [] = refl
 names-zero (hand.SetFlags bits ∷ hs) = names-zero hs
-names-zero (hand.Met known ∷ hs) = and_true (nat_le 0 known) (names_at_least 0 hs) (is_le 0 known (omega arith)) (names-zero hs)
+names-zero (hand.Met known ∷ hs) = both_are (nat_le 0 known) (names_at_least 0 hs) (is_le 0 known (omega arith)) (names-zero hs)
 
 pub names-fewer : (hs : List HandEvent) (i j : ℕ) → i ≤ j → names_at_least j hs ≡ true → names_at_least i hs ≡ true
 names-fewer [] i j h e = refl
@@ -90,4 +86,4 @@ names-fewer (hand.SetFlags bits ∷ hs) i j h e = names-fewer hs i j h e
 names-fewer (hand.Met known ∷ hs) i j h e =
     let both = and_parts (nat_le j known) (names_at_least j hs) e in
     let low : i ≤ known = let b = le_is j known both.0 in omega arith in
-    and_true (nat_le i known) (names_at_least i hs) (is_le i known low) (names-fewer hs i j h both.1)
+    both_are (nat_le i known) (names_at_least i hs) (is_le i known low) (names-fewer hs i j h both.1)

@@ -15,11 +15,12 @@ use Rattle.af_model.specs.MergeSteps.{client_step, server_step}
 use Rattle.af_model.specs.Walks.{walk}
 use Rattle.af_model.specs.Stages.{Lists, Who, Client, Server, Hand, move, kept, keeps_mets, with_client, with_server, with_hand, begin, HasWalk}
 use Rattle.af_model.specs.MergePieces.{names_at_least}
-use Rattle.af_model.proofs.Mets.{and_true, and_parts}
+use Rattle.std.proofs.lemmas.Bool.{and_parts}
+use Rattle.af_model.proofs.Logic.{both_are, is_le}
 use Rattle.af_model.proofs.MetTests.{client-kept}
 use Rattle.af_model.proofs.MayTests.{client_legal-may, server_legal-may}
 use Rattle.af_model.proofs.Levels.{walk-push}
-use Rattle.af_model.proofs.MetsInOrder.{hand-more, is_le, knows-met, names-fewer}
+use Rattle.af_model.proofs.MetsInOrder.{hand-more, knows-met, names-fewer}
 use Rattle.af_model.proofs.Extends.{keeps_first}
 
 -- the hand's events to come: the next one, and those past it
@@ -34,7 +35,7 @@ names_later n (h ∷ hs) = names_at_least n hs ≡ true
 names-both : (n : ℕ) (hs : List HandEvent) → names_next n hs → names_later n hs → names_at_least n hs ≡ true
 names-both n [] a b = refl
 names-both n (hand.SetFlags bits ∷ hs) a b = b
-names-both n (hand.Met known ∷ hs) a b = and_true (nat_le n known) (names_at_least n hs) (and_parts (nat_le n known) true a).0 b
+names-both n (hand.Met known ∷ hs) a b = both_are (nat_le n known) (names_at_least n hs) (and_parts (nat_le n known) true a).0 b
 
 names-drop : (a b : List HandEvent) (n d : ℕ) → d ≡ length a + 1 → names_later n b → names_at_least n (drop d (a ++ b)) ≡ true
 names-drop a b n zero e h = absurd (omega arith)
@@ -53,7 +54,7 @@ hand_met clients met at (hand.Met known) may = may.0
 
 hand_next : (clients met at : ℕ) (e : HandEvent) → HandMay clients met at e → names_at_least at (e ∷ []) ≡ true
 hand_next clients met at (hand.SetFlags bits) may = refl
-hand_next clients met at (hand.Met known) may = and_true (nat_le at known) true (is_le at known may.1) refl
+hand_next clients met at (hand.Met known) may = both_are (nat_le at known) true (is_le at known may.1) refl
 
 -- what is to come of the three lists after the order
 record IsRest (l : Lists) (order : List Moment) (cs : List ClientEvent) (ss : List ServerEvent) (hs : List HandEvent) : Type 0 where

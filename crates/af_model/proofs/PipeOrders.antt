@@ -1,5 +1,5 @@
 -- The history of a block, on which the ends of a pipe alone did something, is one of the pipe.
-use Rattle.std.proofs.Common.{◌≡◌, ℕ, ◌+◌, ◌-◌, ◌≤◌, Bool, true, false, true≢false, ◌&&◌, List, [], ◌∷◌, ◌++◌, length, take, refl, sym, ap, ◌∙◌, subst, arith, length-append, length-take-le}
+use Rattle.std.proofs.Common.{◌≡◌, ℕ, ◌+◌, ◌-◌, ◌≤◌, true, true≢false, ◌&&◌, List, [], ◌∷◌, ◌++◌, length, take, refl, sym, ap, ◌∙◌, subst, arith, length-append, length-take-le}
 use Rattle.std.specs.List.{list_all}
 use Rattle.std.proofs.lemmas.List.Folds.{list_all-append}
 use Rattle.af_base.specs.declared.event.ClientEvent.{ClientEvent}
@@ -15,17 +15,9 @@ use Rattle.af_model.specs.Fates.{InTurn, keeps_all, drops_none}
 use Rattle.af_model.specs.Order.{Event, one, two, ones, twos, Legal, after}
 use Rattle.af_model.specs.PipeHistory.{PipePoint, start, room_by, legal, next, HasPipeHistory, PutKept, nothing_put, may_put, after_put, IsPutList, put_kept, is_taking, IsTakeList}
 use Rattle.af_model.proofs.Fates.{in_turn, begins}
-use Rattle.af_model.proofs.RoomKept.{ahead-between}
 use Rattle.af_model.proofs.Orders.{ones_one, ones_two, twos_one, twos_two, after_end, legal_end}
 use Rattle.af_model.proofs.Splits.{legal_at}
-
-both_left : (a b : Bool) → (a && b) ≡ true → a ≡ true
-both_left true b e = refl
-both_left false b e = e
-
-both_right : (a b : Bool) → (a && b) ≡ true → b ≡ true
-both_right true b e = e
-both_right false b e = absurd (true≢false (sym e))
+use Rattle.af_model.proofs.Logic.{both_left, both_right, ahead-between}
 
 -- an end that takes drops nothing
 keeps : (e : ServerEvent) → is_taking e ≡ true → keeps_all e ≡ true

@@ -17,13 +17,7 @@ use Rattle.af_model.specs.Room.{ahead, outside}
 use Rattle.af_model.specs.ClientCalls.{ClientKept, client_keeps, client_begins, client_kept, filled_by, ClientAnswers, client_events_of, IsClientList, begins, calls, meets}
 use Rattle.af_model.specs.ServerCalls.{ServerKept, server_keeps, server_begins, server_kept}
 use Rattle.af_model.proofs.Fates.{in_turn}
-
--- between two positions that are near, the words tell how far
-pub ahead-between : (a b : ℕ) → a ≤ b → b ≤ a + 65536 → ahead (wrapped a) (wrapped b) ≡ b - a
-ahead-between a b low high = omega arith
-
-nat_lt-false : (a b : ℕ) → b ≤ a → nat_lt a b ≡ false
-nat_lt-false a b le = search arith
+use Rattle.af_model.proofs.Logic.{nat_lt-no, ahead-between}
 
 module _ (frames : ℕ) where
   -- the front that the last event saw, if it saw one
@@ -94,7 +88,7 @@ module _ (frames : ℕ) where
     outside_none : (consumed released : ℕ) → consumed ≤ released → released ≤ consumed + frames → outside frames (wrapped consumed) (wrapped released) ≡ None
     outside_none consumed released low high =
         let e : ahead (wrapped consumed) (wrapped released) ≡ released - consumed = ahead-between consumed released low (omega arith) in
-        let f : nat_lt frames (ahead (wrapped consumed) (wrapped released)) ≡ false = nat_lt-false _ _ (omega arith) in
+        let f : nat_lt frames (ahead (wrapped consumed) (wrapped released)) ≡ false = nat_lt-no _ _ (omega arith) in
         ap (λ (b : Bool). if b then Some (wrapped consumed, wrapped released) else None) f
 
     released_fits : (o : Option ℕ) (consumed released count front : ℕ) → o ≡ Some front → ahead front (wrapped released) + count ≤ frames → consumed ≤ released

@@ -3,7 +3,7 @@ use Rattle.std.proofs.Common.{◌≡◌, ℕ, zero, suc, ◌+◌, ◌<◌, ◌�
 use Rattle.std.specs.Option.{option_and_then}
 use Rattle.std.specs.List.{slice_get}
 use Rattle.std.proofs.lemmas.Option.{option_and_then_some, same_Some, cond_some, slice_get_within, get_or_from_slice_get}
-use Rattle.std.proofs.lemmas.List.{take_more}
+use Rattle.std.proofs.lemmas.List.{take_more, take-append-drop}
 use Rattle.std.proofs.Math.Seq.{take-length}
 use Rattle.std.proofs.lemmas.Bool.Decides.{nat_tests}
 use Rattle.af_base.specs.declared.event.ClientEvent.{ClientEvent}
@@ -19,9 +19,10 @@ use Rattle.af_model.specs.MergeSteps.{client_step, server_step}
 use Rattle.af_model.specs.Walks.{walk}
 use Rattle.af_model.specs.Stages.{Lists, Who, Client, Server, Hand, move, kept, keeps_event, keeps_mets, with_client, with_server, with_hand, begin, HasWalk}
 use Rattle.af_model.specs.MergePieces.{names_at_least, knows_no_more}
-use Rattle.af_model.proofs.Mets.{and_true, and_parts}
+use Rattle.std.proofs.lemmas.Bool.{and_parts}
+use Rattle.af_model.proofs.Logic.{both_are, le_is}
 use Rattle.af_model.proofs.MayTests.{client_may-legal, server_may-legal}
-use Rattle.af_model.proofs.MetsInOrder.{le_is, met-known, names-zero}
+use Rattle.af_model.proofs.MetsInOrder.{met-known, names-zero}
 use Rattle.af_model.proofs.Extends.{keeps_first, keeps-front, knows-kept}
 
 -- the hand's event at a place, and those past it
@@ -41,7 +42,7 @@ names-ahead [] place i k h e = refl
 names-ahead (hand.SetFlags bits ∷ hs) place i k h e = names-ahead hs (place + 1) i k (omega arith) e
 names-ahead (hand.Met known ∷ hs) place i k h e =
     let both = and_parts (keeps_event (hand.Met known) place i k) (keeps_mets hs (place + 1) i k) e in
-    and_true (nat_le i known) (names_at_least i hs) (ahead-met known place i k h both.0) (names-ahead hs (place + 1) i k (omega arith) both.1)
+    both_are (nat_le i known) (names_at_least i hs) (ahead-met known place i k h both.0) (names-ahead hs (place + 1) i k (omega arith) both.1)
 
 -- where each Met is kept, those past the hand's next event name no fewer client events than have stood
 names-past : (hs : List HandEvent) (place i k d : ℕ) → place + d ≡ k + 1 → keeps_mets hs place i k ≡ true → names_at_least i (drop d hs) ≡ true
@@ -76,11 +77,6 @@ length_take : {X : Type 0} (n : ℕ) (xs : List X) → n ≤ length xs → lengt
 length_take zero xs h = refl
 length_take (suc n) [] h = absurd (omega arith)
 length_take (suc n) (x ∷ xs) h = let r = length_take n xs (omega arith) in omega arith
-
-take-drop : {X : Type 0} (n : ℕ) (xs : List X) → take n xs ++ drop n xs ≡ xs
-take-drop zero xs = refl
-take-drop (suc n) [] = refl
-take-drop (suc n) (x ∷ xs) = ap (λ t. x ∷ t) (take-drop n xs)
 
 client_moved : (e : ClientEvent) (p q : TrackPoint) (n k : ℕ) → p ≡ q → n ≡ k → ClientMay q k e → ClientMay p n e
 client_moved e p q n k a b may = subst (λ p. ClientMay p n e) (sym a) (subst (λ n. ClientMay q n e) (sym b) may)
@@ -138,7 +134,7 @@ stands l p Hand m n s e =
     (λ v at g.
     let was = cond_some _ _ _ g in
     let in_range : m.hands < length l.hand = slice_get_within l.hand m.hands v at in
-    let split : l.hand ≡ take m.hands l.hand ++ drop m.hands l.hand = sym (take-drop m.hands l.hand) in
+    let split : l.hand ≡ take m.hands l.hand ++ drop m.hands l.hand = sym (take-append-drop m.hands l.hand) in
     let front : keeps_mets (take m.hands l.hand) 0 m.clients (m.hands + 1) ≡ true =
     keeps-front (take m.hands l.hand) (drop m.hands l.hand) 0 m.clients (m.hands + 1) (subst (λ (xs : List HandEvent). keeps_mets xs 0 m.clients (m.hands + 1) ≡ true) split was.0) in
     let long : length (take m.hands l.hand) ≡ m.hands = length_take m.hands l.hand s.hands in

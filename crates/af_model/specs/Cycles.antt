@@ -173,9 +173,10 @@ abbrev pub is_mixed : Cycle → Bool
 is_mixed cycle.Mixed = true
 is_mixed _ = false
 
--- An entry that follows a log by the states pushed or adopted so far: its state is that of the entry before or the next one, no Exit stands before it, it is what its state makes it, and its slots are those of a mix, or absent
+-- An entry that follows a log by the states pushed or adopted so far: its state is that of the entry before or the next one, and was pushed, no Exit stands before it, it is what its state makes it, and its slots are those of a mix, or absent
 pub record LegalCycle (asked : ℕ) (states : List FastState) (entries : List CycleEntry) (place : ℕ) (before after : Found) (entry : CycleEntry) : Type 0 where
   pub follows : (last_used entries ≤ entry.state) × (entry.state ≤ last_used entries + 1)
+  pub pushed : entry.state ≤ length states
   pub runs : has_exit entries ≡ false
   pub what : entry.cycle ≡ cycle_of (cold_done states entries) (state_of states entry.state)
   pub still : is_mixed entry.cycle ≡ false → entry ≡ still_entry entry.state entry.cycle

@@ -5,10 +5,16 @@ use Rattle.af_model.specs.declared.search.Stage.{Stage}
 use Rattle.af_model.specs.declared.pieces.Search.{Search}
 use Rattle.af_model.specs.Stages.{Lists, begin, InBounds}
 use Rattle.af_model.specs.MergePieces.{IsFrontier, names_at_least}
-use Rattle.std.specs.Prelude.{length}
+use Rattle.std.specs.Prelude.{length, take}
 
 abbrev pub lists_in : Search → Lists
 lists_in s = record { client = s.client.items; server = s.server.items; hand = s.hand.items }
+
+-- the new lists begin with the old ones
+pub record GoOn (old new : Lists) : Type 0 where
+  pub client : take (length old.client) new.client ≡ old.client
+  pub server : take (length old.server) new.server ≡ old.server
+  pub hand : take (length old.hand) new.hand ≡ old.hand
 
 -- the open stages are those of the lists, once they are known
 pub record Knows (s : Search) : Type 0 where

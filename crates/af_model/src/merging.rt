@@ -82,7 +82,7 @@ impl Merge {
 
     /// Adds a piece to each list, and answers what `merge_check` answers for the lists of all calls so far.
     ///
-    /// Each joined list has at most 2^30 events. After `Memory` each later call answers `Memory`.
+    /// Each joined list has at most 2^30 events. After `Memory` the lists are as before the call, and each later call answers `Memory`.
     pub fn extend(
         &mut self,
         client: &[ClientEvent],
@@ -94,8 +94,7 @@ impl Merge {
         requires hand { length self.old.hand + length hand.now ≤ 2 ^ 30 }
         ensures answer { IfOk result (λ yes. IsTrue yes ↔ HasLegalOrder self.new.from self.new.client self.new.server self.new.hand) }
         ensures joined { OnOk result (self.new ≡ with_pieces self.old client.now server.now hand.now) }
-        ensures from { self.new.from ≡ self.old.from }
-        ensures spent { OnErr result (self.new.spent ≡ true) }
+        ensures as_before { OnErr result (self.new ≡ record self.old { spent = true }) }
         ensures stays { self.old.spent ≡ true → IsErr result }
     {
         if self.spent {

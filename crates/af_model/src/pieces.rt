@@ -1,9 +1,9 @@
 //! The search for an order of lists that come piece by piece.
-ghost use Rattle.std.specs.Prelude.{◌≡◌, ◌∷◌, [], ◌+◌, ◌*◌, ◌<◌, ◌≤◌, ◌^◌, ◌↔◌, IfOk, IfSome, IsTrue, OnOk, All, Contains, false, ◌==◌, ◌&&◌, length, true, if◌then◌else◌};
+ghost use Rattle.std.specs.Prelude.{◌≡◌, ◌∷◌, [], ◌+◌, ◌*◌, ◌<◌, ◌≤◌, ◌^◌, ◌↔◌, IfOk, IfSome, IsTrue, OnOk, OnErr, All, Contains, false, ◌==◌, ◌&&◌, length, true, if◌then◌else◌};
 ghost use Rattle.af_model.specs.Walks.{IsLevel, IsFoundBelow, IsReached, Collects};
 ghost use Rattle.af_model.specs.Stages.{keeps_mets, move, eager, begin, lists_of, IsWhole, InBounds, AreShortLists, HasWalk, HasCount, count, total};
 ghost use Rattle.af_model.specs.MergePieces.{knows_no_more, is_open, IsOpen, IsFrontier, names_at_least, joined};
-ghost use Rattle.af_model.specs.MergeSearch.{Knows, MayStart, SameLists, lists_in};
+ghost use Rattle.af_model.specs.MergeSearch.{Knows, MayStart, SameLists, GoOn, lists_in};
 ghost use Rattle.af_model.specs.Merges.{IsStart};
 
 use crate::events::Events;
@@ -198,6 +198,7 @@ fn append(
     hand: &[HandEvent],
 ) -> Result<(), AllocError>
     ensures lists { OnOk result (lists_in search.new ≡ joined (lists_in search.old) client.now server.now hand.now) }
+    ensures front { GoOn (lists_in search.old) (lists_in search.new) }
     ensures from { search.new.from ≡ search.old.from }
     ensures known { search.new.known ≡ search.old.known }
 {
@@ -230,8 +231,8 @@ fn found_from(
     Ok((open, whole))
 }
 
-/// Whether the lists with these pieces at their ends have a legal order. After an `Err` nothing is known.
-pub(crate) fn extend(
+/// Whether the lists with these pieces at their ends have a legal order. After an `Err` nothing is known, and some pieces may be added.
+fn go_on(
     alloc: Global,
     search: &mut Search,
     client: &[ClientEvent],
@@ -245,6 +246,8 @@ pub(crate) fn extend(
     ensures lists { OnOk result (lists_in search.new ≡ joined (lists_in search.old) client.now server.now hand.now) }
     ensures from { search.new.from ≡ search.old.from }
     ensures knows { Knows search.new }
+    ensures front { GoOn (lists_in search.old) (lists_in search.new) }
+    ensures unknown { OnErr result (search.new.known ≡ false) }
 {
     let begins = starts(alloc, search, hand)?;
     append(search, client, server, hand)?;
@@ -252,4 +255,33 @@ pub(crate) fn extend(
     search.open = open;
     search.known = true;
     Ok(whole)
+}
+
+/// Whether the lists with these pieces at their ends have a legal order. After an `Err` the lists are as before, and nothing is known.
+pub(crate) fn extend(
+    alloc: Global,
+    search: &mut Search,
+    client: &[ClientEvent],
+    server: &[ServerEvent],
+    hand: &[HandEvent],
+) -> Result<bool, AllocError>
+    requires from { IsStart search.old.from }
+    requires knows { Knows search.old }
+    requires short { AreShortLists (joined (lists_in search.old) client.now server.now hand.now) }
+    ensures answer { IfOk result (λ yes. IsTrue yes ↔ HasWalk (joined (lists_in search.old) client.now server.now hand.now) search.old.from) }
+    ensures lists { OnOk result (lists_in search.new ≡ joined (lists_in search.old) client.now server.now hand.now) }
+    ensures as_before { OnErr result (lists_in search.new ≡ lists_in search.old) }
+    ensures from { search.new.from ≡ search.old.from }
+    ensures knows { Knows search.new }
+{
+    let clients = search.client.len();
+    let servers = search.server.len();
+    let hands = search.hand.len();
+    let answer = go_on(alloc, search, client, server, hand);
+    if answer.is_err() {
+        search.client.truncate(clients);
+        search.server.truncate(servers);
+        search.hand.truncate(hands);
+    }
+    answer
 }

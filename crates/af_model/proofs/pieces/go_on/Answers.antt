@@ -7,7 +7,7 @@ use Rattle.af_model.specs.Stages.{Lists, eager, IsWhole, InBounds}
 use Rattle.af_model.specs.MergePieces.{IsOpen, IsFrontier, joined}
 use Rattle.af_model.specs.MergeSearch.{lists_in}
 use Rattle.af_model.proofs.Extends.{IsFrontier-from_starts, All-InBounds-from_starts, HasWalk-at_frontier}
-use Rattle.af_model.proofs.pieces.extend.Goals as goal
+use Rattle.af_model.proofs.pieces.go_on.Goals as goal
 
 -- the lists after the call are the joined ones
 abbrev lists_are : (c : goal.After-search-1) → lists_in c.append.new.search ≡ joined (lists_in c.args.search.now) c.args.client.now c.args.server.now c.args.hand.now

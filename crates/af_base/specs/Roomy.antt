@@ -2,6 +2,6 @@
 use Rattle.std.specs.Prelude.{ℕ, List}
 
 -- the items, and for how many there is room in all
-pub record Listed (T : Type 0) : Type 0 where
+pub record Roomy (T : Type 0) : Type 0 where
   pub items : List T
   pub room : ℕ

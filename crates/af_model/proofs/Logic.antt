@@ -1,0 +1,98 @@
+-- What other proofs use again and again: Booleans, tests of order, and words that lie near or outside a block.
+use Rattle.std.proofs.Common.{◌≡◌, ℕ, ◌+◌, ◌-◌, ◌<◌, ◌≤◌, Bool, true, false, true≢false, ◌&&◌, nat_le, nat_lt, if◌then◌else◌, MatchOption, Option, Some, None, fold, List, [], ◌∷◌, refl, sym, ap, arith}
+use Rattle.std.proofs.lemmas.Bool.Decides.{nat_tests}
+use Rattle.af_base.specs.declared.event.ClientEvent.{ClientEvent}
+use Rattle.af_base.specs.declared.event.ClientEvent.TheVariants as client
+use Rattle.af_base.specs.declared.event.ServerEvent.{ServerEvent}
+use Rattle.af_base.specs.declared.event.ServerEvent.TheVariants as server
+use Rattle.af_model.specs.Point.{wrapped}
+use Rattle.af_model.specs.Room.{ahead, outside}
+use Rattle.af_model.specs.ClientCalls.{ClientKept, client_keeps}
+use Rattle.af_model.specs.ServerCalls.{ServerKept, server_keeps}
+
+-- ## Two tests at once
+
+pub both_left : (a b : Bool) → (a && b) ≡ true → a ≡ true
+both_left true b e = refl
+both_left false b e = e
+
+pub both_right : (a b : Bool) → (a && b) ≡ true → b ≡ true
+both_right true b e = e
+both_right false b e = absurd (true≢false (sym e))
+
+pub both_are : (a b : Bool) → a ≡ true → b ≡ true → (a && b) ≡ true
+both_are true b x y = y
+both_are false b x y = x
+
+-- ## Order
+
+-- a test that passes
+pub le_is : (a b : ℕ) → nat_le a b ≡ true → a ≤ b
+le_is a b h = grind (arith, nat_tests)
+
+-- the test passes
+pub is_le : (a b : ℕ) → a ≤ b → nat_le a b ≡ true
+is_le a b h = grind (arith, nat_tests)
+
+pub nat_lt-yes : (a b : ℕ) → a < b → nat_lt a b ≡ true
+nat_lt-yes a b lt = search arith
+
+pub nat_lt-no : (a b : ℕ) → b ≤ a → nat_lt a b ≡ false
+nat_lt-no a b le = search arith
+
+-- between two positions that are near, the words tell how far
+pub ahead-between : (a b : ℕ) → a ≤ b → b ≤ a + 65536 → ahead (wrapped a) (wrapped b) ≡ b - a
+ahead-between a b low high = omega arith
+
+-- ## Words that do not fit a block
+
+pub outside-none : (frames front rear : ℕ) → ahead front rear ≤ frames → outside frames front rear ≡ None
+outside-none frames front rear le = ap (λ (b : Bool). if b then Some (front, rear) else None) (nat_lt-no frames (ahead front rear) le)
+
+pub outside-some : (frames front rear : ℕ) → frames < ahead front rear → outside frames front rear ≡ Some (front, rear)
+outside-some frames front rear lt = ap (λ (b : Bool). if b then Some (front, rear) else None) (nat_lt-yes frames (ahead front rear) lt)
+
+-- the words that shut a proxy do not fit the block
+abbrev pub LieOutside : ℕ → Option (ℕ × ℕ) → Type 0
+LieOutside frames o = MatchOption o (Unit {0}) (λ words. frames < ahead words.0 words.1)
+
+chosen : (frames front rear : ℕ) (b : Bool) → nat_lt frames (ahead front rear) ≡ b → LieOutside frames (if b then Some (front, rear) else None)
+chosen frames front rear true e = search arith
+chosen frames front rear false e = tt
+
+unless : (frames : ℕ) (b : Bool) (o : Option (ℕ × ℕ)) → LieOutside frames o → LieOutside frames (if b then None else o)
+unless frames true o h = tt
+unless frames false o h = h
+
+client_lies : (frames : ℕ) (kept : ClientKept) (e : ClientEvent) → LieOutside frames kept.shut → LieOutside frames (client_keeps frames kept e).shut
+client_lies frames kept (client.SawFront front) h = chosen frames front (wrapped kept.position) (nat_lt frames (ahead front (wrapped kept.position))) refl
+client_lies frames kept (client.Release count) h = h
+client_lies frames kept client.Flush h = h
+client_lies frames kept (client.SetGain word) h = h
+client_lies frames kept (client.ClearFlags old) h = h
+client_lies frames kept (client.SawFlags flags) h = h
+client_lies frames kept (client.SawStatus word) h = h
+client_lies frames kept (client.Poke word value) h = h
+client_lies frames kept (client.Learn count) h = h
+
+server_lies : (frames : ℕ) (kept : ServerKept) (e : ServerEvent) → LieOutside frames kept.shut → LieOutside frames (server_keeps frames kept e).shut
+server_lies frames kept (server.SawGain word) h = h
+server_lies frames kept (server.SawFlush flush) h = h
+server_lies frames kept (server.SawRear rear) h = h
+server_lies frames kept (server.SawFront front) h = unless frames kept.is_new (outside frames front kept.rear) (chosen frames front kept.rear (nat_lt frames (ahead front kept.rear)) refl)
+server_lies frames kept (server.Drop to) h = h
+server_lies frames kept (server.Take count) h = h
+server_lies frames kept (server.Tally missing) h = h
+server_lies frames kept (server.SetFlags bits) h = h
+server_lies frames kept (server.SetStatus word) h = h
+server_lies frames kept (server.Learn count) h = h
+
+-- the words that shut a client lie outside its block, by its list
+pub client_outside : (frames : ℕ) (kept : ClientKept) (es : List ClientEvent) → LieOutside frames kept.shut → LieOutside frames (fold (client_keeps frames) kept es).shut
+client_outside frames kept [] h = h
+client_outside frames kept (e ∷ es) h = client_outside frames (client_keeps frames kept e) es (client_lies frames kept e h)
+
+-- and those that shut a server
+pub server_outside : (frames : ℕ) (kept : ServerKept) (es : List ServerEvent) → LieOutside frames kept.shut → LieOutside frames (fold (server_keeps frames) kept es).shut
+server_outside frames kept [] h = h
+server_outside frames kept (e ∷ es) h = server_outside frames (server_keeps frames kept e) es (server_lies frames kept e h)
