@@ -1,10 +1,7 @@
 //! Meetings of the ends that a mixer lends.
-ghost use Rattle.std.specs.Prelude.{◌≡◌, ◌<◌, ◌++◌, [], ◌∷◌, length};
-ghost use Rattle.af_base.specs.declared.event.ServerEvent.TheVariants as takes;
-ghost use Rattle.af_cblk.specs.Parts.{server_did};
+ghost use Rattle.std.specs.Prelude.{◌≡◌, ◌<◌};
 ghost use Rattle.af_link.specs.PipeEnds.{in_made};
-ghost use Rattle.af_model.specs.declared.newest.WriterEvent.TheVariants as writes;
-ghost use Rattle.af_fast.specs.Mixer.{IsInOrder, IsLinked};
+ghost use Rattle.af_fast.specs.Mixer.{IsLinked};
 ghost use Rattle.af_fast.specs.Ready.{IsReady};
 
 use crate::FastMixer;
@@ -15,29 +12,6 @@ use std::alloc::Global;
 use std::marker::Brand;
 use std::sync::ledger::{Blank, Ledger};
 use std::test::*;
-
-// The ends of the report and of the pipe, lent at once, meet those of the other side. The mixer is as before but for the two meetings, and still in order.
-fn meet_both<L: Ledger>(
-    mixer: &mut FastMixer,
-    links: &Links<'_>,
-    reader: &mut ReportReader,
-    from: &mut PipeIn,
-    steps: &mut Steps<L>,
-)
-    requires linked { IsLinked links.now mixer.old }
-    requires order { IsInOrder mixer.old }
-    requires reader { reader.old.cell ≡ links.now.report.now }
-    requires from { in_made from.old ≡ links.now.pipe.now }
-    ensures mixer { mixer.new ≡ (record mixer.old { writer = record mixer.old.writer { events = mixer.old.writer.events ++ writes.Learn (length reader.old.events) ∷ [] }; pipe = record mixer.old.pipe { pass = record mixer.old.pipe.pass { part = server_did mixer.old.pipe.pass.part (takes.Learn (length from.old.pass.part.events)) } } }) }
-    ensures linked { IsLinked links.now mixer.new }
-    ensures order { IsInOrder mixer.new }
-    ensures reader { reader.new.cell ≡ links.now.report.now }
-    ensures from { in_made from.new ≡ links.now.pipe.now }
-{
-    let (writer, pipe) = mixer.pair();
-    meet_report(links.report, writer, reader, steps);
-    meet_pipe(links.pipe, from, pipe, steps);
-}
 
 // The last meeting, by two references: no proof goes on with the mixer after it.
 fn meet_last<L: Ledger>(
@@ -77,12 +51,12 @@ fn passes<L: Ledger>(ends: &mut Ends, links: &Links<'_>, steps: &mut Steps<L>) -
     fill(&mut ends.pipe, links, steps);
     let turned = turn(ends, links, steps);
     let Ends {
+        mutator,
         mixer,
         reader,
         pipe,
-        ..
     } = ends;
-    meet_both(mixer, links, reader, pipe, steps);
+    mixer.meet(links, mutator, reader, pipe, steps);
     turned
 }
 
