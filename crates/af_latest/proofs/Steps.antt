@@ -295,9 +295,21 @@ module _ {T : Type 0} (first : T) where
     abbrev met_once : CellPoint T
     met_once = next k.point (one (writes.Learn (length k.reader.events)))
 
+    once_is : after legal next (start first) (k.history.order ++ one (writes.Learn (length k.reader.events)) ∷ []) ≡ met_once
+    once_is = point_one k.history.order k.point (one (writes.Learn (length k.reader.events))) k.point_is
+
+    learnt_w : legal (after legal next (start first) k.history.order) (one (writes.Learn (length k.reader.events)))
+    learnt_w = subst (λ (p : CellPoint T). length k.reader.events ≤ p.reads) (sym k.point_is) (let c = k.counts.1 in omega arith)
+
+    learnt_r : legal (after legal next (start first) (k.history.order ++ one (writes.Learn (length k.reader.events)) ∷ [])) (two (reads.Learn (length k.writer.events)))
+    learnt_r = subst (λ (p : CellPoint T). length k.writer.events ≤ p.writes) (sym once_is) (let c = k.counts.0 in omega arith)
+
+    -- the lists with what was learnt have a history
+    abbrev met_history : HasHistory first (k.writer.events ++ writes.Learn (length k.reader.events) ∷ []) (k.reader.events ++ reads.Learn (length k.writer.events) ∷ [])
+    met_history = add_two legal next (start first) met_writer.events k.reader.events (reads.Learn (length k.writer.events)) (add_one legal next (start first) k.writer.events k.reader.events (writes.Learn (length k.reader.events)) k.history learnt_w) learnt_r
+
     meets : (cs : List (ℕ × T)) → Kept first (stepped s 0 (get_or s.words 0 0) id cs met_view keeps)
     meets cs =
-        let once : after legal next (start first) (k.history.order ++ one (writes.Learn (length k.reader.events)) ∷ []) ≡ met_once = point_one k.history.order k.point (one (writes.Learn (length k.reader.events))) k.point_is in
         record {
           writer = met_writer;
           reader = met_reader;
@@ -306,9 +318,9 @@ module _ {T : Type 0} (first : T) where
           one_writer = mine has_writing writing s.views k.writer_at id k.writer met_writer v met_view k.one_writer here w_ok refl;
           one_reader = mine has_reading reading s.views k.reader_at id k.reader met_reader v met_view k.one_reader here r_ok refl;
           first_is = k.first_is;
-          history = add_two legal next (start first) met_writer.events k.reader.events (reads.Learn (length k.writer.events)) (add_one legal next (start first) k.writer.events k.reader.events (writes.Learn (length k.reader.events)) k.history (subst (λ (p : CellPoint T). length k.reader.events ≤ p.reads) (sym k.point_is) (let c = k.counts.1 in omega arith))) (subst (λ (p : CellPoint T). length k.writer.events ≤ p.writes) (sym once) (let c = k.counts.0 in omega arith));
+          history = met_history;
           point = next met_once (two (reads.Learn (length k.writer.events)));
-          point_is = point_one (k.history.order ++ one (writes.Learn (length k.reader.events)) ∷ []) met_once (two (reads.Learn (length k.writer.events))) once;
+          point_is = point_one (k.history.order ++ one (writes.Learn (length k.reader.events)) ∷ []) met_once (two (reads.Learn (length k.writer.events))) once_is;
           counts = (ap (λ (z : ℕ). z + 1) k.counts.0 ∙ sym (length-append k.writer.events (writes.Learn (length k.reader.events) ∷ [])), ap (λ (z : ℕ). z + 1) k.counts.1 ∙ sym (length-append k.reader.events (reads.Learn (length k.writer.events) ∷ [])));
           middle = k.middle;
           fresh = k.fresh;
@@ -334,8 +346,8 @@ module _ {T : Type 0} (first : T) where
         tt,
         meets s k id v here w_ok r_ok m.1,
         (
-          (λ x e. subst (λ (q : T × Writing T × Reading T). HasHistory q.0 q.1.events q.2.events)
-              (λ i. (some_injective first x (sym k.first_is ∙ ap (λ (y : Writing T). y.first) w_is ∙ e) i, w_is i, r_is i)) k.history),
+          (λ x e. subst (λ (q : T × Writing T × Reading T). HasHistory q.0 q.1.events q.2.events × HasHistory q.0 (q.1.events ++ writes.Learn (length q.2.events) ∷ []) (q.2.events ++ reads.Learn (length q.1.events) ∷ []))
+              (λ i. (some_injective first x (sym k.first_is ∙ ap (λ (y : Writing T). y.first) w_is ∙ e) i, w_is i, r_is i)) (k.history, met_history s k id v here w_ok r_ok)),
           λ i. (
             record v {
               writing = record (w_is i) { events = (w_is i).events ++ writes.Learn (length (r_is i).events) ∷ [] };

@@ -97,10 +97,10 @@ module _ {T : Type 0} where
   fetched st m r m' = (n : ℕ) × (y : T) × (last_number 0 m.0.reading.events < n) × (4 ≤ r) × (r < 7)
       × (m' ≡ (record m.0 { reading = record { events = m.0.reading.events ++ Load n y ∷ []; slot = r % 4; out = true; value = Some y; fresh = false } }, (r % 4, y) ∷ []))
 
-  -- both parties' lists so far have a history, and each learns how many events the other has
+  -- each party learns how many events the other has, and both lists have a history, before that and with it
   abbrev pub met : Step T → Seated T → ℕ → Seated T → Type 0
   met st m r m' = let v = m.0 in
-      ((x : T) → v.writing.first ≡ Some x → HasHistory x v.writing.events v.reading.events)
+      ((x : T) → v.writing.first ≡ Some x → HasHistory x v.writing.events v.reading.events × HasHistory x (v.writing.events ++ writes.Learn (length v.reading.events) ∷ []) (v.reading.events ++ reads.Learn (length v.writing.events) ∷ []))
       × (m' ≡ (
         record v {
           writing = record v.writing { events = v.writing.events ++ writes.Learn (length v.reading.events) ∷ [] };

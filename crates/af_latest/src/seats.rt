@@ -115,7 +115,7 @@ impl<T: Copy> Reader<T> {
     }
 }
 
-/// Each end learns that the other's list so far stands in the history before its own next event. It takes five steps.
+/// Each end learns that the other's list so far stands in the history before its own next event. The lists have a history as they stood before, and with what was learnt. It takes five steps.
 pub fn meet_latest<T: Copy, L: Ledger>(
     cell: &Latest<T>,
     writer: &mut Writer<T>,
@@ -124,7 +124,8 @@ pub fn meet_latest<T: Copy, L: Ledger>(
 )
     requires together { (writer.old.cell ≡ cell.now) × (reader.old.cell ≡ cell.now) }
     ensures together { (writer.new.cell ≡ writer.old.cell) × (writer.new.first ≡ writer.old.first) × (reader.new.cell ≡ reader.old.cell) }
-    ensures history { (first : T) → writer.old.first ≡ Some first → HasHistory first writer.old.events reader.old.events }
+    ensures before { (first : T) → writer.old.first ≡ Some first → HasHistory first writer.old.events reader.old.events }
+    ensures history { (first : T) → writer.old.first ≡ Some first → HasHistory first writer.new.events reader.new.events }
     ensures writer { writer.new.events ≡ writer.old.events ++ writes.Learn (length reader.old.events) ∷ [] }
     ensures reader { reader.new.events ≡ reader.old.events ++ reads.Learn (length writer.old.events) ∷ [] }
     ensures steps { steps.new ≡ steps.old + 5 }

@@ -5,7 +5,7 @@ use Rattle.af_model.specs.StateQueue.{slots, has}
 use Rattle.af_stateq.specs.Shelved.{word, nothing}
 use Rattle.af_stateq.specs.Ends.{Pushes, saw, SawAcked}
 use Rattle.af_stateq.specs.Mutates.{Mutates, at, InDraft, SlotIn, IsJoined}
-use Rattle.af_stateq.specs.Answers.{SeesIt, SeesOlder}
+use Rattle.af_stateq.specs.Answers.{SeesIt, SeesOlder, SameDraft}
 use Rattle.af_stateq.proofs.Slots.{not_true, not_both, stay_one}
 use Rattle.af_stateq.proofs.Edits.{both_are, look_keeps, join_keeps}
 
@@ -15,6 +15,20 @@ all_none zero [] e h = refl
 all_none zero (x ∷ xs) e h = absurd (omega arith)
 all_none (suc n) [] e h = absurd (omega arith)
 all_none (suc n) (x ∷ xs) e h = λ i. h 0 (omega arith) i ∷ all_none n xs (omega arith) (λ j lt. h (suc j) (omega arith)) i
+
+-- a look leaves the draft and the number as they are
+pub same_looked : {P K : Type 0} (m m' : Mutates P K) (a : ℕ) (items returned : List (Option P)) → m' ≡ record m { past = saw a items m.past; returned = returned } → SameDraft m m' × (m'.past.number ≡ m.past.number)
+same_looked {P = P} {K = K} m m' a items returned e = (
+  (
+    ap (λ (z : Mutates P K). z.past.queue) e,
+    ap (λ (z : Mutates P K). z.past.key) e,
+    ap (λ (z : Mutates P K). z.past.first) e,
+    ap (λ (z : Mutates P K). z.draft) e,
+    ap (λ (z : Mutates P K). z.editing) e,
+    ap (λ (z : Mutates P K). z.out) e,
+  ),
+  ap (λ (z : Mutates P K). z.past.number) e,
+)
 
 module _ {P K : Type 0} (fits : K → ℕ → P → Type 0) (m : Mutates P K) (d : InDraft fits m) (came : List (Option P)) (seen : ℕ) (past : Pushes P K) (s : SawAcked fits m.past nothing seen past came) where
   -- the last state is not acknowledged
@@ -36,7 +50,7 @@ module _ {P K : Type 0} (fits : K → ℕ → P → Type 0) (m : Mutates P K) (d
     older_empty = none_came.1
 
     pub sees_older : (a : ℕ) × (seen ≡ word a) × SeesOlder m (record m { past = past }) a
-    sees_older = (s.0, s.1, ((let e = s.3 miss in omega arith), s.3 miss, λ i. record m { past = none_came.0 i }))
+    sees_older = (s.0, s.1, ((let e = s.3 miss in omega arith), s.3 miss, (λ i. record m { past = none_came.0 i }), not_clear, ap (λ (q : Pushes P K). q.clear) none_came.0 ∙ ap (λ (w : ℕ). w == word m.past.number) (sym s.1) ∙ not_hit))
 
   -- it is acknowledged
   module _ (hit : seen ≡ word m.past.number) where
@@ -78,12 +92,12 @@ module _ {P K : Type 0} (fits : K → ℕ → P → Type 0) (m : Mutates P K) (d
       hit_by : (b : Bool) → m.past.clear ≡ b → InDraft fits record m { past = past; returned = after } × SeesIt m (record m { past = past; returned = after }) × (past.clear ≡ true)
       hit_by true c = let t = s.4 (test true c) in (
         stays t.0 t.1 c,
-        ([], (λ i. record m { past = (t.0 ∙ ap (λ a. saw a [] m.past) (s.2 hit)) i; returned = after }), λ i lt. same_at t.1 i lt),
+        ([], (λ i. record m { past = (t.0 ∙ ap (λ a. saw a [] m.past) (s.2 hit)) i; returned = after }), (λ i lt. same_at t.1 i lt), ((λ _. refl), λ f. absurd (not_both m.past.clear c f))),
         ap (λ (q : Pushes P K). q.clear) t.0 ∙ now_clear s.0 [] s.1,
       )
       hit_by false c = let t = s.5 (test false c) in (
         subst (λ (q : Pushes P K). InDraft fits record m { past = q; returned = after }) (sym t.0) (join_keeps fits m d s.0 came after c (now_clear s.0 came s.1) t.1 t.2 long joined),
-        (came, (λ i. record m { past = (t.0 ∙ ap (λ a. saw a came m.past) (s.2 hit)) i; returned = after }), joined),
+        (came, (λ i. record m { past = (t.0 ∙ ap (λ a. saw a came m.past) (s.2 hit)) i; returned = after }), joined, ((λ y. absurd (not_both m.past.clear y c)), λ _. t.1)),
         ap (λ (q : Pushes P K). q.clear) t.0 ∙ now_clear s.0 came s.1,
       )
 

@@ -18,7 +18,7 @@ use Rattle.af_model.specs.declared.states.ObserverEvent.TheVariants as observer
 use Rattle.af_model.specs.StateQueue.{slots, AreOf, AllFit, FitAt, brought, HasHistory}
 use Rattle.af_stateq.proofs.Acts.{takes_all, gives_all, carried_takes, takes_else, length_takes, takes_valid, gives_valid, carried_gives, gives_else, same_shelves}
 use Rattle.af_stateq.specs.Shelved.{cell, word, cells, shelves, items_on, Phase, quiet, shown, taken, InPhase, Kept, Seated, saw_mutating, brings, saw_ack, push_mutating, pushed, saw_next, acked, met}
-use Rattle.af_stateq.proofs.Steps.{word_differs, apart, small, many, and_false, some_same, m_is, o_is, next_found, ack_found, Now, ack_m, ack_view, ack_point, looks, push_view, at_rest, shows, same_view, nothing_new, new_view, is_new, ackd_view, acks, met_view, meets}
+use Rattle.af_stateq.proofs.Steps.{word_differs, apart, small, many, and_false, some_same, m_is, o_is, next_found, ack_found, Now, ack_m, ack_view, ack_point, looks, push_view, at_rest, shows, same_view, nothing_new, new_view, is_new, ackd_view, acks, met_view, met_history, meets}
 
 module _ {P K : Type 0} (fits : K → ℕ → P → Type 0) (basis : Basis K) where
   abbrev St : Type 0
@@ -218,8 +218,8 @@ module _ {P K : Type 0} (fits : K → ℕ → P → Type 0) (basis : Basis K) wh
         tt,
         meets fits basis s k id v here m_ok o_ok (ap (λ (o : Observing P K). o.due) is_o ∙ rested) me.1,
         (
-          (λ x e. subst (λ (q : FastState × Mutating P K × Observing P K). HasHistory q.0 q.1.events q.2.events)
-              (λ i. ((sym k.keys.2 ∙ ap (λ (m : Mutating P K). m.first) is_m ∙ e) i, is_m i, is_o i)) k.history),
+          (λ x e. subst (λ (q : FastState × Mutating P K × Observing P K). HasHistory q.0 q.1.events q.2.events × HasHistory q.0 (q.1.events ++ mutator.Learn (length q.2.events) ∷ []) (q.2.events ++ observer.Learn (length q.1.events) ∷ []))
+              (λ i. ((sym k.keys.2 ∙ ap (λ (m : Mutating P K). m.first) is_m ∙ e) i, is_m i, is_o i)) (k.history, met_history fits basis s k id v here m_ok o_ok (ap (λ (o : Observing P K). o.due) is_o ∙ rested))),
           λ i. (
             record v {
               mutating = record (is_m i) { events = (is_m i).events ++ mutator.Learn (length (is_o i).events) ∷ [] };

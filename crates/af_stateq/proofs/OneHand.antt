@@ -1,7 +1,6 @@
 -- A call with both ends in one hand answers as the plain queue does, and leaves the ends as it says.
-use Rattle.std.proofs.Common.{◌≡◌, ℕ, ◌+◌, ◌<◌, ◌≤◌, ◌==◌, ◌&&◌, ◌||◌, not, if◌then◌else◌, Bool, true, false, List, [], ◌∷◌, ◌++◌, Option, Some, None, is_some, slice_set, refl, ap, sym, ◌∙◌, subst, arith, eq-eqb, ne_eqb, append_assoc, length-set}
+use Rattle.std.proofs.Common.{◌≡◌, ℕ, ◌+◌, ◌<◌, ◌==◌, ◌&&◌, ◌||◌, not, if◌then◌else◌, Bool, true, false, List, [], ◌∷◌, ◌++◌, Option, Some, None, is_some, slice_set, refl, ap, sym, ◌∙◌, subst, arith, eq-eqb, ne_eqb, append_assoc, length-set}
 use Rattle.std.proofs.lemmas.List.{map-set, set-get_or}
-use Rattle.std.proofs.lemmas.Bool.{ltb-true, leb-true}
 use Rattle.std.proofs.Math.Seq.{map-set_same}
 use mathlib.Core.Logic.{dite}
 use native.Mathlib.Decide.{ℕ_discrete}
@@ -24,15 +23,15 @@ use Rattle.af_model.specs.declared.plain_calls.QueueAnswer.{QueueAnswer}
 use Rattle.af_model.specs.declared.plain_calls.QueueAnswer.TheVariants as answer
 use Rattle.af_model.specs.StateQueue.{slots, carries, HasHistory}
 use Rattle.af_model.specs.Draft.{attached, detached}
-use Rattle.af_model.specs.PlainQueue.{QueueState, place_at, is_placed, returned_of, let_go, left, moved_from, readiness, is_shelf, is_allowed, shown, allowed_step, step}
+use Rattle.af_model.specs.PlainQueue.{QueueState, place_at, is_placed, returned_of, let_go, left, moved_from, readiness, is_allowed, shown, allowed_step, step}
 use Rattle.af_stateq.specs.Shelved.{word}
 use Rattle.af_stateq.specs.Ends.{Pushes, Polls, saw, looked, took, acknowledged}
 use Rattle.af_stateq.specs.Mutates.{Mutates, at, is_out, InDraft}
-use Rattle.af_stateq.specs.Observes.{Observes, InOrder}
+use Rattle.af_stateq.specs.Observes.{Observes}
 use Rattle.af_stateq.specs.Answers.{shows, WasPushed, WasAcked, WasPolled, sees_same}
 use Rattle.af_stateq.specs.Laws.{last_items, last_given}
 use Rattle.af_stateq.specs.OneHand.{AreAt, HaveMet, plain_of, Agrees, ready_of, Made, Tried, items_going, items_coming}
-use Rattle.af_stateq.proofs.Slots.{both_ways, none_back, not_false, and_one}
+use Rattle.af_stateq.proofs.Slots.{both_ways, none_back, not_false, and_one, on_shelf}
 use Rattle.af_stateq.proofs.InPlaces.{is_placed-left, is_placed-let_go, attach_at, detach_at, take_at}
 use Rattle.af_stateq.proofs.EndEvents.{look_is_exact, ack_is_exact}
 use Rattle.af_stateq.proofs.EndMoves.{Each, set_each, out_is, sees_it, sees_nothing, sees_older, shows_it, looks, takes, meets}
@@ -164,9 +163,6 @@ module _ {P K : Type 0} (m : Mutates P K) (o : Observes P K) (places : List (Pla
           )) ∙ (λ i. poll_by (sym e i) (m.past.number == 0)),
         )
 
-on_shelf : (slot : ℕ) → is_shelf slot ≡ true → (1 ≤ slot) × (slot < slots)
-on_shelf slot e = let t = and_one _ _ e in (leb-true 1 slot t.0, ltb-true slot slots t.1)
-
 module _ {P K : Type 0} (fits : K → ℕ → P → Type 0) (m : Mutates P K) (o : Observes P K) (places : List (Place P)) (here : AreAt places m o) (draft : InDraft fits m) where
   abbrev going : List (Option P)
   going = items_going m.past o.past
@@ -274,6 +270,3 @@ call_answers {P = P} {K = K} fits queue c m o a m' o' agrees draft met tried h =
 pub meeting_agrees : {P K : Type 0} (q : QueueState P) (m : Mutates P K) (o : Observes P K) (m' : Mutates P K) (o' : Observes P K) (c d : ℕ) → Agrees q m o
     → m' ≡ record m { past = record m.past { events = m.past.events ++ mutator.Learn d ∷ [] } } → o' ≡ record o { past = record o.past { events = o.past.events ++ observer.Learn c ∷ [] } } → Agrees q m' o'
 meeting_agrees {P = P} {K = K} queue m o m' o' c d agrees em eo = subst (λ (t : Mutates P K × Observes P K). Agrees queue t.0 t.1) (λ i. (sym em i, sym eo i)) (agrees.0, meets m o queue.places agrees.1 c d)
-
-pub order_learns : {P K : Type 0} (fits : K → ℕ → P → Type 0) (o : Observes P K) (o' : Observes P K) (es : List (ObserverEvent P)) → InOrder fits o → o' ≡ record o { past = record o.past { events = es } } → InOrder fits o'
-order_learns {P = P} {K = K} fits o o' es r e = subst (λ (z : Observes P K). InOrder fits z) (sym e) record { state = r.state; whole = r.whole; held = r.held; fit = r.fit }

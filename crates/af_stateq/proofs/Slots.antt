@@ -1,6 +1,9 @@
 -- How the facts of one slot fare where it is attached, detached, taken back, pushed, or its item comes back.
-use Rattle.std.proofs.Common.{◌≡◌, ◌&&◌, not, if◌then◌else◌, Bool, true, false, true≢false, Option, Some, None, is_some, refl, ap, sym, ◌∙◌, subst}
+use Rattle.std.proofs.Common.{◌≡◌, ℕ, ◌<◌, ◌≤◌, ◌&&◌, ⊎_elim, inl, inr, not, if◌then◌else◌, Bool, true, false, true≢false, Option, Some, None, is_some, refl, ap, sym, ◌∙◌, subst}
+use Rattle.std.proofs.lemmas.Bool.{ltb-true, leb-true}
 use Rattle.af_base.specs.declared.state.FastTrack.{FastTrack}
+use Rattle.af_model.specs.StateQueue.{slots}
+use Rattle.af_model.specs.PlainQueue.{is_shelf}
 use Rattle.af_stateq.specs.Mutates.{InSlot}
 
 pub not_true : (b : Bool) → (b ≡ true → ⊥) → b ≡ false
@@ -30,6 +33,10 @@ pub and_one : (a b : Bool) → (a && b) ≡ true → (a ≡ true) × (b ≡ true
 and_one true b e = (refl, e)
 and_one false b e = absurd (true≢false (sym e))
 
+-- a slot that has a shelf
+pub on_shelf : (slot : ℕ) → is_shelf slot ≡ true → (1 ≤ slot) × (slot < slots)
+on_shelf slot e = let t = and_one _ _ e in (leb-true 1 slot t.0, ltb-true slot slots t.1)
+
 module _ {P : Type 0} (clear d l b : Bool) (t tl tb : FastTrack) (p r : Option P) (o : Bool) where
   abbrev Here : Type 0
   Here = InSlot clear d l b t tl tb p r o
@@ -46,6 +53,7 @@ module _ {P : Type 0} (clear d l b : Bool) (t tl tb : FastTrack) (p r : Option P
       comes = λ f e _. absurd (not_both b e (c.3 f));
       rests = λ e. absurd (not_both (is_some r) e c.1);
       clean = λ e. absurd (true≢false e);
+      found = λ _ e. absurd (true≢false e);
     }
 
     pub none_back : d ≡ true → is_some r ≡ false
@@ -58,6 +66,7 @@ module _ {P : Type 0} (clear d l b : Bool) (t tl tb : FastTrack) (p r : Option P
       comes = λ f e g. absurd (not_both d on (s.comes f e g).0);
       rests = λ e. (refl, not_false l (sym (ap (λ x. x && not l) on) ∙ sym s.pends ∙ e));
       clean = λ e. absurd (not_both d on (s.clean e).0);
+      found = λ _ _ e _. s.pends ∙ ap (λ x. x && not l) on ∙ ap not e;
     }
 
     pub take_one : InSlot clear d l b t tl tb p None (o && not (is_some r))
@@ -69,6 +78,7 @@ module _ {P : Type 0} (clear d l b : Bool) (t tl tb : FastTrack) (p r : Option P
       clean = λ e. both_ways (is_some r)
           (λ y. let q = s.rests y in (q.0, refl, q.1, λ f. not_true b (λ h. not_both (is_some r) y (s.comes f h q.1).1)))
           (λ n. let c = s.clean (sym (and_right o) ∙ sym (ap (λ x. o && not x) n) ∙ e) in (c.0, refl, c.2, c.3));
+      found = λ e f g h. let t = and_one o (not (is_some r)) e in absurd (not_both (is_some r) (s.found t.0 f g h) (not_false (is_some r) t.1));
     }
 
     -- the item that the last push took off came back
@@ -82,6 +92,9 @@ module _ {P : Type 0} (clear d l b : Bool) (t tl tb : FastTrack) (p r : Option P
           (λ n. s.rests (sym (ap is_some (e ∙ ap (λ x. if x then came else r) n)) ∙ h));
       clean = λ x. let c = s.clean x in let n : is_some came ≡ false = is ∙ ap (λ y. y && not l) (c.3 f) in
           (c.0, ap is_some (e ∙ ap (λ y. if y then came else r) n) ∙ c.1, c.2, λ y. absurd (true≢false y));
+      found = λ x g h _. both_ways b
+          (λ y. let c : is_some came ≡ true = is ∙ ap (λ z. z && not l) y ∙ ap not h in ap is_some (e ∙ ap (λ z. if z then came else r) c) ∙ c)
+          (λ n. ap is_some (e ∙ ap (λ z. if z then came else r) (is ∙ ap (λ z. z && not l) n)) ∙ s.found x g h (inr n));
     }
 
     -- none came
@@ -95,4 +108,5 @@ module _ {P : Type 0} (clear d l b : Bool) (t tl tb : FastTrack) (p r : Option P
       comes = λ _ e g. (g, not_true (is_some r) (λ h. not_both l e (s.rests h).1), s.stays e);
       rests = λ e. ((s.rests e).0, (s.rests e).0);
       clean = λ e. let c = s.clean e in (c.0, c.1, c.0, λ _. c.2);
+      found = λ x g _ h. ⊎_elim (λ z. absurd (true≢false (sym z))) (λ z. s.found x g z (inl y)) h;
     }

@@ -1,16 +1,18 @@
 -- What holds of the first state, of a new mutator and of a new observer.
-use Rattle.std.proofs.Common.{◌≡◌, ℕ, zero, suc, ◌-◌, ◌<◌, ◌≤◌, ◌==◌, ◌&&◌, not, true, false, true≢false, Bool, Option, Some, None, is_some, replicate, refl, ap, sym, ◌∙◌, subst, arith, ne_eqb}
+use Rattle.std.proofs.Common.{◌≡◌, ℕ, zero, suc, ◌-◌, ◌<◌, ◌≤◌, ◌==◌, ◌&&◌, not, true, false, true≢false, Bool, List, [], Option, Some, None, is_some, replicate, refl, ap, sym, ◌∙◌, subst, arith, ne_eqb}
 use Rattle.std.specs.Int.{bit_at}
 use Rattle.std.proofs.lemmas.List.{get_or-replicate, length-replicate}
 use Rattle.std.proofs.lemmas.Nat.Bits.{bit_at-suc, bit_at-zero}
 use Rattle.af_base.specs.declared.state.FastState.{FastState}
+use Rattle.af_model.specs.declared.states.ObserverEvent.{ObserverEvent}
 use Rattle.af_base.specs.declared.state.FastTrack.{FastTrack}
 use Rattle.af_model.specs.StateQueue.{slots, no_track, slot_of, carries, IsState}
 use Rattle.af_stateq.specs.Shelved.{nothing}
 use Rattle.af_model.specs.Draft.{initial}
 use Rattle.af_stateq.specs.Ends.{Pushes, Polls}
 use Rattle.af_stateq.specs.Mutates.{Mutates, at, InSlot, InDraft}
-use Rattle.af_stateq.specs.Observes.{InOrder}
+use Rattle.af_stateq.specs.Observes.{InOrder, AreTold}
+use Rattle.af_stateq.proofs.Told.{told_start}
 
 module _ (frames : ℕ) where
   pub initial_none : (i : ℕ) → carries (initial frames) i ≡ false
@@ -35,6 +37,7 @@ module _ (frames : ℕ) where
       comes = λ e. absurd (true≢false e);
       rests = λ e. absurd (true≢false (sym e));
       clean = λ _. (refl, refl, refl, λ e. absurd (true≢false e));
+      found = λ e. absurd (true≢false (sym e));
     }
 
     pub new_draft : (past : Pushes P K) → past.last ≡ initial frames → past.clear ≡ true → (dirty editing edited : Bool)
@@ -50,8 +53,9 @@ module _ (frames : ℕ) where
       begins = λ _. clear;
     }
 
-    pub new_order : (past : Polls P K) (current previous : Option FastState) → past.state ≡ initial frames → InOrder fits record { past = past; current = current; previous = previous; items = nothing }
-    new_order past current previous e = record {
+    pub new_order : (past : Polls P K) → past.state ≡ initial frames → past.number ≡ 0 → past.events ≡ [] → InOrder fits record { past = past; current = None; previous = None; items = nothing }
+    new_order past e none silent = record {
+      told = subst (λ (q : List (ObserverEvent P) × ℕ). AreTold q.0 q.1 past.state None None) (λ j. (sym silent j, sym none j)) (told_start past.state);
       state = subst IsState (sym e) initial_state;
       whole = length-replicate {A = Option P} slots None;
       held = λ i lt. ap is_some (get_or-replicate {A = Option P} slots i None None lt) ∙ sym (ap (λ (x : FastState). carries x i) e ∙ initial_none i);

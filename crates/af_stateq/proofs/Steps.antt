@@ -21,7 +21,7 @@ use Rattle.af_model.specs.declared.states.ObserverEvent.TheVariants as observer
 use Rattle.af_model.specs.Order.{Event, one, two, after}
 use Rattle.af_model.proofs.Orders.{after_end, add_one, add_two}
 use Rattle.af_model.proofs.Holds.{mine, same}
-use Rattle.af_model.specs.StateQueue.{slots, AreOf, AllFit, QueuePoint, start, brought, legal, next}
+use Rattle.af_model.specs.StateQueue.{slots, AreOf, AllFit, QueuePoint, start, brought, legal, next, HasHistory}
 use Rattle.af_stateq.proofs.Acts.{takes_all, gives_all, length_takes, length_gives, gives_else, gives_home}
 use Rattle.af_stateq.specs.Shelved.{cell, word, cells, nothing, shelves, items_on, has_mutating, mutating, has_observing, observing, IsHome, OnShelves, Phase, quiet, shown, taken, InPhase, Kept, saw_mutating, push_mutating}
 
@@ -94,7 +94,7 @@ module _ {P K : Type 0} (fits : K → ℕ → P → Type 0) (basis : Basis K) wh
     stays_1 = ap (λ (ws : List ℕ). set ws 1 (get_or ws 1 0)) k.words
 
     -- an event that is legal at the point is legal after the history
-    at_point : (e : E) → legal k.point e → legal (after legal next (start basis.first) k.history.order) e
+    pub at_point : (e : E) → legal k.point e → legal (after legal next (start basis.first) k.history.order) e
     at_point e l = subst (λ (p : QueuePoint P). legal p e) (sym k.point_is) l
 
     abbrev pub Now : Phase → Type 0
@@ -332,9 +332,22 @@ module _ {P K : Type 0} (fits : K → ℕ → P → Type 0) (basis : Basis K) wh
       still r shown i = i
       still r taken i = absurd (true≢false (sym i.1 ∙ r))
 
+      pub once_is : after legal next (start basis.first) (k.history.order ++ one (mutator.Learn (length k.o.events)) ∷ []) ≡ once
+      once_is = point_one k.history.order k.point (one (mutator.Learn (length k.o.events))) k.point_is
+
+      pub learnt_m : length k.o.events ≤ k.point.observer
+      learnt_m = let c = k.counts.1 in omega arith
+
+      pub learnt_o : k.o.due ≡ false → legal (after legal next (start basis.first) (k.history.order ++ one (mutator.Learn (length k.o.events)) ∷ [])) (two (observer.Learn (length k.m.events)))
+      learnt_o rested = subst (λ (p : QueuePoint P). (length k.m.events ≤ p.mutator) × (p.due ≡ 0)) (sym once_is) ((let c = k.counts.0 in omega arith), k.numbers.2 ∙ ap (λ (b : Bool). if b then k.m.pushed else 0) rested)
+
+      -- the lists with what was learnt have a history
+      abbrev pub met_history : k.o.due ≡ false → HasHistory basis.first (k.m.events ++ mutator.Learn (length k.o.events) ∷ []) (k.o.events ++ observer.Learn (length k.m.events) ∷ [])
+      met_history rested =
+          add_two legal next (start basis.first) met_m.events k.o.events (observer.Learn (length k.m.events)) (add_one legal next (start basis.first) k.m.events k.o.events (mutator.Learn (length k.o.events)) k.history (at_point (one (mutator.Learn (length k.o.events))) learnt_m)) (learnt_o rested)
+
       pub meets : k.o.due ≡ false → (cs : List (ℕ × Slot P)) → Rule (stepped s 0 (get_or s.words 0 0) id cs met_view keeps)
       meets rested cs =
-          let once_is : after legal next (start basis.first) (k.history.order ++ one (mutator.Learn (length k.o.events)) ∷ []) ≡ once = point_one k.history.order k.point (one (mutator.Learn (length k.o.events))) k.point_is in
           record {
             m = met_m;
             o = met_o;
@@ -343,7 +356,7 @@ module _ {P K : Type 0} (fits : K → ℕ → P → Type 0) (basis : Basis K) wh
             one_mutator = mine has_mutating mutating s.views k.m_at id k.m met_m v met_view k.one_mutator here m_ok refl;
             one_observer = mine has_observing observing s.views k.o_at id k.o met_o v met_view k.one_observer here o_ok refl;
             keys = k.keys;
-            history = add_two legal next (start basis.first) met_m.events k.o.events (observer.Learn (length k.m.events)) (add_one legal next (start basis.first) k.m.events k.o.events (mutator.Learn (length k.o.events)) k.history (at_point (one (mutator.Learn (length k.o.events))) (let c = k.counts.1 in omega arith))) (subst (λ (p : QueuePoint P). (length k.m.events ≤ p.mutator) × (p.due ≡ 0)) (sym once_is) ((let c = k.counts.0 in omega arith), k.numbers.2 ∙ ap (λ (b : Bool). if b then k.m.pushed else 0) rested));
+            history = met_history rested;
             point = both;
             point_is = point_one (k.history.order ++ one (mutator.Learn (length k.o.events)) ∷ []) once (two (observer.Learn (length k.m.events))) once_is;
             counts = (ap (λ (z : ℕ). z + 1) k.counts.0 ∙ sym (length-append k.m.events (mutator.Learn (length k.o.events) ∷ [])), ap (λ (z : ℕ). z + 1) k.counts.1 ∙ sym (length-append k.o.events (observer.Learn (length k.m.events) ∷ [])));

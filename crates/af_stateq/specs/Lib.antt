@@ -6,3 +6,4 @@ pub mod Answers
 pub mod Lends
 pub mod Laws
 pub mod OneHand
+pub mod Attached

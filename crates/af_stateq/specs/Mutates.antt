@@ -1,5 +1,5 @@
 -- What contracts see of the mutator, and what always holds of it.
-use Rattle.std.specs.Prelude.{◌≡◌, ℕ, ◌<◌, ◌&&◌, not, if◌then◌else◌, Bool, true, false, List, [], length, Option, Some, None, is_some, slice_index_or, replicate}
+use Rattle.std.specs.Prelude.{◌≡◌, ℕ, ◌<◌, ◌&&◌, ◌⊎◌, not, if◌then◌else◌, Bool, true, false, List, [], length, Option, Some, None, is_some, slice_index_or, replicate}
 use Rattle.af_base.specs.declared.state.FastState.{FastState}
 use Rattle.af_base.specs.declared.state.FastTrack.{FastTrack}
 use Rattle.af_model.specs.StateQueue.{slots, slot_of, carries, IsState, FitAt}
@@ -36,6 +36,8 @@ pub record InSlot {P : Type 0} (clear in_draft in_last in_before : Bool) (track 
   pub rests : is_some returned ≡ true → (in_draft ≡ false) × (in_last ≡ false)
   -- where no item is out, none is anywhere
   pub clean : out ≡ false → (in_draft ≡ false) × (is_some returned ≡ false) × (in_last ≡ false) × (clear ≡ false → in_before ≡ false)
+  -- an item that is out is on a state, on its way back, or in hand
+  pub found : out ≡ true → in_draft ≡ false → in_last ≡ false → (clear ≡ true) ⊎ (in_before ≡ false) → is_some returned ≡ true
 
 abbrev pub SlotIn : {P : Type 0} → Bool → FastState → FastState → FastState → List (Option P) → List (Option P) → List Bool → ℕ → Type 0
 SlotIn clear draft last before pending returned out i =

@@ -181,10 +181,10 @@ module _ {P K : Type 0} where
       (x : Slot P) (ys : List (Slot P)) (cs : List (ℕ × Slot P)) → length ys ≡ slots → me.1 ≡ (cell (o.current + 3), x) ∷ shelves ys ++ cs
       → me' ≡ (record me.0 { observing = record o { events = o.events ++ Ack (o.current + 1) (items_on ys) ∷ []; current = o.current + 1; state = o.next; due = false } }, cs)
 
-  -- both parties' lists so far have a history, and each learns how many events the other has
+  -- each party learns how many events the other has, and both lists have a history, before that and with it
   abbrev pub met : Step (Slot P) → Seated P K → ℕ → Seated P K → Type 0
   met st me r me' = let m = me.0.mutating in let o = me.0.observing in
-      ((x : FastState) → m.first ≡ x → HasHistory x m.events o.events)
+      ((x : FastState) → m.first ≡ x → HasHistory x m.events o.events × HasHistory x (m.events ++ mutator.Learn (length o.events) ∷ []) (o.events ++ observer.Learn (length m.events) ∷ []))
       × (me' ≡ (
         record me.0 {
           mutating = record m { events = m.events ++ mutator.Learn (length o.events) ∷ [] };

@@ -10,10 +10,18 @@ ghost use Rattle.af_model.specs.PlainQueue.{new_queue};
 ghost use Rattle.af_stateq.specs.Mutates.{Mutates, IsNewMutator};
 ghost use Rattle.af_stateq.specs.Observes.{Observes, IsNewObserver};
 ghost use Rattle.af_stateq.specs.OneHand.{Agrees};
+ghost use Rattle.af_stateq.specs.Attached.{StaysUntilPushed};
+
+use crate::rule::Fits;
 
 /// In a history the states polled are a prefix of the states pushed, as values, and at most one pushed state isn't polled.
 pub fn polled_are_pushed<P>()
     ensures { (first : State) (ms : List (MutatorEvent P)) (os : List (ObserverEvent P)) → HasHistory first ms os → PolledInOrder first ms os }
+{}
+
+/// A call leaves an attached item with the mutator: it stays pending, or its slot is detached and it is in hand, or the call is a push that carries it.
+pub fn an_attached_item_stays_until_a_push_carries_it<P: Drop, N: Fits<P>>()
+    ensures { (m : Mutates P N.Key) (o : Observes P N.Key) → StaysUntilPushed N.fits m o }
 {}
 
 /// In the order of a history the item of each slot is passed on only by the holder that has it: from the mutator to its shelf, to the observer, to its shelf and back. So it has one holder at each moment, and the value taken off a shelf is the value put there.

@@ -27,8 +27,8 @@ pub use af_base::Push;
 pub use af_model::{Poll, QueueAnswer, QueueCall};
 pub use laws::{
     a_look_after_a_meeting_sees_the_last_acknowledgement,
-    a_look_after_a_meeting_sees_the_last_push, each_item_has_one_holder,
-    new_ends_are_the_new_queue, polled_are_pushed,
+    a_look_after_a_meeting_sees_the_last_push, an_attached_item_stays_until_a_push_carries_it,
+    each_item_has_one_holder, new_ends_are_the_new_queue, polled_are_pushed,
 };
 pub use make::{meet, queue};
 pub use mutator::Mutator;

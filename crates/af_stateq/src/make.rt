@@ -86,7 +86,8 @@ pub(crate) fn meet_ends<P: Drop, N: Fits<P>, L: Ledger>(
 )
     requires together { (mutator.old.queue ≡ queue.now) × (observer.old.queue ≡ queue.now) }
     requires due { observer.old.due ≡ false }
-    ensures history { HasHistory mutator.old.first mutator.old.events observer.old.events }
+    ensures before { HasHistory mutator.old.first mutator.old.events observer.old.events }
+    ensures history { HasHistory mutator.new.first mutator.new.events observer.new.events }
     ensures mutator { mutator.new ≡ record mutator.old { events = mutator.old.events ++ mutates.Learn (length observer.old.events) ∷ [] } }
     ensures observer { observer.new ≡ record observer.old { events = observer.old.events ++ observes.Learn (length mutator.old.events) ∷ [] } }
     ensures steps { steps.new ≡ steps.old + 5 }
@@ -142,7 +143,7 @@ pub fn queue<P: Drop, N: Fits<P>>(
     Ok((queue, mutator, observer))
 }
 
-/// Each end learns that the other's list so far stands in the history before its own next event. It takes five steps.
+/// Each end learns that the other's list so far stands in the history before its own next event. The lists have a history as they stood before, and with what was learnt. It takes five steps.
 pub fn meet<P: Drop, N: Fits<P>, L: Ledger>(
     queue: &Queue<P, N>,
     mutator: &mut Mutator<P, N>,
@@ -150,7 +151,8 @@ pub fn meet<P: Drop, N: Fits<P>, L: Ledger>(
     steps: &mut Steps<L>,
 )
     requires together { (mutator.old.past.queue ≡ queue.now) × (observer.old.past.queue ≡ queue.now) }
-    ensures history { HasHistory mutator.old.past.first mutator.old.past.events observer.old.past.events }
+    ensures before { HasHistory mutator.old.past.first mutator.old.past.events observer.old.past.events }
+    ensures history { HasHistory mutator.new.past.first mutator.new.past.events observer.new.past.events }
     ensures mutator { mutator.new ≡ record mutator.old { past = record mutator.old.past { events = mutator.old.past.events ++ mutates.Learn (length observer.old.past.events) ∷ [] } } }
     ensures observer { observer.new ≡ record observer.old { past = record observer.old.past { events = observer.old.past.events ++ observes.Learn (length mutator.old.past.events) ∷ [] } } }
     ensures steps { steps.new ≡ steps.old + 5 }

@@ -130,19 +130,20 @@ impl<P: Drop, N: Fits<P>> Mutator<P, N> {
         item
     }
 
-    /// The draft.
+    /// The draft. What always holds of the mutator is told here.
     pub fn draft(&self) -> &FastState
-        ensures { result.now ≡ self.now.draft }
+        ensures draft { result.now ≡ self.now.draft }
+        ensures holds { InDraft N.fits self.now }
     {
         &self.draft
     }
 
     /// Whether the item of a slot was never attached or was taken back.
     pub fn is_free(&self, slot: u32) -> bool
-        requires slot { slot < slots }
         ensures { result ≡ not (is_out self.now.out slot) }
     {
-        !self.out[slot as usize]
+        let i = slot as usize;
+        i >= SLOTS || !self.out[i]
     }
 
     // One look at the acknowledgement. Items that come are in hand.
@@ -150,6 +151,7 @@ impl<P: Drop, N: Fits<P>> Mutator<P, N> {
         requires together { self.old.past.queue ≡ queue.now }
         ensures seen { result ≡ word self.old.past.number → SeesIt self.old self.new × (self.new.past.clear ≡ true) }
         ensures older { result ≢ word self.old.past.number → (a : ℕ) × (result ≡ word a) × SeesOlder self.old self.new a }
+        ensures holds { InDraft N.fits self.new }
         ensures steps { steps.new ≡ steps.old + 1 }
     {
         let Mutator {
@@ -174,6 +176,7 @@ impl<P: Drop, N: Fits<P>> Mutator<P, N> {
         requires clear { self.old.past.clear ≡ true }
         ensures answer { result ≡ Pushed (self.old.past.number + 1) }
         ensures state { self.new ≡ shows self.old }
+        ensures holds { InDraft N.fits self.new }
         ensures steps { steps.new ≡ steps.old + 1 }
     {
         let Mutator {
@@ -195,6 +198,7 @@ impl<P: Drop, N: Fits<P>> Mutator<P, N> {
         requires room { self.old.past.number < 2 ^ 62 }
         ensures answer { WasPushed self.old result self.new steps.old steps.new }
         ensures same { SameDraft self.old self.new × (self.new.past.number ≤ self.old.past.number + 1) }
+        ensures holds { InDraft N.fits self.new }
     {
         if !self.dirty {
             return Push::Clean;
@@ -218,6 +222,7 @@ impl<P: Drop, N: Fits<P>> Mutator<P, N> {
         requires together { self.old.past.queue ≡ queue.now }
         ensures answer { WasAcked self.old result self.new }
         ensures same { SameDraft self.old self.new × (self.new.past.number ≡ self.old.past.number) }
+        ensures holds { InDraft N.fits self.new }
         ensures steps { steps.new ≡ steps.old + 1 }
     {
         let expected = word_of(self.end.number);

@@ -106,11 +106,9 @@ impl<P: Drop, N: Fits<P>> Observer<P, N> {
 
     /// The item of a slot, where the observer holds one.
     pub fn item(&mut self, slot: u32) -> Option<&mut P>
-        requires slot { slot < slots }
-        requires whole { length self.old.items ≡ slots }
         ensures* writes_back { sem 𝓛 (lends_item P.row N.row N.Key.row N.Fits self.entry slot result) }
         ensures value { MatchOption result (has self.old.items slot ≡ false) (λ p. at self.old.items slot ≡ Some p.now) }
     {
-        self.items[slot as usize].as_mut()
+        self.items.get_mut(slot as usize)?.as_mut()
     }
 }

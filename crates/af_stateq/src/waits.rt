@@ -1,6 +1,7 @@
 //! Pushes that wait for the observer. They are promised only if they return.
 ghost use Rattle.std.specs.Prelude.{◌≡◌, ◌^◌, ◌<◌, false, true};
-ghost use Rattle.af_stateq.specs.Answers.{UntilPushed};
+ghost use Rattle.af_stateq.specs.Mutates.{InDraft};
+ghost use Rattle.af_stateq.specs.Answers.{SameDraft, UntilPushed, UntilAcked};
 
 use crate::mutator::Mutator;
 use crate::rule::{Fits, Queue};
@@ -20,7 +21,9 @@ impl<P: Drop, N: Fits<P>> Mutator<P, N> {
         requires idle { self.old.editing ≡ false }
         requires together { self.old.past.queue ≡ queue.now }
         requires room { self.old.past.number < 2 ^ 62 }
-        ensures answer { UntilPushed self.old result self.new }
+        ensures answer { UntilPushed self.old result self.new steps.old steps.new }
+        ensures same { SameDraft self.old self.new }
+        ensures holds { InDraft N.fits self.new }
     {
         for _ in rt.forever() {
             match self.push(queue, steps) {
@@ -41,8 +44,10 @@ impl<P: Drop, N: Fits<P>> Mutator<P, N> {
         requires idle { self.old.editing ≡ false }
         requires together { self.old.past.queue ≡ queue.now }
         requires room { self.old.past.number < 2 ^ 62 }
-        ensures answer { UntilPushed self.old result self.new }
+        ensures answer { UntilAcked self.old result self.new steps.old steps.new }
         ensures acked { self.new.past.clear ≡ true }
+        ensures same { SameDraft self.old self.new }
+        ensures holds { InDraft N.fits self.new }
     {
         let answer = self.push_until_pushed(rt, queue, steps);
         for _ in rt.forever() {

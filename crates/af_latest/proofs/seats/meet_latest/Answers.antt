@@ -21,8 +21,8 @@ split_seat-part-requires-2 g c = (search rules, search rules, splits_allowed _ _
 pub join_seat-requires-2 : goal.join_seat-requires-2
 join_seat-requires-2 g c = (search rules, search rules, search rules, search rules, joins_allowed _ _ _ _ _ (search rules))
 
-pub returns-clause-history : goal.returns-clause-history
-returns-clause-history g c first is =
+pub returns-clause-before : goal.returns-clause-before
+returns-clause-before g c first is =
     let part = c.split_seat-part.ensures.4 in
     let both = c.join_seat.ensures.2 in
     subst (λ (q : List (WriterEvent g.row.T.Denot) × List (ReaderEvent g.row.T.Denot)). HasHistory first q.0 q.1)
@@ -30,4 +30,4 @@ returns-clause-history g c first is =
       (ap (λ m. m.0.writing.events) both ∙ ap (λ v. v.events) c.writer.view_is) i,
       (ap (λ m. m.0.reading.events) both ∙ ap (λ m. m.0.reading.events) part ∙ ap (λ v. v.events) c.reader.view_is) i,
     ))
-    (c.load.ensures.2.0 first (ap (λ m. m.0.writing.first) both ∙ ap (λ v. v.first) c.writer.view_is ∙ is))
+    (c.load.ensures.2.0 first (ap (λ m. m.0.writing.first) both ∙ ap (λ v. v.first) c.writer.view_is ∙ is)).0

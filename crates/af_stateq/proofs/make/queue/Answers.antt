@@ -1,4 +1,4 @@
-use Rattle.std.proofs.Common.{List, Option, replicate, false, refl, sym, ◌∙◌, subst}
+use Rattle.std.proofs.Common.{List, Option, None, replicate, false, refl, sym, ◌∙◌, subst}
 use Rattle.af_base.specs.declared.state.FastState.{FastState}
 use Rattle.af_model.specs.StateQueue.{slots}
 use Rattle.af_stateq.specs.Mutates.{InDraft}
@@ -29,6 +29,6 @@ returns-clause-observer g c =
     let e = c.in_ok-queue.ensures.observer in
     let first = c.first_state-first.ensures in (
       record { has_key = e.0; begins = e.1 ∙ first; silent = (e.2, e.4); empty = (refl, refl, c.in_ok-items.ensures) },
-      subst (λ (q : List (Option g.row.P.Denot)). InOrder g.N.Fits.fits record { past = c.in_ok-queue.polls; current = _; previous = _; items = q }) (sym c.in_ok-items.ensures)
-          (new_order c.args.frames g.N.Fits.fits c.in_ok-queue.polls _ _ (e.1 ∙ first)),
+      subst (λ (q : List (Option g.row.P.Denot)). InOrder g.N.Fits.fits record { past = c.in_ok-queue.polls; current = None; previous = None; items = q }) (sym c.in_ok-items.ensures)
+          (new_order c.args.frames g.N.Fits.fits c.in_ok-queue.polls (e.1 ∙ first) e.2 e.4),
     )

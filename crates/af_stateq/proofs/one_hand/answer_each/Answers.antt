@@ -6,7 +6,8 @@ use Rattle.af_model.specs.PlainQueue.{QueueState, step, answers_of, state_after}
 use Rattle.af_stateq.specs.Mutates.{Mutates}
 use Rattle.af_stateq.specs.Observes.{Observes}
 use Rattle.af_stateq.specs.OneHand.{CallFits, Agrees}
-use Rattle.af_stateq.proofs.OneHand.{meeting_agrees, order_learns}
+use Rattle.af_stateq.proofs.OneHand.{meeting_agrees}
+use Rattle.af_stateq.proofs.Told.{order_learns}
 use Rattle.af_stateq.proofs.one_hand.answer_each.Goals as goal
 
 nothing_left : {X : Type 0} (l : List X) → length l ≡ 0 → l ≡ []

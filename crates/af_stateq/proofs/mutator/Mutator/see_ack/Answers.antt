@@ -46,3 +46,18 @@ returns-clause-seen g c hit =
       }) c.self.view_is t.1,
       t.2,
     )
+
+pub returns-then-seen-expected-clause-holds : goal.returns-then-seen-expected-clause-holds
+returns-then-seen-expected-clause-holds g c =
+    let i = c.self.invariant in
+    let is = c.word_of-expected.ensures ∙ ap (λ p. word p.number) c.end.view_is in
+    let s = subst (λ (b : List (Option g.row.P.Denot)). SawAcked g.N.Fits.fits c.self.inside.end b c.see_ack-seen.result c.see_ack-seen.new.self c.see_ack-seen.new.items.items) i.0 c.see_ack-seen.ensures.seen in
+    let miss = λ (e : c.see_ack-seen.result ≡ word c.self.inside.end.number). c.if-seen-expected.true (e ∙ sym is) in
+    older_keeps g.N.Fits.fits _ i.1 _ _ _ s miss
+
+pub returns-clause-holds : goal.returns-clause-holds
+returns-clause-holds g c =
+    let i = c.self.invariant in
+    let is = c.word_of-expected.ensures ∙ ap (λ p. word p.number) c.end.view_is in
+    let s = subst (λ (b : List (Option g.row.P.Denot)). SawAcked g.N.Fits.fits c.self.inside.end b c.see_ack-seen.result c.see_ack-seen.new.self c.see_ack-seen.new.items.items) i.0 c.see_ack-seen.ensures.seen in
+    (hit_all g.N.Fits.fits _ i.1 _ _ _ s (c.if-seen-expected.false ∙ is) _ c.join.ensures.lengths c.join.ensures.joined).0

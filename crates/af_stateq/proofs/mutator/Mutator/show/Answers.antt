@@ -8,3 +8,8 @@ invariant_of-self g c =
       i.0,
       push_keeps_by g.N.Fits.fits _ i.1 _ _ c.push.ensures.state c.push.ensures.items (ap (λ m. m.past.clear) c.self.view_is ∙ c.requires.clear),
     )
+
+pub returns-clause-holds : goal.returns-clause-holds
+returns-clause-holds g c =
+    let i = c.self.invariant in
+    push_keeps_by g.N.Fits.fits _ i.1 _ _ c.push.ensures.state c.push.ensures.items (ap (λ m. m.past.clear) c.self.view_is ∙ c.requires.clear)
