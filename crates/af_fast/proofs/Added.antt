@@ -13,6 +13,7 @@ use Rattle.af_model.specs.Cycles.{Mixes, state_of, cycle_of, is_mixed, still_ent
 use Rattle.af_model.specs.Reports.{IsNextReport, report_at, slot_report}
 use Rattle.af_server.specs.Order.{ServerState}
 use Rattle.af_stateq.specs.Observes.{Observes, InOrder}
+use Rattle.af_stateq.specs.Shelved.{no_state}
 use Rattle.af_link.specs.declared.names.StreamNames.{StreamNames}
 use Rattle.af_fast.specs.Fits.{stream_fits}
 use Rattle.af_fast.specs.Known.{known}
@@ -55,7 +56,7 @@ module _ (m n l : MixerState) (entry : CycleEntry) (k : IsInOrder m) (open_log :
   after = now m n l entry k open_log runs played state noted r
 
   current_is : state_of xs entry.state ≡ m.observer.current
-  current_is = ap (state_of xs) state ∙ k.uses.newest_is
+  current_is = ap (state_of xs) state ∙ k.observer.told.current no_state
 
   next_report : IsNextReport m.frames xs es entry (known n.observer) m.reports r.report
   next_report = record {
@@ -73,6 +74,7 @@ module _ (m n l : MixerState) (entry : CycleEntry) (k : IsInOrder m) (open_log :
     state = state;
     legal = record {
       follows = (omega (arith, state, k.uses.low), omega (arith, state, k.uses.high));
+      pushed = omega (arith, state, k.observer.told.counted no_state);
       runs = sym k.keeps.exited_is ∙ runs;
       what = what ∙ ap (λ (y : ℕ × Option FastState). cycle_of y.0 y.1) (λ i. (k.keeps.cold_is i, sym current_is i));
       still = still;
@@ -177,7 +179,7 @@ current_copied o (Some s) copied none lends same = same ∙ sym lends.2
 
 -- before the first state there is none
 pub none_current : (m : MixerState) → IsInOrder m → m.observer.past.number ≡ 0 → m.observer.current ≡ None
-none_current m k none = sym k.uses.newest_is ∙ ap (state_of (adopted_states m)) none
+none_current m k none = sym (k.observer.told.current no_state) ∙ ap (state_of (adopted_states m)) none
 
 pub goes_on : (m : MixerState) → m.exited ≡ false → (length m.log.entries ≡ m.cycles → ⊥) → is_over m ≡ false
 goes_on m runs apart = ap (λ (x : Bool × Bool). x.0 || x.1) (λ i. (runs i, ne_eqb (length m.log.entries) m.cycles apart i))

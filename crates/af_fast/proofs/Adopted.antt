@@ -37,46 +37,34 @@ polled-new y (Ack m items ∷ es) k n x came back = ap (λ (l : List FastState).
 polled-new y (observer.Learn c ∷ es) k n x came back = polled-new y es k n x came back
 
 -- with another answer to whether a state waits for its mix
-pub with_turn : {xs : List FastState} {n : ℕ} {x : Option FastState} {es : List CycleEntry} {turn over : Bool} (turn' : Bool) → (turn' ≡ false → n ≡ last_used es) → UsesStates xs n x es turn over → UsesStates xs n x es turn' over
-with_turn turn' still k = record { counted = k.counted; newest_is = k.newest_is; used = k.used; low = k.low; high = k.high; still = still; ended = k.ended; few = k.few }
+pub with_turn : {n : ℕ} {es : List CycleEntry} {turn over : Bool} (turn' : Bool) → (turn' ≡ false → n ≡ last_used es) → UsesStates n es turn over → UsesStates n es turn' over
+with_turn turn' still k = record { used = k.used; low = k.low; high = k.high; still = still; ended = k.ended; few = k.few }
 
 -- a mixer whose observer has the same states
-module _ (m : MixerState) (o : Observes ServerState StreamNames) (k : IsInOrder m) (order : InOrder stream_fits o) (past : (o.past.number ≡ m.observer.past.number) × (o.past.state ≡ m.observer.past.state) × (o.current ≡ m.observer.current))
-    (states : polled_states no_state o.past.events ≡ adopted_states m) where
-  pub same_uses : UsesStates (polled_states no_state o.past.events) o.past.number o.current m.log.entries m.adopted (is_over m)
-  same_uses = subst (λ (x : List FastState × ℕ × Option FastState). UsesStates x.0 x.1 x.2 m.log.entries m.adopted (is_over m)) (λ i. (sym states i, sym past.0 i, sym past.2 i)) k.uses
-
-  pub same_keeps : KeepsEntries (polled_states no_state o.past.events) m.log.entries m.exited m.cold m.last
-  same_keeps = subst (λ (xs : List FastState). KeepsEntries xs m.log.entries m.exited m.cold m.last) (sym states) k.keeps
-
-  pub same_begins : o.past.number ≡ 0 → CarriesNone o.past.state
-  same_begins = subst (λ (x : ℕ × FastState). x.0 ≡ 0 → CarriesNone x.1) (λ i. (sym past.0 i, sym past.1 i)) k.begins
-
-  same_states : IsInOrder (record m { observer = o; adopted = true })
-  same_states = record {
-    observer = order;
-    begins = same_begins;
-    room = k.room;
-    uses = with_turn true (λ no. absurd (true≢false no)) same_uses;
-    keeps = same_keeps;
-    reports = k.reports;
-  }
+same_states : (m : MixerState) (o : Observes ServerState StreamNames) → IsInOrder m → InOrder stream_fits o → o.past.number ≡ m.observer.past.number → o.past.state ≡ m.observer.past.state
+    → polled_states no_state o.past.events ≡ adopted_states m → IsInOrder (record m { observer = o; adopted = true })
+same_states m o k order number state states = record {
+  observer = order;
+  begins = subst (λ (x : ℕ × FastState). x.0 ≡ 0 → CarriesNone x.1) (λ i. (sym number i, sym state i)) k.begins;
+  room = k.room;
+  uses = with_turn true (λ no. absurd (true≢false no)) (subst (λ n. UsesStates n m.log.entries m.adopted (is_over m)) (sym number) k.uses);
+  keeps = subst (λ (xs : List FastState). KeepsEntries xs m.log.entries m.exited m.cold m.last) (sym states) k.keeps;
+  reports = k.reports;
+}
 
 -- a mixer whose observer has one state more
-next_state : (m : MixerState) (o : Observes ServerState StreamNames) (x : FastState) → IsInOrder m → is_over m ≡ false → m.adopted ≡ false → InOrder stream_fits o → o.past.number ≡ m.observer.past.number + 1 → o.current ≡ Some x
+next_state : (m : MixerState) (o : Observes ServerState StreamNames) (x : FastState) → IsInOrder m → is_over m ≡ false → m.adopted ≡ false → InOrder stream_fits o → o.past.number ≡ m.observer.past.number + 1
     → polled_states no_state o.past.events ≡ adopted_states m ++ x ∷ [] → IsInOrder (record m { observer = o; adopted = true })
-next_state m o x k goes turn order number current states =
+next_state m o x k goes turn order number states =
     let xs : List FastState = adopted_states m in
     let u = k.uses in
     let still = u.still turn in
-    let long : length xs ≡ last_used m.log.entries = u.counted ∙ still in
+    let long : length xs ≡ last_used m.log.entries = k.observer.told.counted no_state ∙ still in
     record {
       observer = order;
       begins = (λ none. absurd (omega (arith, number, none)));
       room = k.room;
       uses = record {
-        counted = ap length states ∙ length-append xs (x ∷ []) ∙ ap (λ n. n + 1) u.counted ∙ sym number;
-        newest_is = subst (λ (y : List FastState × ℕ × Option FastState). state_of y.0 y.1 ≡ y.2) (λ i. (sym states i, (ap (λ n. n + 1) u.counted ∙ sym number) i, sym current i)) (state_of-newest xs x);
         used = u.used;
         low = omega (arith, still, number);
         high = omega (arith, still, number);
@@ -96,18 +84,18 @@ next_state m o x k goes turn order number current states =
 pub polled_order : (m : MixerState) (o : Observes ServerState StreamNames) (poll : Poll) (s s' : ℕ) → IsInOrder m → is_over m ≡ false → m.adopted ≡ false → InOrder stream_fits o → WasPolled m.observer poll o s s'
     → IsInOrder (record m { observer = o; adopted = true })
 polled_order m o Nothing s s' k goes turn order (none, is, stepped) =
-    same_states m o k order (ap (λ (y : Observes ServerState StreamNames). y.past.number) is, ap (λ (y : Observes ServerState StreamNames). y.past.state) is, ap (λ (y : Observes ServerState StreamNames). y.current) is)
+    same_states m o k order (ap (λ (y : Observes ServerState StreamNames). y.past.number) is) (ap (λ (y : Observes ServerState StreamNames). y.past.state) is)
     (ap (λ (y : Observes ServerState StreamNames). polled_states no_state y.past.events) is ∙ polled-same no_state m.observer.past.events m.observer.past.number)
 polled_order m o Same s s' k goes turn order (some, is, stepped) =
-    same_states m o k order (ap (λ (y : Observes ServerState StreamNames). y.past.number) is, ap (λ (y : Observes ServerState StreamNames). y.past.state) is, ap (λ (y : Observes ServerState StreamNames). y.current) is)
+    same_states m o k order (ap (λ (y : Observes ServerState StreamNames). y.past.number) is) (ap (λ (y : Observes ServerState StreamNames). y.past.state) is)
     (ap (λ (y : Observes ServerState StreamNames). polled_states no_state y.past.events) is ∙ polled-same no_state m.observer.past.events m.observer.past.number)
 polled_order m o (New number) s s' k goes turn order (next, (x, took), stepped) =
-    next_state m o x k goes turn order (ap (λ (y : Observes ServerState StreamNames). y.past.number) took.2) (ap (λ (y : Observes ServerState StreamNames). y.current) took.2)
+    next_state m o x k goes turn order (ap (λ (y : Observes ServerState StreamNames). y.past.number) took.2)
     (ap (λ (y : Observes ServerState StreamNames). polled_states no_state y.past.events) took.2 ∙ polled-new no_state m.observer.past.events (m.observer.past.number + 1) (m.observer.past.number + 1) x took.0 took.1)
 
 -- it is over, and nothing is polled
 pub over_order : (m : MixerState) → IsInOrder m → IsInOrder (record m { adopted = true })
-over_order m k = same_states m m.observer k k.observer (refl, refl, refl) refl
+over_order m k = same_states m m.observer k k.observer refl refl refl
 
 -- it is over, and nothing is mixed
 pub rest_order : (m : MixerState) → IsInOrder m → is_over m ≡ true → IsInOrder (record m { adopted = false })

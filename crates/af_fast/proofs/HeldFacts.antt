@@ -58,6 +58,7 @@ module _ (o : Observes ServerState StreamNames) (blocks : List Made) (slot track
 
     pub order_held : InOrder stream_fits (record o { items = items })
     order_held = record {
+      told = order.told;
       state = order.state;
       whole = length-set o.items slot (Some t) ∙ order.whole;
       held = (λ i lt. held_one i lt (cases_eq i slot));

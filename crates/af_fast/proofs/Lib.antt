@@ -7,3 +7,4 @@ mod Noted
 mod Added
 mod Meeting
 mod Zips
+mod OneBlock

@@ -1,5 +1,5 @@
 -- A mixer whose ends met those of the other side, or one of whose proxies met its client, is in order.
-use Rattle.std.proofs.Common.{◌≡◌, ℕ, suc, List, [], ◌∷◌, ◌++◌, length, Option, Some, None, refl, ap, ◌∙◌}
+use Rattle.std.proofs.Common.{◌≡◌, ℕ, suc, List, [], ◌∷◌, ◌++◌, length, Option, Some, None, refl, sym, ap, subst, ◌∙◌}
 use Rattle.af_base.specs.declared.report.Report.{Report}
 use Rattle.af_base.specs.declared.report.SlotReport.{SlotReport}
 use Rattle.af_base.specs.declared.state.FastState.{FastState}
@@ -14,11 +14,12 @@ use Rattle.af_latest.specs.Laws.{last_of, stores}
 use Rattle.af_server.specs.Order.{ServerState}
 use Rattle.af_stateq.specs.Laws.{polled_states}
 use Rattle.af_stateq.specs.Observes.{Observes, InOrder}
+use Rattle.af_stateq.specs.Shelved.{no_state}
+use Rattle.af_stateq.proofs.Told.{order_learns}
 use Rattle.af_link.specs.declared.names.StreamNames.{StreamNames}
 use Rattle.af_fast.specs.Fits.{stream_fits}
 use Rattle.af_fast.specs.Meets.{Others, mixer_met}
-use Rattle.af_fast.specs.Mixer.{MixerState, Reported, IsInOrder, adopted_states}
-use Rattle.af_fast.proofs.Adopted.{same_uses, same_keeps}
+use Rattle.af_fast.specs.Mixer.{MixerState, KeepsEntries, Reported, IsInOrder}
 
 -- what a writer learns stores nothing
 last_of-learn : (x : Report) (ws : List (WriterEvent Report)) (k : ℕ) → last_of x (ws ++ writes.Learn k ∷ []) ≡ last_of x ws
@@ -44,22 +45,16 @@ polled-learn y (SawNext n None items ∷ es) k = polled-learn y es k
 polled-learn y (Ack n items ∷ es) k = ap (λ (l : List FastState). y ∷ l) (polled-learn y es k)
 polled-learn y (observes.Learn c ∷ es) k = polled-learn y es k
 
--- an observer that learns is in order
-learnt_order : (o : Observes ServerState StreamNames) (k : ℕ) → InOrder stream_fits o → InOrder stream_fits (record o { past = record o.past { events = o.past.events ++ observes.Learn k ∷ [] } })
-learnt_order o k order = record { state = order.state; whole = order.whole; held = order.held; fit = order.fit }
-
 -- all ends met
 pub met_order : (m : MixerState) (o : Others) → IsInOrder m → IsInOrder (mixer_met m o)
 met_order m o k =
     let count : ℕ = length o.mutator.past.events in
-    let order = learnt_order m.observer count k.observer in
-    let states : adopted_states (mixer_met m o) ≡ adopted_states m = polled-learn _ m.observer.past.events count in
     record {
-      observer = order;
+      observer = order_learns stream_fits m.observer (mixer_met m o).observer count k.observer refl;
       begins = k.begins;
       room = k.room;
-      uses = same_uses m (mixer_met m o).observer k order (refl, refl, refl) states;
-      keeps = same_keeps m (mixer_met m o).observer k order (refl, refl, refl) states;
+      uses = k.uses;
+      keeps = subst (λ (xs : List FastState). KeepsEntries xs m.log.entries m.exited m.cold m.last) (sym (polled-learn no_state m.observer.past.events count)) k.keeps;
       reports = reported_met (length m.log.entries) (length o.reader.events) m.writer.events m.reports k.reports;
     }
 

@@ -11,13 +11,15 @@ use Rattle.af_base.specs.Log.{slots, entry_slot}
 use Rattle.af_model.specs.declared.newest.WriterEvent.{WriterEvent}
 use Rattle.af_model.specs.declared.newest.WriterEvent.TheVariants.{Store}
 use Rattle.af_model.specs.declared.newest.WriterEvent.TheVariants as writes
-use Rattle.af_model.specs.Cycles.{state_of, last_used, has_exit, is_exit, is_cold, cold_of, cold_done}
+use Rattle.af_model.specs.Cycles.{state_of, last_used, has_exit, is_exit, is_cold, cold_of, cold_done, UseUpTo}
 use Rattle.af_model.specs.Reports.{Known, no_slot, no_report, report_at, one_if, is_full, is_partial, is_empty, counted_look, carried, slot_report}
 use Rattle.af_model.specs.StateQueue.{carries, slot_of}
 use Rattle.af_model.proofs.UsedStates.{last_used-push, has_exit-push, cold_done-push, UseUpTo-push, UseUpTo-more}
 use Rattle.af_latest.specs.Laws.{last_of, stores}
 use Rattle.af_server.specs.Order.{ServerState}
+use Rattle.af_stateq.specs.Laws.{polled_states}
 use Rattle.af_stateq.specs.Observes.{Observes, InOrder}
+use Rattle.af_stateq.specs.Shelved.{no_state}
 use Rattle.af_link.specs.declared.names.StreamNames.{StreamNames}
 use Rattle.af_fast.specs.Fits.{stream_fits}
 use Rattle.af_fast.specs.Known.{known}
@@ -98,13 +100,13 @@ module _ (m n l : MixerState) (entry : CycleEntry) (k : IsInOrder m) (open_log :
   number_is = ap (λ y. y.past.number) played.observer
 
   states_are : adopted_states now ≡ xs
-  states_are = ap (λ y. Rattle.af_stateq.specs.Laws.polled_states Rattle.af_stateq.specs.Shelved.no_state y.past.events) played.observer
+  states_are = ap (λ y. polled_states no_state y.past.events) played.observer
 
   used_is : last_used (es ++ entry ∷ []) ≡ m.observer.past.number
   used_is = last_used-push es entry ∙ state
 
   current_is : state_of xs (last_used (es ++ entry ∷ [])) ≡ m.observer.current
-  current_is = ap (state_of xs) used_is ∙ k.uses.newest_is
+  current_is = ap (state_of xs) used_is ∙ k.observer.told.current no_state
 
   one_longer : length (es ++ entry ∷ []) ≡ length es + 1
   one_longer = length-append es (entry ∷ [])
@@ -115,11 +117,9 @@ module _ (m n l : MixerState) (entry : CycleEntry) (k : IsInOrder m) (open_log :
   frames_are : n.frames ≡ m.frames
   frames_are = ap (λ (y : MixerState). y.frames) played.same
 
-  uses_now : UsesStates (adopted_states now) n.observer.past.number n.observer.current (es ++ entry ∷ []) false (is_over now)
+  uses_now : UsesStates n.observer.past.number (es ++ entry ∷ []) false (is_over now)
   uses_now = record {
-    counted = ap length states_are ∙ k.uses.counted ∙ sym number_is;
-    newest_is = ap (λ (y : List FastState). state_of y n.observer.past.number) states_are ∙ ap (state_of xs) number_is ∙ k.uses.newest_is ∙ sym (ap (λ y. y.current) played.observer);
-    used = subst (λ a. Rattle.af_model.specs.Cycles.UseUpTo a (es ++ entry ∷ [])) (sym used_is)
+    used = subst (λ a. UseUpTo a (es ++ entry ∷ [])) (sym used_is)
         (UseUpTo-push m.observer.past.number es entry (UseUpTo-more (last_used es) m.observer.past.number es k.uses.low k.uses.used) (omega (arith, state)));
     low = omega (arith, used_is, number_is);
     high = omega (arith, used_is, number_is);
@@ -159,7 +159,7 @@ module _ (m n l : MixerState) (entry : CycleEntry) (k : IsInOrder m) (open_log :
     keeps = record {
       exited_is = sym (has_exit-push es entry ∙ ap (λ b. b || is_exit entry.cycle) (sym k.keeps.exited_is ∙ runs));
       cold_is = sym (ap (λ (y : List FastState). cold_done y (es ++ entry ∷ [])) states_are ∙ cold_done-push xs es entry
-          ∙ ap (λ (y : Option FastState × ℕ). if is_cold entry.cycle then cold_of y.0 else y.1) (λ i. ((ap (state_of xs) state ∙ k.uses.newest_is) i, sym k.keeps.cold_is i)));
+          ∙ ap (λ (y : Option FastState × ℕ). if is_cold entry.cycle then cold_of y.0 else y.1) (λ i. ((ap (state_of xs) state ∙ k.observer.told.current no_state) i, sym k.keeps.cold_is i)));
       last_is = sym (ap (λ (y : List FastState). state_of y (last_used (es ++ entry ∷ []))) states_are ∙ current_is);
     };
     reports = reported_now;

@@ -49,10 +49,8 @@ pub record HasRoom (frames cycles : ℕ) (log : Logged) : Type 0 where
   pub entries : (length log.entries ≤ cycles) × (log.room ≡ cycles)
   pub rest : length log.frames + slots * ((cycles - length log.entries) * frames) ≤ log.frame_room
 
--- The number of the states adopted and the newest of them. It is the state of the last entry or the next one, and the latter only where a mix is still to use it
-pub record UsesStates (states : List FastState) (number : ℕ) (newest : Option FastState) (entries : List CycleEntry) (adopted over : Bool) : Type 0 where
-  pub counted : length states ≡ number
-  pub newest_is : state_of states number ≡ newest
+-- The number of the state adopted is that of the state of the last entry or the next one, and the latter only where a mix is still to use it
+pub record UsesStates (number : ℕ) (entries : List CycleEntry) (adopted over : Bool) : Type 0 where
   pub used : UseUpTo (last_used entries) entries
   pub low : last_used entries ≤ number
   pub high : number ≤ last_used entries + 1
@@ -87,7 +85,7 @@ pub record IsInOrder (m : MixerState) : Type 0 where
   pub observer : InOrder stream_fits m.observer
   pub begins : m.observer.past.number ≡ 0 → CarriesNone m.observer.past.state
   pub room : HasRoom m.frames m.cycles m.log
-  pub uses : UsesStates (adopted_states m) m.observer.past.number m.observer.current m.log.entries m.adopted (is_over m)
+  pub uses : UsesStates m.observer.past.number m.log.entries m.adopted (is_over m)
   pub keeps : KeepsEntries (adopted_states m) m.log.entries m.exited m.cold m.last
   pub reports : Reported (length m.log.entries) m.writer.events m.reports
 

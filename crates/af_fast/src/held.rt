@@ -13,7 +13,7 @@ use af_base::{FastLog, Frame, SlotEntry, Steps};
 use af_cblk::{Block, FlagHand};
 use af_client::Client;
 use af_link::{StreamNames, meet_all};
-use af_server::{Server, count_of};
+use af_server::Server;
 use af_stateq::Observer;
 use std::sync::ledger::Ledger;
 
@@ -65,7 +65,7 @@ pub(crate) fn log_held<L: Ledger>(
 {
     let place = log.frames().len();
     let entry = play_held(observer, streams, slot, track, place, buffer, steps);
-    log.push_frames(&buffer[..count_of(entry.seen) as usize]);
+    log.push_frames(&buffer[..entry.seen.count() as usize]);
     entry
 }
 

@@ -13,17 +13,15 @@ mod submix;
 pub use mixer::FastMixer;
 
 #[cfg(test)]
-mod exit_tests;
-#[cfg(test)]
-mod flush_tests;
-#[cfg(test)]
-mod generation_tests;
+mod call_tests;
 #[cfg(test)]
 mod meeting_tests;
 #[cfg(test)]
 mod plain_tests;
 #[cfg(test)]
 mod run_tests;
+#[cfg(test)]
+mod table_tests;
 #[cfg(test)]
 mod tests;
 #[cfg(test)]

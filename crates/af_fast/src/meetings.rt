@@ -79,7 +79,15 @@ impl FastMixer {
         let Some(track) = self.track_of(slot) else {
             return false;
         };
-        meet_item(&mut self.observer, links.streams, slot as usize, track, client, hand, steps);
+        meet_item(
+            &mut self.observer,
+            links.streams,
+            slot as usize,
+            track,
+            client,
+            hand,
+            steps,
+        );
         true
     }
 }

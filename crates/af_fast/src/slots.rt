@@ -15,7 +15,7 @@ use af_base::{Cycle, CycleEntry, FastLog, FastState, Frame, SLOTS, Seen, SlotEnt
 use af_cblk::Block;
 use af_link::{Links, PipeOut, StreamNames};
 use af_model::carries_item;
-use af_server::{Server, count_of};
+use af_server::Server;
 use af_stateq::Observer;
 use std::sync::ledger::Ledger;
 
@@ -102,7 +102,7 @@ fn log_pipe<L: Ledger>(
 {
     let place = log.frames().len();
     let entry = play_pipe(pipe, block, place, buffer, steps);
-    log.push_frames(&buffer[..count_of(entry.seen) as usize]);
+    log.push_frames(&buffer[..entry.seen.count() as usize]);
     entry
 }
 

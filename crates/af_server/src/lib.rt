@@ -10,7 +10,7 @@ mod words;
 
 pub use look::Look;
 pub use server::{MOST_CONSUMED, Server};
-pub use slot::{count_of, place_of};
+pub use slot::place_of;
 pub use take::load_frames;
 
 #[cfg(test)]

@@ -9,12 +9,9 @@ ghost use Rattle.af_server.specs.Looks.{WithinAsk};
 ghost use Rattle.af_server.specs.Slot.{HasDone, Plays};
 
 use crate::server::Server;
-use af_base::{Frame, Seen, SlotEntry, Steps};
+use af_base::{Frame, INVALID, Seen, SlotEntry, Steps};
 use af_cblk::Block;
 use std::sync::ledger::Ledger;
-
-/// The flag that tells a client that its block is shut.
-const INVALID: u32 = 4;
 
 /// Where the frames of a slot stand in a list of frames that had so many before: 0 where it took none.
 pub fn place_of(place: usize, seen: Seen) -> usize
@@ -22,16 +19,6 @@ pub fn place_of(place: usize, seen: Seen) -> usize
 {
     match seen {
         Seen::Frames { count } if count > 0 => place,
-        _ => 0,
-    }
-}
-
-/// How many frames a look showed.
-pub fn count_of(seen: Seen) -> u32
-    ensures { result ≡ count_seen seen }
-{
-    match seen {
-        Seen::Frames { count } => count,
         _ => 0,
     }
 }

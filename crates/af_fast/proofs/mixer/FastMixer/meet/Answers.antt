@@ -16,11 +16,10 @@ pub returns-clause-order : goal.returns-clause-order
 returns-clause-order g c =
     let m : MixerState = the_view c.self.inside in
     let o : Others = record { mutator = c.args.mutator.now; reader = c.args.reader.now; pipe = c.args.from.now } in
-    let report = c.meet_report.ensures in
-    (
+    let report = c.meet_report.ensures in (
       subst (λ (x : Observes ServerState StreamNames × WriterSide × OutSide). IsInOrder (record m { observer = x.0; writer = x.1; pipe = x.2 }))
-      (λ i. (sym c.meet.ensures.observer i, record { cell = sym report.together.0 i; events = sym report.writer i }, sym c.meet_pipe.ensures.to i))
-      (met_order m o (subst IsInOrder (sym c.self.view_is) c.requires.order.0)),
+          (λ i. (sym c.meet.ensures.observer i, record { cell = sym report.together.0 i; events = sym report.writer i }, sym c.meet_pipe.ensures.to i))
+          (met_order m o (subst IsInOrder (sym c.self.view_is) c.requires.order.0)),
       search (rules),
     )
 
@@ -29,9 +28,9 @@ returns-clause-histories g c =
     let to = c.meet_pipe.new.to.pass.part in
     let from = c.meet_pipe.new.from.pass.part in
     record {
-      queue = ?;
-      report = ?;
-      never_older = ?;
+      queue = c.meet.ensures.history;
+      report = c.meet_report.ensures.history;
+      never_older = c.meet_report.ensures.never_older;
       pipe = subst (λ (b : Made). HasPipeHistory b.shape.frames from.events from.frames to.events to.frames) (sym c.meet_pipe.ensures.made.1) c.meet_pipe.ensures.history;
       fronts = c.meet_pipe.ensures.fronts;
     }
