@@ -19,7 +19,7 @@ use Rattle.af_cblk.proofs.Sized.{IsSized, sized}
 use Rattle.af_cblk.proofs.Numbers.{ahead_of, ahead_is}
 use Rattle.af_cblk.proofs.Rows.{run_length}
 use Rattle.af_cblk.proofs.Seats.{client_steps, server_steps, hand_steps, pair_steps, client_hand_steps}
-use Rattle.af_cblk.proofs.ClientSteps.{number_is, filled_fits, client_loads_front, client_stores_cell, client_stores_rear, client_loads_flags, client_loads_status, flushes_seen, client_flushes, client_stores_gain, client_clears_flags}
+use Rattle.af_cblk.proofs.ClientSteps.{number_is, filled_fits, client_loads_front, client_stores_cell, client_stores_rear, flags_seen, client_loads_flags, client_loads_status, flushes_seen, client_flushes, client_stores_gain, client_clears_flags}
 use Rattle.af_cblk.proofs.ServerSteps.{server_loads_flush, server_loads_rear, server_loads_front, server_loads_cell, server_takes, server_drops, server_loads_gain, server_tallies, server_sets_flags, server_stores_status}
 use Rattle.af_cblk.proofs.MeetingSteps.{hand_sets, client_learns, server_learns, hand_meets}
 
@@ -86,7 +86,7 @@ module _ (key shape : Shape) (keyed : key ≡ shape) (slots id : ℕ) (me : Mine
         let told = ClientSeesFlags (step slots 4 0 0 none) me in
         moved c.shape same 4 (λ n. n) told (client_steps c.shape slots id 4 me (λ n. n) told (λ n. client_did c (client.SawFlags (recorded (wrapped n)))) is (λ words s h stands. (
           (λ ok. client_loads_flags words c s h (stands (lawful_before c.events _ ok))),
-          refl,
+          (refl, (λ ok. let now = stands ok in (s.events, s.frames, h.events, now.learnt, (now.history, sym (flags_seen words c s h now))))),
         )))
 
     pub status_by_client : Allows (Holds key) slots id me 6 (λ n. n) (ClientSeesStatus (step slots 6 0 0 none) me)

@@ -16,7 +16,7 @@ use Rattle.af_cblk.specs.Rule.{words_of, Stands}
 use Rattle.af_cblk.proofs.Sized.{IsSized}
 use Rattle.af_cblk.proofs.Numbers.{twice, same_cell, ahead_is, apart, back, between, one_place}
 use Rattle.af_cblk.proofs.Rows.{small_set, set_cell, run_length, run_at, run_fits, get_front, part_front}
-use Rattle.af_cblk.proofs.QuietSteps.{at, longer, quiet_client, same_word}
+use Rattle.af_cblk.proofs.QuietSteps.{at, turn_of, longer, quiet_client, same_word}
 
 module _ (words : List ℕ) (c : ClientPart) (s : ServerPart) (h : HandPart) (i : Stands c.shape words c s h) where
   pub client_loads_front : Stands c.shape (set words 0 (at words 0)) (client_saw_front c (wrapped (at words 0))) s h
@@ -35,7 +35,6 @@ module _ (words : List ℕ) (c : ClientPart) (s : ServerPart) (h : HandPart) (i 
         small = i.small;
         mets = longer i.history.order (client.SawFront (wrapped n)) i.mets;
         learnt = i.learnt;
-        in_turn = i.in_turn;
         client_knows = record {
           known = p.consumed;
           known_is = sym is;
@@ -55,7 +54,7 @@ module _ (words : List ℕ) (c : ClientPart) (s : ServerPart) (h : HandPart) (i 
   filled_is shape =
       let y = i.client_knows in
       let r = i.history.released_is in
-      let t = i.in_turn in
+      let t = turn_of i in
       let front : wrapped y.known ≡ c.front = y.known_is in
       let low : y.known ≤ released c = (let a = y.known_low in let b = t.to_seen in let d = t.to_released in omega arith) in
       let few : c.shape.frames ≤ 65536 = (let a = shape.1 in let b = shape.2 in omega arith) in
@@ -71,8 +70,8 @@ module _ (words : List ℕ) (c : ClientPart) (s : ServerPart) (h : HandPart) (i 
       let r = i.history.released_is in
       let a = i.client_knows.known_room in
       let b = i.client_knows.known_low in
-      let d = i.in_turn.to_seen in
-      let f = i.in_turn.to_released in
+      let d = (turn_of i).to_seen in
+      let f = (turn_of i).to_released in
       omega arith
 
 pub number_is : (c : ClientPart) → IsSized c.shape → (position : ℕ) → position < 2 ^ 32 → ahead (released c) position < room c
@@ -91,7 +90,7 @@ module _ (words : List ℕ) (c : ClientPart) (s : ServerPart) (h : HandPart) (i 
       let k = c.shape in
       let p = point i.history in
       let y = i.client_knows in
-      let t = i.in_turn in
+      let t = turn_of i in
       let x = ahead (released c) position in
       let j = position % k.cells in
       let some_cells : 0 < k.cells = (let a = shape.0 in let b = shape.1 in omega arith) in
@@ -109,7 +108,6 @@ module _ (words : List ℕ) (c : ClientPart) (s : ServerPart) (h : HandPart) (i 
         small = i.small;
         mets = i.mets;
         learnt = i.learnt;
-        in_turn = t;
         client_knows = record {
           known = y.known;
           known_is = y.known_is;
@@ -149,7 +147,7 @@ module _ (words : List ℕ) (c : ClientPart) (s : ServerPart) (h : HandPart) (i 
       let k = c.shape in
       let p = point i.history in
       let y = i.client_knows in
-      let t = i.in_turn in
+      let t = turn_of i in
       let v = i.server_knows in
       let r : p.released ≡ k.base + length c.frames = i.history.released_is in
       let fs = run_of c.stored (length c.frames) count in
@@ -164,7 +162,6 @@ module _ (words : List ℕ) (c : ClientPart) (s : ServerPart) (h : HandPart) (i 
         small = i.small;
         mets = longer i.history.order (client.Release count) i.mets;
         learnt = i.learnt;
-        in_turn = record { from_base = t.from_base; to_seen = t.to_seen; to_released = (let a = t.to_released in omega arith) };
         client_knows = record {
           known = y.known;
           known_is = y.known_is;
@@ -194,12 +191,14 @@ module _ (words : List ℕ) (c : ClientPart) (s : ServerPart) (h : HandPart) (i 
         };
       }
 
+  -- the word of the flags is that of the history's last point
+  pub flags_seen : wrapped (at words 4) ≡ (point i.history).flags
+  flags_seen = ap (λ (ws : List ℕ). wrapped (at ws 4)) i.words_are ∙ mod-eq_of_lt i.small.flags_fit
+
   pub client_loads_flags : Stands c.shape (set words 4 (at words 4)) (client_did c (client.SawFlags (recorded (wrapped (at words 4))))) s h
   client_loads_flags =
       let p = point i.history in
-      let held : at words 4 ≡ p.flags = ap (λ (ws : List ℕ). at ws 4) i.words_are in
-      let is : wrapped (at words 4) ≡ p.flags = ap wrapped held ∙ mod-eq_of_lt i.small.flags_fit in
-      quiet_client c.shape words (set words 4 (at words 4)) c s h i (client.SawFlags (recorded (wrapped (at words 4)))) (noted (wrapped (at words 4)) p.flags is (bit_and (wrapped (at words 4)) 4 == 0) refl) (refl, refl, refl)
+      quiet_client c.shape words (set words 4 (at words 4)) c s h i (client.SawFlags (recorded (wrapped (at words 4)))) (noted (wrapped (at words 4)) p.flags flags_seen (bit_and (wrapped (at words 4)) 4 == 0) refl) (refl, refl, refl)
       (i.tally, same_word 4 words ∙ i.words_are, i.tally_is, i.small)
     where
       noted : (f flags : ℕ) → f ≡ flags → (b : Bool) → (bit_and f 4 == 0) ≡ b

@@ -40,7 +40,6 @@ module _ (k : Shape) (words : List ℕ) (c : ClientPart) (s : ServerPart) (h : H
         small = i.small;
         mets = longer i.history.order (client.Learn (length s.events)) i.mets;
         learnt = ([], append-nil s.events);
-        in_turn = i.in_turn;
         client_knows = i.client_knows;
         server_knows = i.server_knows;
       }

@@ -27,7 +27,6 @@ begins k fits words are =
         small = record { flushes_fit = below; flags_fit = below; gains_fit = unity; status_fit = below };
         learnt = ([], refl);
         mets = (let e : 0 ≤ 0 = omega arith in e);
-        in_turn = record { from_base = omega arith; to_seen = omega arith; to_released = omega arith };
         client_knows = record {
           known = k.base;
           known_is = base;

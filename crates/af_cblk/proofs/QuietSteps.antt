@@ -6,17 +6,23 @@ use Rattle.af_model.specs.declared.point.TrackPoint.{TrackPoint}
 use Rattle.af_base.specs.declared.event.HandEvent.{HandEvent}
 use Rattle.af_model.specs.Point.{wrapped, ClientMay, ServerMay, HandMay, after_client, after_server, after_hand}
 use Rattle.af_model.specs.History.{Moment, client_of, server_of, met_by, met_in, clients_at, with_taken, taken_of, point}
+use Rattle.af_model.specs.Fates.{InTurn}
+use Rattle.af_model.proofs.Fates.{in_turn}
 use Rattle.af_model.proofs.Grows.{client_adds, server_adds, hand_adds}
 use Rattle.af_cblk.specs.declared.view.Shape.{Shape}
 use Rattle.af_cblk.specs.declared.view.ClientPart.{ClientPart}
 use Rattle.af_cblk.specs.declared.view.ServerPart.{ServerPart}
 use Rattle.af_cblk.specs.declared.view.HandPart.{HandPart}
 use Rattle.af_cblk.specs.Parts.{client_did, server_did}
-use Rattle.af_cblk.specs.Rule.{words_of, Small, InTurn, ClientKnows, ServerKnows, StartsWith, Stands}
+use Rattle.af_cblk.specs.Rule.{words_of, Small, ClientKnows, ServerKnows, StartsWith, Stands}
 use Rattle.af_cblk.proofs.Rows.{set_back}
 
 abbrev pub at : List ℕ → ℕ → ℕ
 at ws i = get_or ws i 0
+
+-- positions never pass one another
+pub turn_of : {k : Shape} {words : List ℕ} {c : ClientPart} {s : ServerPart} {h : HandPart} (i : Stands k words c s h) → InTurn k.base (point i.history)
+turn_of {k} i = in_turn k.base i.history.order i.history.legal
 
 -- what was met stays behind
 pub longer : (order : List Moment) (e : ClientEvent) → met_in order ≤ length (client_of order) → met_in order ≤ length (client_of order ++ e ∷ [])
@@ -35,9 +41,6 @@ module _ (k : Shape) (words words' : List ℕ) (c : ClientPart) (s : ServerPart)
   StandFor p = (tally : ℕ) × (words' ≡ words_of p tally i.cells) × (wrapped tally ≡ p.underruns) × Small p.flushes p.flags p.gains p.status
 
   -- where the positions are as before, the parties know as much
-  pub turn_at : (p : TrackPoint) → Same p → InTurn k.base p.consumed p.rear_seen p.released
-  turn_at p same = subst (λ (x : ℕ × ℕ × ℕ). InTurn k.base x.0 x.1 x.2) (λ n. (sym same.1 n, sym same.2 n, sym same.0 n)) i.in_turn
-
   pub client_at : (p : TrackPoint) → Same p → ClientKnows k p.consumed p.released c.frames i.cells c.stored c.front
   client_at p same = subst (λ (x : ℕ × ℕ). ClientKnows k x.0 x.1 c.frames i.cells c.stored c.front) (λ n. (sym same.1 n, sym same.0 n)) i.client_knows
 
@@ -61,7 +64,6 @@ module _ (k : Shape) (words words' : List ℕ) (c : ClientPart) (s : ServerPart)
         small = now.3;
         mets = longer i.history.order e i.mets;
         learnt = i.learnt;
-        in_turn = turn_at p same;
         client_knows = client_at p same;
         server_knows = server_at p same;
       }
@@ -82,7 +84,6 @@ module _ (k : Shape) (words words' : List ℕ) (c : ClientPart) (s : ServerPart)
         small = now.3;
         mets = i.mets;
         learnt = more_events e;
-        in_turn = turn_at p same;
         client_knows = client_at p same;
         server_knows = server_at p same;
       }
@@ -104,7 +105,6 @@ module _ (k : Shape) (words words' : List ℕ) (c : ClientPart) (s : ServerPart)
         small = now.3;
         mets = both_fit (met_by e) (met_in i.history.order) (length (client_of i.history.order)) few i.mets;
         learnt = i.learnt;
-        in_turn = turn_at p same;
         client_knows = client_at p same;
         server_knows = server_at p same;
       }

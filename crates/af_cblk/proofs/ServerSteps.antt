@@ -17,7 +17,7 @@ use Rattle.af_cblk.specs.Rule.{StartsWith, Stands}
 use Rattle.af_cblk.proofs.Sized.{IsSized}
 use Rattle.af_cblk.proofs.Numbers.{twice, same_cell, ahead_is, between, past}
 use Rattle.af_cblk.proofs.Rows.{get_cell, part_front, take_none, read_on}
-use Rattle.af_cblk.proofs.QuietSteps.{at, more_events, quiet_server, same_word}
+use Rattle.af_cblk.proofs.QuietSteps.{at, turn_of, more_events, quiet_server, same_word}
 
 module _ (words : List ℕ) (c : ClientPart) (s : ServerPart) (h : HandPart) (i : Stands s.shape words c s h) where
   server_goes_on : (e : ServerEvent) → StartsWith (s.events ++ e ∷ []) c.learnt
@@ -38,7 +38,6 @@ module _ (words : List ℕ) (c : ClientPart) (s : ServerPart) (h : HandPart) (i 
         small = i.small;
         mets = i.mets;
         learnt = server_goes_on (server.SawFlush (wrapped (at words 2)));
-        in_turn = i.in_turn;
         client_knows = i.client_knows;
         server_knows = i.server_knows;
       }
@@ -48,7 +47,7 @@ module _ (words : List ℕ) (c : ClientPart) (s : ServerPart) (h : HandPart) (i 
       let n = at words 1 in
       let p = point i.history in
       let is : wrapped n ≡ wrapped p.released = twice n p.released (ap (λ (ws : List ℕ). at ws 1) i.words_are) in
-      let t = i.in_turn in
+      let t = turn_of i in
       record {
         history = server_adds i.history (server.SawRear (wrapped n)) s.frames is refl refl;
         settled = i.settled;
@@ -59,7 +58,6 @@ module _ (words : List ℕ) (c : ClientPart) (s : ServerPart) (h : HandPart) (i 
         small = i.small;
         mets = i.mets;
         learnt = server_goes_on (server.SawRear (wrapped n));
-        in_turn = record { from_base = t.from_base; to_seen = (let a = t.to_seen in let b = t.to_released in omega arith); to_released = omega arith };
         client_knows = i.client_knows;
         server_knows = record { rear_is = is; front_is = i.server_knows.front_is; loaded_is = (λ n few seen. take_none n few (drop (p.consumed - s.shape.base) c.frames)) };
       }
@@ -79,7 +77,6 @@ module _ (words : List ℕ) (c : ClientPart) (s : ServerPart) (h : HandPart) (i 
         small = i.small;
         mets = i.mets;
         learnt = server_goes_on (server.SawFront (wrapped n));
-        in_turn = i.in_turn;
         client_knows = i.client_knows;
         server_knows = record { rear_is = i.server_knows.rear_is; front_is = is; loaded_is = (λ n few seen. take_none n few (drop (p.consumed - s.shape.base) c.frames)) };
       }
@@ -88,7 +85,7 @@ module _ (words : List ℕ) (c : ClientPart) (s : ServerPart) (h : HandPart) (i 
   server_drops front last =
       let p = point i.history in
       let y = i.client_knows in
-      let t = i.in_turn in
+      let t = turn_of i in
       let is : front ≡ wrapped p.rear_seen = last ∙ i.server_knows.rear_is in
       record {
         history = server_adds i.history (server.Drop front) s.frames is refl refl;
@@ -100,7 +97,6 @@ module _ (words : List ℕ) (c : ClientPart) (s : ServerPart) (h : HandPart) (i 
         small = i.small;
         mets = i.mets;
         learnt = server_goes_on (server.Drop front);
-        in_turn = record { from_base = (let a = t.from_base in let b = t.to_seen in omega arith); to_seen = omega arith; to_released = t.to_released };
         client_knows = record {
           known = y.known;
           known_is = y.known_is;
@@ -164,7 +160,7 @@ module _ (words : List ℕ) (c : ClientPart) (s : ServerPart) (h : HandPart) (i 
         let k = s.shape in
         let p = point i.history in
         let y = i.client_knows in
-        let t = i.in_turn in
+        let t = turn_of i in
         let v = i.server_knows in
         let m : ℕ = length s.loaded in
         let most : n ≤ m + 1 = (let l = length-append s.loaded (w ∷ []) in omega arith) in
@@ -194,7 +190,6 @@ module _ (words : List ℕ) (c : ClientPart) (s : ServerPart) (h : HandPart) (i 
           small = i.small;
           mets = i.mets;
           learnt = i.learnt;
-          in_turn = i.in_turn;
           client_knows = i.client_knows;
           server_knows = record {
             rear_is = i.server_knows.rear_is;
@@ -209,7 +204,7 @@ module _ (words : List ℕ) (c : ClientPart) (s : ServerPart) (h : HandPart) (i 
         let k = s.shape in
         let p = point i.history in
         let y = i.client_knows in
-        let t = i.in_turn in
+        let t = turn_of i in
         let v = i.server_knows in
         let count : ℕ = ahead s.front front in
         let d : ℕ = p.consumed - k.base in
@@ -231,7 +226,6 @@ module _ (words : List ℕ) (c : ClientPart) (s : ServerPart) (h : HandPart) (i 
           small = i.small;
           mets = i.mets;
           learnt = server_goes_on (server.Take count);
-          in_turn = record { from_base = (let a = t.from_base in omega arith); to_seen = seen; to_released = t.to_released };
           client_knows = record {
             known = y.known;
             known_is = y.known_is;

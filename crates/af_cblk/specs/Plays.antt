@@ -6,7 +6,7 @@ use Rattle.af_base.specs.declared.event.ServerEvent.{ServerEvent}
 use Rattle.af_base.specs.declared.event.ServerEvent.TheVariants as server
 use Rattle.af_base.specs.declared.event.HandEvent.{HandEvent}
 use Rattle.af_model.specs.Point.{wrapped}
-use Rattle.af_model.specs.History.{is_lawful, flushes_of, HasHistory}
+use Rattle.af_model.specs.History.{is_lawful, flushes_of, HasHistory, point}
 use Rattle.af_cblk.specs.declared.view.ClientPart.{ClientPart}
 use Rattle.af_cblk.specs.declared.view.ServerPart.{ServerPart}
 use Rattle.af_cblk.specs.declared.view.View.{View}
@@ -38,8 +38,15 @@ CellIsStored st m n m' = WithClient (cell_stored m.0.client (st.word - 7) st.fir
 abbrev pub RearIsStored : Told
 RearIsStored st m n m' = WithClient (rear_stored m.0.client (ahead (released m.0.client) st.first)) m m'
 
+-- the client's list has a history, with lists of the others that go on from what it learnt, and these are the flags at its end
+abbrev pub HasFlags : ClientPart → ℕ → Type 0
+HasFlags c flags =
+    (server : List ServerEvent) × (taken : List ℕ) × (hand : List HandEvent) × StartsWith server c.learnt
+    × ((history : HasHistory c.shape.base c.events c.frames server taken hand) × ((point history).flags ≡ flags))
+
 abbrev pub ClientSeesFlags : Told
-ClientSeesFlags st m n m' = WithClient (client_did m.0.client (client.SawFlags (recorded (wrapped n)))) m m'
+ClientSeesFlags st m n m' =
+    WithClient (client_did m.0.client (client.SawFlags (recorded (wrapped n)))) m m' × (is_lawful m.0.client.events ≡ true → HasFlags m.0.client (wrapped n))
 
 abbrev pub ClientSeesStatus : Told
 ClientSeesStatus st m n m' = WithClient (client_did m.0.client (client.SawStatus (wrapped n))) m m'

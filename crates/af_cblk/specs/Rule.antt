@@ -26,12 +26,6 @@ pub record Small (flushes flags gains status : ℕ) : Type 0 where
   pub gains_fit : gains < 2 ^ 32
   pub status_fit : status < 2 ^ 32
 
--- positions never pass one another
-pub record InTurn (base consumed rear_seen released : ℕ) : Type 0 where
-  pub from_base : base ≤ consumed
-  pub to_seen : consumed ≤ rear_seen
-  pub to_released : rear_seen ≤ released
-
 -- What the client knows. `known` is the position of the front that it last saw, and all that it released or stored has room from there on.
 -- A cell that it stored past the released frames holds the word of its frame, and the cell of each position that waits holds the frame released there
 pub record ClientKnows (k : Shape) (consumed released : ℕ) (frames cells : List ℕ) (stored : List (ℕ × ℕ)) (front : ℕ) : Type 0 where
@@ -66,7 +60,6 @@ pub record Stands (k : Shape) (words : List ℕ) (c : ClientPart) (s : ServerPar
   pub small : Small (point history).flushes (point history).flags (point history).gains (point history).status
   pub learnt : StartsWith s.events c.learnt
   pub mets : met_in history.order ≤ length (client_of history.order)
-  pub in_turn : InTurn k.base (point history).consumed (point history).rear_seen (point history).released
   pub client_knows : ClientKnows k (point history).consumed (point history).released c.frames cells c.stored c.front
   pub server_knows : ServerKnows k.base (point history).consumed (point history).rear_seen c.frames s.rear s.front s.loaded
 

@@ -92,6 +92,7 @@ impl Block {
             ClientPass {
                 seat: client,
                 rear: base,
+                flushes: 0,
             },
             ServerPass { seat },
         ))

@@ -3,6 +3,7 @@ ghost use Rattle.std.specs.Prelude.{◌≡◌, ◌+◌, ◌<◌, true};
 ghost use Rattle.af_base.specs.declared.event.ClientEvent.TheVariants as client_event;
 ghost use Rattle.af_model.specs.History.{is_lawful, flushes_of};
 ghost use Rattle.af_cblk.specs.Parts.{ahead, released, room, AreStored, client_did, stored_at, rear_stored, recorded};
+ghost use Rattle.af_cblk.specs.Plays.{HasFlags};
 ghost use Rattle.af_cblk.specs.Sides.{client_made, ClientSawFront};
 
 use crate::block::Block;
@@ -71,10 +72,13 @@ impl Block {
     }
 
     /// Loads the flags. It appends SawFlags, with the flags where INVALID (0x04) is set in them, and else with 0.
+    ///
+    /// Of a client that has not poked all bits are those of the flags at the end of a history of its list.
     pub fn load_flags<L: Ledger>(&self, pass: &mut ClientPass, steps: &mut Steps<L>) -> u32
         requires { client_made pass.old ≡ self.now }
         ensures made { client_made pass.new ≡ self.now }
         ensures saw { pass.new.part ≡ client_did pass.old.part (client_event.SawFlags (recorded result)) }
+        ensures flags { is_lawful pass.old.part.events ≡ true → HasFlags pass.old.part result }
         ensures steps { steps.new ≡ steps.old + 1 }
     {
         let found = self
@@ -100,21 +104,21 @@ impl Block {
         (found & 0xffff_ffff) as u32
     }
 
-    /// Adds one to the flush count, and answers the new count. It appends Flush. Of a client that has not poked the count is that of its own flushes.
+    /// Adds one to the flush count, and answers how many flushes this client has asked for, which is the new count where it has not poked. It appends Flush.
     pub fn add_flush<L: Ledger>(&self, pass: &mut ClientPass, steps: &mut Steps<L>) -> u32
         requires made { client_made pass.old ≡ self.now }
         requires room { flushes_of pass.old.part.events < 4294967294 }
         ensures made { client_made pass.new ≡ self.now }
         ensures flushed { pass.new.part ≡ client_did pass.old.part client_event.Flush }
-        ensures count { is_lawful pass.old.part.events ≡ true → result ≡ flushes_of pass.old.part.events + 1 }
+        ensures count { result ≡ flushes_of pass.old.part.events + 1 }
         ensures steps { steps.new ≡ steps.old + 1 }
     {
-        let found = self
-            .table
+        self.table
             .shared
             .fetch_add::<Flushes>(&mut pass.seat, FLUSHES, 1);
         steps.tick();
-        ((found & 0xffff_ffff) as u32).wrapping_add(1)
+        pass.flushes += 1;
+        pass.flushes
     }
 
     /// Stores the gains: left in the low 16 bits, right in the high 16 bits, each in 4.12. It appends SetGain.

@@ -16,11 +16,14 @@ pub struct ClientPass {
     pub(crate) seat: Seat<(), View>,
     // The word of the client's position.
     pub(crate) rear: u32,
+    // How many flushes it asked for.
+    pub(crate) flushes: u32,
 }
 
 impl Model for ClientPass {
     ghost use Rattle.std.specs.Prelude.{◌≡◌, true, []};
     ghost use Rattle.af_model.specs.Point.{wrapped};
+    ghost use Rattle.af_model.specs.History.{flushes_of};
     ghost use Rattle.af_cblk.specs.Parts.{released};
     ghost use Rattle.af_cblk.specs.Sides.{ClientSide};
 
@@ -28,7 +31,7 @@ impl Model for ClientPass {
 
     ghost view = { λ p. record { id = p.seat.table_id; part = p.seat.me.0.client } };
 
-    ghost invariant = { λ p. (p.seat.me.0.is_client ≡ true) × (p.seat.me.1 ≡ []) × (p.rear ≡ wrapped (released p.seat.me.0.client)) };
+    ghost invariant = { λ p. (p.seat.me.0.is_client ≡ true) × (p.seat.me.1 ≡ []) × (p.rear ≡ wrapped (released p.seat.me.0.client)) × (p.flushes ≡ flushes_of p.seat.me.0.client.events) };
 }
 
 /// The server's right to step on one block: there is one for each block, and it can't be copied.
@@ -68,8 +71,17 @@ impl Model for FlagHand {
     ghost invariant = { λ p. (p.seat.me.0.is_hand ≡ true) × (p.seat.me.1 ≡ []) };
 }
 
-/// The two kinds of pass, the client's and the server's, either of which loads front.
-pub trait BlockPass {
+// Only the two kinds of pass are of it.
+mod sealed {
+    pub trait Sealed {}
+}
+
+impl sealed::Sealed for ClientPass {}
+
+impl sealed::Sealed for ServerPass {}
+
+/// The two kinds of pass, the client's and the server's, either of which loads front. No other type can be one.
+pub trait BlockPass: sealed::Sealed {
     ghost use Rattle.af_cblk.specs.Sides.{Made};
     ghost use Rattle.std.specs.Prelude.{ℕ};
 

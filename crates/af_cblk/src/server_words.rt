@@ -10,8 +10,8 @@ use crate::plays::{
     FlagsAreSet, FrontIsStored, HandSets, SeesCell, SeesFlush, SeesGain, SeesRear, ServerSeesFront,
     StatusIsStored, Tallies,
 };
-use crate::words::{DISABLED, FLAGS, FLUSHES, FRONT, GAINS, REAR, STATUS, UNDERRUNS};
-use af_base::Steps;
+use crate::words::{FLAGS, FLUSHES, FRONT, GAINS, REAR, STATUS, UNDERRUNS};
+use af_base::{DISABLED, Steps};
 use std::sync::ledger::Ledger;
 
 impl Block {
@@ -150,7 +150,7 @@ impl Block {
     {
         self.table
             .shared
-            .fetch_or::<HandSets>(&mut hand.seat, FLAGS, DISABLED);
+            .fetch_or::<HandSets>(&mut hand.seat, FLAGS, DISABLED as u64);
         steps.tick();
     }
 }

@@ -17,8 +17,5 @@ pub(crate) const STATUS: usize = 6;
 /// The first cell. Each cell holds the word of one frame.
 pub(crate) const CELLS: usize = 7;
 
-/// The server disabled the track after too many underruns: the client is to start it again.
-pub(crate) const DISABLED: u64 = 8;
-
 /// Each gain is 0x1000, which is 1.
 pub(crate) const UNITY_GAINS: u64 = 0x1000_1000;

@@ -1,5 +1,5 @@
 -- Lists that calls spell, and the values that they give.
-use Rattle.std.proofs.Common.{◌≡◌, ℕ, ◌+◌, ◌%◌, ◌^◌, ◌<◌, Bool, true, false, true≢false, ◌&&◌, if◌then◌else◌, Option, None, is_some, fold, List, [], ◌∷◌, ◌++◌, length, refl, sym, ap, ◌∙◌, subst, arith}
+use Rattle.std.proofs.Common.{◌≡◌, ℕ, ◌+◌, ◌%◌, ◌^◌, ◌<◌, Bool, true, false, if◌then◌else◌, Option, None, is_some, fold, List, [], ◌∷◌, ◌++◌, length, refl, sym, ap, ◌∙◌, subst, arith}
 use Rattle.std.proofs.lemmas.Grind.{fold-append}
 use Rattle.af_base.specs.declared.event.ClientCall.{ClientCall}
 use Rattle.af_base.specs.declared.event.ClientCall.TheVariants as call
@@ -8,6 +8,7 @@ use Rattle.af_base.specs.declared.event.ClientEvent.TheVariants as client
 use Rattle.af_model.specs.Point.{wrapped}
 use Rattle.af_model.specs.History.{is_tame, is_lawful, flush_in, flushes_of}
 use Rattle.af_model.specs.ClientCalls.{ClientKept, client_keeps, client_begins, client_kept, client_events_of, client_call_events, IsClientList, begins, calls, meets}
+use Rattle.af_model.proofs.Logic.{both_left, both_right, both_are}
 use Rattle.af_model.proofs.Counts.{lawful_before}
 use Rattle.af_cblk.specs.declared.view.ClientPart.{ClientPart}
 use Rattle.af_cblk.specs.declared.view.Shape.{Shape}
@@ -15,24 +16,9 @@ use Rattle.af_cblk.specs.Parts.{released, client_did, client_met}
 use Rattle.af_base.specs.declared.event.ServerEvent.{ServerEvent}
 use Rattle.af_cblk.specs.Rule.{new_client}
 use Rattle.af_cblk.specs.Sides.{ClientSide}
+use Rattle.af_cblk.proofs.Passes.{flushes-append}
 use Rattle.af_client.specs.Order.{ClientState, Keeps, kept_of, IsInOrder}
 use Rattle.af_client.specs.Calls.{Answers}
-
-pub flushes-append : (xs ys : List ClientEvent) → flushes_of (xs ++ ys) ≡ flushes_of xs + flushes_of ys
-flushes-append [] ys = (let e : flushes_of ys ≡ 0 + flushes_of ys = omega arith in e)
-flushes-append (x ∷ xs) ys = let r = flushes-append xs ys in omega arith
-
-both_left : (a b : Bool) → (a && b) ≡ true → a ≡ true
-both_left true b e = refl
-both_left false b e = e
-
-both_right : (a b : Bool) → (a && b) ≡ true → b ≡ true
-both_right true b e = e
-both_right false b e = absurd (true≢false (sym e))
-
-both_are : (a b : Bool) → a ≡ true → b ≡ true → (a && b) ≡ true
-both_are true b x y = y
-both_are false b x y = x
 
 -- what is lawful began so
 pub lawful_first : (xs ys : List ClientEvent) → is_lawful (xs ++ ys) ≡ true → is_lawful xs ≡ true

@@ -1,5 +1,5 @@
 -- What a look at flags and front leaves in order.
-use Rattle.std.proofs.Common.{◌≡◌, ℕ, ◌+◌, ◌-◌, ◌%◌, ◌^◌, ◌<◌, ◌≤◌, Bool, true, false, nat_lt, if◌then◌else◌, bit_and, MatchOption, Option, Some, None, is_some, fold, List, [], ◌∷◌, ◌++◌, length, take, map, refl, sym, ap, ◌∙◌, subst, arith, append_assoc, length-append, length-take-le, mod-lt, eq-eqb}
+use Rattle.std.proofs.Common.{◌≡◌, ℕ, ◌+◌, ◌-◌, ◌%◌, ◌^◌, ◌<◌, ◌≤◌, Bool, true, if◌then◌else◌, bit_and, MatchOption, Option, Some, None, is_some, List, [], ◌∷◌, ◌++◌, length, take, map, refl, sym, ap, ◌∙◌, subst, arith, append_assoc, length-append, length-take-le, mod-lt, eq-eqb}
 use Rattle.std.proofs.lemmas.List.{take-map, length-map}
 use Rattle.af_base.specs.declared.frame.Frame.{Frame}
 use Rattle.af_base.specs.declared.event.ClientCall.{ClientCall}
@@ -9,7 +9,8 @@ use Rattle.af_base.specs.Sample.{packed_word}
 use Rattle.af_model.specs.Point.{wrapped}
 use Rattle.af_model.specs.Room.{ahead, outside}
 use Rattle.af_model.specs.History.{is_lawful}
-use Rattle.af_model.specs.ClientCalls.{ClientKept, client_keeps, client_begins, client_events_of}
+use Rattle.af_model.specs.ClientCalls.{client_begins, client_events_of}
+use Rattle.af_model.proofs.Logic.{LieOutside, outside-none, outside-some, client_outside}
 use Rattle.af_cblk.specs.declared.view.ClientPart.{ClientPart}
 use Rattle.af_cblk.specs.declared.view.Shape.{Shape}
 use Rattle.af_cblk.specs.Shape.{IsShape}
@@ -25,46 +26,12 @@ use Rattle.af_client.proofs.Stores.{run_is}
 pub recorded-none : (flags : ℕ) → bit_and flags 4 ≡ 0 → recorded flags ≡ 0
 recorded-none flags e = ap (λ (b : Bool). if b then 0 else flags) (eq-eqb (bit_and flags 4) 0 e)
 
-nat_lt-no : (a b : ℕ) → b ≤ a → nat_lt a b ≡ false
-nat_lt-no a b le = search arith
-
-nat_lt-yes : (a b : ℕ) → a < b → nat_lt a b ≡ true
-nat_lt-yes a b lt = search arith
-
-pub outside-none : (frames front rear : ℕ) → ahead front rear ≤ frames → outside frames front rear ≡ None
-outside-none frames front rear le = ap (λ (b : Bool). if b then Some (front, rear) else None) (nat_lt-no frames (ahead front rear) le)
-
-pub outside-some : (frames front rear : ℕ) → frames < ahead front rear → outside frames front rear ≡ Some (front, rear)
-outside-some frames front rear lt = ap (λ (b : Bool). if b then Some (front, rear) else None) (nat_lt-yes frames (ahead front rear) lt)
-
 -- ## Words that do not fit
 
 -- the words that shut a proxy do not fit the block
-abbrev pub LieOutside : ℕ → Option (ℕ × ℕ) → Type 0
-LieOutside frames o = MatchOption o (Unit {0}) (λ words. frames < ahead words.0 words.1)
-
-chosen : (frames front rear : ℕ) (b : Bool) → nat_lt frames (ahead front rear) ≡ b → LieOutside frames (if b then Some (front, rear) else None)
-chosen frames front rear true e = search arith
-chosen frames front rear false e = tt
-
-lie_on : (frames : ℕ) (kept : ClientKept) (e : ClientEvent) → LieOutside frames kept.shut → LieOutside frames (client_keeps frames kept e).shut
-lie_on frames kept (client.SawFront front) h = chosen frames front (wrapped kept.position) (nat_lt frames (ahead front (wrapped kept.position))) refl
-lie_on frames kept (client.Release count) h = h
-lie_on frames kept client.Flush h = h
-lie_on frames kept (client.SetGain word) h = h
-lie_on frames kept (client.ClearFlags old) h = h
-lie_on frames kept (client.SawFlags flags) h = h
-lie_on frames kept (client.SawStatus word) h = h
-lie_on frames kept (client.Poke word value) h = h
-lie_on frames kept (client.Learn count) h = h
-
-lie_all : (frames : ℕ) (kept : ClientKept) (es : List ClientEvent) → LieOutside frames kept.shut → LieOutside frames (fold (client_keeps frames) kept es).shut
-lie_all frames kept [] h = h
-lie_all frames kept (e ∷ es) h = lie_all frames (client_keeps frames kept e) es (lie_on frames kept e h)
-
 pub shut_outside : (c : ClientState) (words : ℕ × ℕ) → IsInOrder c → c.shut ≡ Some words → c.pass.part.shape.frames < ahead words.0 words.1
 shut_outside c words k is =
-    subst (λ (o : Option (ℕ × ℕ)). LieOutside c.pass.part.shape.frames o) (sym k.shut_is ∙ is) (lie_all c.pass.part.shape.frames (client_begins c.pass.part.shape.base) c.pass.part.events tt)
+    subst (λ (o : Option (ℕ × ℕ)). LieOutside c.pass.part.shape.frames o) (sym k.shut_is ∙ is) (client_outside c.pass.part.shape.frames (client_begins c.pass.part.shape.base) c.pass.part.events tt)
 
 -- ## After a look
 
@@ -170,21 +137,6 @@ corrupt_keeps c d asked front back answer k a spelled opens counts = by c.shut r
         (opens.0 ∙ ap (λ (z : ℕ). Some (front, z)) back_is ∙ sym (outside-some p.shape.frames front (wrapped (kept_of p).position) beyond))
         (λ ok. absurd (h.3 ok))
     by (Some words) some h = same_keeps c d k h.1 counts (opens.0 ∙ ap Some (sym h.0) ∙ some)
-
-pub corrupt_outside : (c : ClientState) (d : ClientPart) (shut : Option (ℕ × ℕ)) (front back : ℕ) → IsInOrder c
-    → Opens c.pass.part c.rear c.shut (opened.Corrupt front back) d shut → c.pass.part.shape.frames < ahead front back
-corrupt_outside c d shut front back k opens = by c.shut refl opens.1
-  where
-    p : ClientPart
-    p = c.pass.part
-
-    by : (o : Option (ℕ × ℕ)) → o ≡ c.shut
-        → MatchOption o ((d ≡ saw_both p front) × (back ≡ c.rear) × (p.shape.frames < filled d) × (is_lawful p.events ≡ true → ⊥)) (λ words. (words ≡ (front, back)) × (d ≡ p))
-        → p.shape.frames < ahead front back
-    by None none h =
-        let back_is : back ≡ wrapped (kept_of p).position = h.1 ∙ k.rear_is ∙ ap wrapped (sym k.position_is) in
-        subst (λ (z : ℕ). p.shape.frames < z) (filled_is c d front k h.0 ∙ ap (ahead front) (sym back_is)) h.2
-    by (Some words) some h = subst (λ (w : ℕ × ℕ). p.shape.frames < ahead w.0 w.1) h.0 (shut_outside c words k (sym some))
 
 -- ## Putting
 

@@ -1,7 +1,10 @@
 -- Frames stored one after another.
-use Rattle.std.proofs.Common.{◌≡◌, ◌≢◌, inl, inr, ℕ, ◌+◌, ◌-◌, ◌%◌, ◌^◌, ◌<◌, ◌≤◌, if◌then◌else◌, Bool, List, ◌∷◌, length, take, slice_index, sym, ap, ◌∙◌, subst, arith, eq-eqb, ne_eqb, ext_get_or, get_or-take, length-take-le, mod-eq_of_lt}
+use Rattle.std.proofs.Common.{◌≡◌, ◌≢◌, inl, inr, ℕ, ◌+◌, ◌-◌, ◌%◌, ◌^◌, ◌<◌, ◌≤◌, if◌then◌else◌, Bool, List, ◌∷◌, length, take, map, slice_index, sym, ap, ◌∙◌, subst, arith, eq-eqb, ne_eqb, ext_get_or, get_or-take, length-take-le, mod-eq_of_lt}
 use mathlib.Core.Logic.{dite}
 use native.Mathlib.Decide.{ℕ_discrete}
+use Rattle.std.proofs.lemmas.List.{take-map}
+use Rattle.af_base.specs.declared.frame.Frame.{Frame}
+use Rattle.af_base.specs.Sample.{packed_word}
 use Rattle.af_model.specs.Point.{wrapped}
 use Rattle.af_cblk.specs.declared.view.ClientPart.{ClientPart}
 use Rattle.af_cblk.specs.Parts.{word_at, run_of, ahead, released, filled, client_saw_front}
@@ -21,6 +24,13 @@ stores c words i x w before place is k less =
     let old = before k (omega arith) in
     let other : m ≢ x = (λ e. not (let a : length c.frames + k ≡ length c.frames + i = e ∙ place in omega arith)) in
     (inr old.0, ap (λ (b : Bool). if b then w else word_at c.stored m) (ne_eqb m x other) ∙ old.1))
+
+-- what was stored of the first frames was stored of all
+pub stored_first : (c : ClientPart) (frames : List Frame) (n : ℕ) → n ≤ length frames → Stored c (map packed_word (take n frames)) (length (take n frames)) → Stored c (map packed_word frames) n
+stored_first c frames n fits stored k less =
+    let low : k < length (take n frames) = subst (λ (z : ℕ). k < z) (sym (length-take-le n frames fits)) less in
+    let old = stored k low in
+    (old.0, old.1 ∙ ap (λ (l : List ℕ). slice_index l k) (sym (take-map packed_word n frames)) ∙ get_or-take n (map packed_word frames) k 0 less)
 
 -- the word of the i-th position from the client's on
 pub far : (c d : ClientPart) (rear i : ℕ) → SameBut c d → rear ≡ wrapped (released c) → i < 2 ^ 32 → ahead (released d) ((rear + i) % 2 ^ 32) ≡ i

@@ -1,9 +1,8 @@
 -- What the calls of a client's proxy come to, by their answers.
-use Rattle.std.specs.Prelude.{◌≡◌, ℕ, ◌+◌, ◌<◌, ◌≤◌, true, if◌then◌else◌, is_some, MatchOption, Option, Some, None, List, [], ◌∷◌, ◌++◌, length}
+use Rattle.std.specs.Prelude.{◌≡◌, ℕ, ◌+◌, ◌<◌, true, if◌then◌else◌, is_some, MatchOption, Option, Some, None, List, [], ◌∷◌, ◌++◌, length}
 use Rattle.af_base.specs.declared.event.ClientCall.{ClientCall}
 use Rattle.af_base.specs.declared.event.ClientCall.TheVariants as call
 use Rattle.af_base.specs.declared.event.ClientEvent.TheVariants as client
-use Rattle.af_model.specs.Room.{ahead}
 use Rattle.af_model.specs.History.{is_lawful}
 use Rattle.af_model.specs.ClientCalls.{filled_by, IsInvalid, ClientAnswers, client_events_of}
 use Rattle.af_cblk.specs.declared.view.ClientPart.{ClientPart}
@@ -25,6 +24,10 @@ Answers c asked answer = let k = c.pass.part.shape in ClientAnswers k.frames k.c
 abbrev pub AddsEvents : ClientState → ClientCall → ClientState → Type 0
 AddsEvents c answer d =
     let k = c.pass.part.shape in d.pass.part.events ≡ c.pass.part.events ++ client_events_of k.frames k.base c.pass.part.events answer
+
+-- the answer is one for the words seen and the list before, and its events were added
+abbrev pub Does : ClientState → ℕ → ClientCall → ClientState → Type 0
+Does c asked answer d = Answers c asked answer × AddsEvents c answer d
 
 -- these frames were released, each as its word, and what was learnt stays
 abbrev pub Releases : ClientState → List ℕ → ClientState → Type 0
@@ -48,11 +51,6 @@ abbrev pub shut_by : Wrote → Option (ℕ × ℕ)
 shut_by (wrote.Corrupt front rear) = Some (front, rear)
 shut_by _ = None
 
--- a put releases some frames
-abbrev pub PutsSome : Wrote → Type 0
-PutsSome (wrote.Put front count rest) = 1 ≤ count
-PutsSome _ = Unit {0}
-
 -- what a put leaves of the room
 abbrev pub Leaves : ClientState → Wrote → Type 0
 Leaves c (wrote.Put front count rest) = filled_by (kept_of c.pass.part) front + count + rest ≡ c.pass.part.shape.frames
@@ -64,11 +62,6 @@ write_steps c (wrote.Put front count rest) = count + 3
 write_steps c (wrote.Full front) = 2
 write_steps c (wrote.Dead flags) = 1
 write_steps c (wrote.Corrupt front rear) = if is_some c.shut then 0 else 2
-
--- the words of a corrupt answer do not fit the block
-abbrev pub CorruptIs : ℕ → Wrote → Type 0
-CorruptIs frames (wrote.Corrupt front rear) = frames < ahead front rear
-CorruptIs frames _ = Unit {0}
 
 abbrev pub IsCorrupt : Wrote → Type 0
 IsCorrupt (wrote.Corrupt front rear) = Unit {0}

@@ -5,7 +5,7 @@ use Rattle.af_model.specs.History.{is_lawful, flushes_of}
 use Rattle.af_model.specs.ClientCalls.{ClientKept, client_kept, IsClientList}
 use Rattle.af_cblk.specs.declared.view.ClientPart.{ClientPart}
 use Rattle.af_cblk.specs.Parts.{released}
-use Rattle.af_cblk.specs.Sides.{ClientSide}
+use Rattle.af_cblk.specs.Sides.{Made, ClientSide, client_made}
 
 -- the pass, the word of the client's position, how many flushes it asked for and frames it released, and the front and rear that shut it
 pub record ClientState : Type 0 where
@@ -32,3 +32,7 @@ pub record Keeps (p : ClientPart) (rear flushes count : ℕ) (shut : Option (ℕ
 -- what its maker establishes, and each call and each meeting keeps
 abbrev pub IsInOrder : ClientState → Type 0
 IsInOrder c = Keeps c.pass.part c.rear c.flushes c.released c.shut
+
+-- the proxy is of this block, and in order
+abbrev pub IsClientOf : Made → ClientState → Type 0
+IsClientOf block c = (client_made c.pass ≡ block) × IsInOrder c

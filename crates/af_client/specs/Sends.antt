@@ -1,8 +1,7 @@
 -- What a send comes to, by its answer.
-use Rattle.std.specs.Prelude.{ℕ, ◌<◌, if◌then◌else◌, is_some, Option, Some, None, List, [], ◌∷◌}
+use Rattle.std.specs.Prelude.{ℕ, if◌then◌else◌, is_some, Option, Some, None, List, [], ◌∷◌}
 use Rattle.af_base.specs.declared.event.ClientCall.{ClientCall}
 use Rattle.af_base.specs.declared.event.ClientCall.TheVariants as call
-use Rattle.af_model.specs.Room.{ahead}
 use Rattle.af_client.specs.declared.send.Sent.{Sent}
 use Rattle.af_client.specs.declared.send.Sent.TheVariants as sent
 use Rattle.af_client.specs.Order.{ClientState}
@@ -34,11 +33,6 @@ send_steps c (sent.Sent front) = 5
 send_steps c (sent.Full front) = 2
 send_steps c (sent.Dead flags) = 1
 send_steps c (sent.Corrupt front rear) = if is_some c.shut then 0 else 2
-
--- the words of a corrupt answer do not fit the block
-abbrev pub CorruptSendIs : ℕ → Sent → Type 0
-CorruptSendIs frames (sent.Corrupt front rear) = frames < ahead front rear
-CorruptSendIs frames _ = Unit {0}
 
 abbrev pub IsCorruptSend : Sent → Type 0
 IsCorruptSend (sent.Corrupt front rear) = Unit {0}

@@ -4,7 +4,7 @@ ghost use Rattle.std.specs.Borrow.{Lends, sem};
 ghost use Rattle.af_cblk.specs.Rule.{new_client};
 ghost use Rattle.af_cblk.specs.Sides.{client_made};
 ghost use Rattle.af_cblk.specs.contracts.pass.ClientPass.{the_row as pass_row};
-ghost use Rattle.af_client.specs.Order.{IsInOrder};
+ghost use Rattle.af_client.specs.Order.{IsClientOf};
 ghost use Rattle.af_client.specs.contracts.client.Client.{the_row};
 
 use af_cblk::{Block, ClientPass};
@@ -40,7 +40,7 @@ impl Client {
         requires new { pass.part ≡ new_client block.now.shape }
         ensures pass { result.pass ≡ pass }
         ensures kept { (result.flushes ≡ 0) × (result.released ≡ 0) × (result.shut ≡ None) }
-        ensures order { IsInOrder result }
+        ensures ready { IsClientOf block.now result }
     {
         let rear = block.base();
         Client {

@@ -8,5 +8,6 @@ mod words;
 mod write;
 
 pub use client::Client;
+pub use put::store_frames;
 pub use send::Sent;
 pub use write::Wrote;

@@ -4,16 +4,13 @@ ghost use Rattle.af_base.specs.Sample.{packed_word};
 ghost use Rattle.af_model.specs.Point.{wrapped};
 ghost use Rattle.af_cblk.specs.Parts.{released, room as room_of};
 ghost use Rattle.af_cblk.specs.Sides.{client_made};
-ghost use Rattle.af_client.specs.Order.{IsInOrder};
+ghost use Rattle.af_client.specs.Order.{IsClientOf};
 ghost use Rattle.af_client.specs.Calls.{Opens, open_steps, Stored, SameBut, PutOn};
 
 use crate::client::Client;
-use af_base::{Frame, Steps};
+use af_base::{Frame, INVALID, Steps};
 use af_cblk::{Block, ClientPass};
 use std::sync::ledger::Ledger;
-
-/// The server was told that the track is dead.
-pub(crate) const INVALID: u32 = 4;
 
 /// What a look at flags and front shows: room for so many frames, a dead track, or words that don't fit the block.
 pub(crate) enum Opened {
@@ -22,34 +19,32 @@ pub(crate) enum Opened {
     Corrupt { front: u32, rear: u32 },
 }
 
-// Stores the first `count` frames in the cells of the next positions.
-fn store_frames<L: Ledger>(
+/// Stores these frames in the cells of the positions from `rear` on, which is the pass's own position, below 2^32 of them, and no more than there is room for by the front last seen. It releases nothing. So many steps.
+pub fn store_frames<L: Ledger>(
     block: &Block,
     pass: &mut ClientPass,
     rear: u32,
     frames: &[Frame],
-    count: u32,
     steps: &mut Steps<L>,
 )
     requires made { client_made pass.old ≡ block.now }
     requires rear { rear ≡ wrapped (released pass.old.part) }
-    requires count { count ≤ length frames.now }
-    requires room { count ≤ room_of pass.old.part }
+    requires room { length frames.now ≤ room_of pass.old.part }
+    requires few { length frames.now < 2 ^ 32 }
     ensures made { client_made pass.new ≡ block.now }
     ensures same { SameBut pass.old.part pass.new.part }
-    ensures stored { Stored pass.new.part (map packed_word frames.now) count }
-    ensures steps { steps.new ≡ steps.old + count }
+    ensures stored { Stored pass.new.part (map packed_word frames.now) (length frames.now) }
+    ensures steps { steps.new ≡ steps.old + length frames.now }
 {
-    for i in 0..count {
-        block.store_cell(pass, rear.wrapping_add(i), frames[i as usize].pack(), steps);
+    for (i, frame) in frames.iter().enumerate() {
+        block.store_cell(pass, rear.wrapping_add(i as u32), frame.pack(), steps);
     }
 }
 
 impl Client {
     // Loads the flags and then front, unless the proxy is shut.
     pub(crate) fn open<L: Ledger>(&mut self, block: &Block, steps: &mut Steps<L>) -> Opened
-        requires made { client_made self.old.pass ≡ block.now }
-        requires order { IsInOrder self.old }
+        requires ready { IsClientOf block.now self.old }
         ensures made { client_made self.new.pass ≡ block.now }
         ensures kept { (self.new.rear ≡ self.old.rear) × (self.new.flushes ≡ self.old.flushes) × (self.new.released ≡ self.old.released) }
         ensures opens { Opens self.old.pass.part self.old.rear self.old.shut result self.new.pass.part self.new.shut }
@@ -100,8 +95,9 @@ impl Client {
     {
         let to_end = block.cells() - self.rear % block.cells();
         let most = room.min(to_end) as usize;
-        let count = frames.len().min(most) as u32;
-        store_frames(block, &mut self.pass, self.rear, frames, count, steps);
+        let count = frames.len().min(most);
+        store_frames(block, &mut self.pass, self.rear, &frames[..count], steps);
+        let count = count as u32;
         block.store_rear(&mut self.pass, count, steps);
         self.rear = self.rear.wrapping_add(count);
         self.released += u64::from(count);

@@ -4,9 +4,9 @@ ghost use Rattle.af_model.specs.Point.{wrapped};
 ghost use Rattle.af_model.specs.History.{is_lawful};
 ghost use Rattle.af_cblk.specs.Parts.{released, room as room_of};
 ghost use Rattle.af_cblk.specs.Sides.{client_made};
-ghost use Rattle.af_client.specs.Order.{IsInOrder};
-ghost use Rattle.af_client.specs.Calls.{Answers, AddsEvents, Releases, PutOn};
-ghost use Rattle.af_client.specs.Sends.{sent_call, sent_by, sent_count, shut_by_send, send_steps, CorruptSendIs, IsCorruptSend};
+ghost use Rattle.af_client.specs.Order.{IsClientOf};
+ghost use Rattle.af_client.specs.Calls.{Does, Releases, PutOn};
+ghost use Rattle.af_client.specs.Sends.{sent_call, sent_by, sent_count, shut_by_send, send_steps, IsCorruptSend};
 
 use crate::client::Client;
 use crate::put::Opened;
@@ -58,17 +58,13 @@ impl Client {
         argument: u32,
         steps: &mut Steps<L>,
     ) -> Sent
-        requires made { client_made self.old.pass ≡ block.now }
-        requires order { IsInOrder self.old }
+        requires ready { IsClientOf block.now self.old }
         requires command { (block.now.shape.frames ≡ 128) × (block.now.shape.base ≡ 0) }
         requires released { self.old.released < 2 ^ 62 }
-        ensures made { client_made self.new.pass ≡ block.now }
-        ensures order { IsInOrder self.new }
-        ensures answers { Answers self.old 2 (sent_call code argument result) }
-        ensures events { AddsEvents self.old (sent_call code argument result) self.new }
+        ensures ready { IsClientOf block.now self.new }
+        ensures does { Does self.old 2 (sent_call code argument result) self.new }
         ensures releases { Releases self.old (sent_by code argument result) self.new }
         ensures kept { (self.new.flushes ≡ self.old.flushes) × (self.new.released ≡ self.old.released + sent_count result) × (self.new.shut ≡ shut_by_send result) }
-        ensures corrupt { CorruptSendIs self.old.pass.part.shape.frames result }
         ensures lawful { is_lawful self.old.pass.part.events ≡ true → IsCorruptSend result → ⊥ }
         ensures steps { steps.new ≡ steps.old + send_steps self.old result }
     {

@@ -2,25 +2,19 @@
 ghost use Rattle.std.specs.Prelude.{◌≡◌, ◌+◌, ◌-◌, ◌<◌};
 ghost use Rattle.af_base.specs.declared.event.ClientEvent.TheVariants as client_event;
 ghost use Rattle.af_cblk.specs.Parts.{client_did};
-ghost use Rattle.af_cblk.specs.Sides.{client_made};
-ghost use Rattle.af_client.specs.Order.{IsInOrder};
+ghost use Rattle.af_client.specs.Order.{IsClientOf};
 
 use crate::client::Client;
-use af_base::Steps;
+use af_base::{DISABLED, Steps};
 use af_cblk::Block;
 use std::sync::ledger::Ledger;
-
-/// The flag that a server sets where it disabled the track.
-const DISABLED: u32 = 8;
 
 impl Client {
     /// Asks the server to discard all frames up to the rear that it sees next, and answers how many flushes this client has asked for. One step.
     pub fn flush<L: Ledger>(&mut self, block: &Block, steps: &mut Steps<L>) -> u32
-        requires made { client_made self.old.pass ≡ block.now }
-        requires order { IsInOrder self.old }
+        requires ready { IsClientOf block.now self.old }
         requires few { self.old.flushes < u32.MAX - 1 }
-        ensures made { client_made self.new.pass ≡ block.now }
-        ensures order { IsInOrder self.new }
+        ensures ready { IsClientOf block.now self.new }
         ensures flushed { self.new.pass.part ≡ client_did self.old.pass.part client_event.Flush }
         ensures count { result ≡ self.old.flushes + 1 }
         ensures kept { self.new ≡ (record self.old { pass = self.new.pass; flushes = result }) }
@@ -33,10 +27,8 @@ impl Client {
 
     /// Sets the gains: left in the low 16 bits, right in the high 16 bits, each in 4.12. One step.
     pub fn set_gains<L: Ledger>(&mut self, block: &Block, word: u32, steps: &mut Steps<L>)
-        requires made { client_made self.old.pass ≡ block.now }
-        requires order { IsInOrder self.old }
-        ensures made { client_made self.new.pass ≡ block.now }
-        ensures order { IsInOrder self.new }
+        requires ready { IsClientOf block.now self.old }
+        ensures ready { IsClientOf block.now self.new }
         ensures set { self.new.pass.part ≡ client_did self.old.pass.part (client_event.SetGain word) }
         ensures kept { self.new ≡ (record self.old { pass = self.new.pass }) }
         ensures steps { steps.new ≡ steps.old + 1 }
@@ -46,10 +38,8 @@ impl Client {
 
     /// Clears DISABLED (0x08), and answers the flags before. One step.
     pub fn clear_disabled<L: Ledger>(&mut self, block: &Block, steps: &mut Steps<L>) -> u32
-        requires made { client_made self.old.pass ≡ block.now }
-        requires order { IsInOrder self.old }
-        ensures made { client_made self.new.pass ≡ block.now }
-        ensures order { IsInOrder self.new }
+        requires ready { IsClientOf block.now self.old }
+        ensures ready { IsClientOf block.now self.new }
         ensures cleared { self.new.pass.part ≡ client_did self.old.pass.part (client_event.ClearFlags result) }
         ensures kept { self.new ≡ (record self.old { pass = self.new.pass }) }
         ensures steps { steps.new ≡ steps.old + 1 }
@@ -59,10 +49,8 @@ impl Client {
 
     /// The status word that the server stored last. One step.
     pub fn status<L: Ledger>(&mut self, block: &Block, steps: &mut Steps<L>) -> u32
-        requires made { client_made self.old.pass ≡ block.now }
-        requires order { IsInOrder self.old }
-        ensures made { client_made self.new.pass ≡ block.now }
-        ensures order { IsInOrder self.new }
+        requires ready { IsClientOf block.now self.old }
+        ensures ready { IsClientOf block.now self.new }
         ensures saw { self.new.pass.part ≡ client_did self.old.pass.part (client_event.SawStatus result) }
         ensures kept { self.new ≡ (record self.old { pass = self.new.pass }) }
         ensures steps { steps.new ≡ steps.old + 1 }
@@ -74,11 +62,9 @@ impl Client {
     ///
     /// From then on this client isn't lawful, and nothing is claimed of the block's words. Each call stays safe, and answers by the words that it sees.
     pub fn poke<L: Ledger>(&mut self, block: &Block, word: u32, value: u32, steps: &mut Steps<L>)
-        requires made { client_made self.old.pass ≡ block.now }
-        requires order { IsInOrder self.old }
+        requires ready { IsClientOf block.now self.old }
         requires word { word < 7 + block.now.shape.cells }
-        ensures made { client_made self.new.pass ≡ block.now }
-        ensures order { IsInOrder self.new }
+        ensures ready { IsClientOf block.now self.new }
         ensures poked { self.new.pass.part ≡ client_did self.old.pass.part (client_event.Poke word value) }
         ensures kept { self.new ≡ (record self.old { pass = self.new.pass }) }
         ensures steps { steps.new ≡ steps.old + 1 }

@@ -2,9 +2,8 @@
 ghost use Rattle.std.specs.Prelude.{◌≡◌, ◌+◌, ◌^◌, ◌<◌, ◌≤◌, true, map, take, length};
 ghost use Rattle.af_base.specs.Sample.{packed_word};
 ghost use Rattle.af_model.specs.History.{is_lawful};
-ghost use Rattle.af_cblk.specs.Sides.{client_made};
-ghost use Rattle.af_client.specs.Order.{IsInOrder};
-ghost use Rattle.af_client.specs.Calls.{Answers, AddsEvents, Releases, wrote_call, put_by, shut_by, PutsSome, Leaves, write_steps, CorruptIs, IsCorrupt};
+ghost use Rattle.af_client.specs.Order.{IsClientOf};
+ghost use Rattle.af_client.specs.Calls.{Does, Releases, wrote_call, put_by, shut_by, Leaves, write_steps, IsCorrupt};
 
 use crate::client::Client;
 use crate::put::Opened;
@@ -35,20 +34,14 @@ impl Client {
         frames: &[Frame],
         steps: &mut Steps<L>,
     ) -> Wrote
-        requires made { client_made self.old.pass ≡ block.now }
-        requires order { IsInOrder self.old }
+        requires ready { IsClientOf block.now self.old }
         requires some { 1 ≤ length frames.now }
         requires released { self.old.released < 2 ^ 62 }
-        ensures made { client_made self.new.pass ≡ block.now }
-        ensures order { IsInOrder self.new }
-        ensures answers { Answers self.old (length frames.now) (wrote_call result) }
-        ensures events { AddsEvents self.old (wrote_call result) self.new }
+        ensures ready { IsClientOf block.now self.new }
+        ensures does { Does self.old (length frames.now) (wrote_call result) self.new }
         ensures releases { Releases self.old (map packed_word (take (put_by result) frames.now)) self.new }
-        ensures some { PutsSome result }
-        ensures few { put_by result ≤ length frames.now }
         ensures rest { Leaves self.old result }
         ensures kept { (self.new.flushes ≡ self.old.flushes) × (self.new.released ≡ self.old.released + put_by result) × (self.new.shut ≡ shut_by result) }
-        ensures corrupt { CorruptIs self.old.pass.part.shape.frames result }
         ensures lawful { is_lawful self.old.pass.part.events ≡ true → IsCorrupt result → ⊥ }
         ensures steps { steps.new ≡ steps.old + write_steps self.old result }
     {

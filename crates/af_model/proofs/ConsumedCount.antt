@@ -14,6 +14,7 @@ use Rattle.af_model.specs.Fates.{InTurn}
 use Rattle.af_model.specs.Room.{ahead}
 use Rattle.af_model.specs.ClientCalls.{client_begins, IsClientList}
 use Rattle.af_model.specs.ServerCalls.{ServerKept, server_keeps, server_begins, server_kept, look_at, drops_of, IsServerList, begins, looks, takes, reads_gains, tallies, sets_flags, sets_status, rests, meets}
+use Rattle.af_model.specs.Spelled.{SeesOwn, AllSeeOwn}
 use Rattle.af_model.proofs.Fates.{in_turn}
 use Rattle.af_model.proofs.RoomKept.{AllFit, fit_split, all_fit, room_in}
 use Rattle.af_model.proofs.OneFate.{same_consumed, hand_consumed}
@@ -113,3 +114,37 @@ consumed-counted size cells few {base} {ce} {cf} {se} {sf} {he} h shown hers his
     let fit : AllFit size (client_begins base) None (client_of h.order) = subst (λ (es : List ClientEvent). AllFit size (client_begins base) None es) (sym h.client_is) (all_fit size cells base ce hers) in
     let follow : AllFollow false (server_of h.order) = subst (λ (es : List ServerEvent). AllFollow false es) (sym h.server_is) (all_follow size base shown se his) in
     subst (λ (es : List ServerEvent). base + (server_kept size base es).consumed ≡ (point h).consumed) h.server_is (counts_in size base few h.order h.legal fit follow).count
+
+module _ (size base : ℕ) (few : size ≤ 65536) where
+  own_join : (k : ServerKept) (xs ys : List ServerEvent) → AllSeeOwn size base k xs → AllSeeOwn size base (fold (server_keeps size) k xs) ys → AllSeeOwn size base k (xs ++ ys)
+  own_join k [] ys h t = t
+  own_join k (x ∷ xs) ys h t = (h.0, own_join (server_keeps size k x) xs ys h.1 t)
+
+  sees : (k : ServerKept) (p : TrackPoint) (others : ℕ) (e : ServerEvent) → ServerMay p others e → base + k.consumed ≡ p.consumed → SeesOwn base k e
+  sees k p others (server.SawGain word) may is = tt
+  sees k p others (server.SawFlush flush) may is = tt
+  sees k p others (server.SawRear rear) may is = tt
+  sees k p others (server.SawFront front) may is = may ∙ ap wrapped (sym is)
+  sees k p others (server.Drop to) may is = tt
+  sees k p others (server.Take count) may is = tt
+  sees k p others (server.Tally missing) may is = tt
+  sees k p others (server.SetFlags bits) may is = tt
+  sees k p others (server.SetStatus word) may is = tt
+  sees k p others (server.Learn count) may is = tt
+
+  all_own : (order : List Moment) → IsLegal (start base) order → AllFit size (client_begins base) None (client_of order) → AllFollow false (server_of order)
+      → AllSeeOwn size base (server_begins base) (server_of order)
+  all_own [] h fit f = tt
+  all_own (by_client e ∷ order) h fit f = all_own order h.1 (fit_split size (client_begins base) None (client_of order) (e ∷ []) fit).0 f
+  all_own (by_server e ∷ order) h fit f =
+      let g = follow_split false (server_of order) (e ∷ []) f in
+      own_join (server_begins base) (server_of order) (e ∷ []) (all_own order h.1 fit g.0) (sees (server_kept size base (server_of order)) (after (start base) order) _ e h.0 (counts_in size base few order h.1 fit g.0).count, tt)
+  all_own (by_hand e ∷ order) h fit f = all_own order h.1 fit f
+
+-- in a history of a block whose client keeps to its calls, each front that the server saw is its own
+pub fronts-own : (size cells : ℕ) → size ≤ 65536 → {base : ℕ} {ce : List ClientEvent} {cf : List ℕ} {se : List ServerEvent} {sf : List ℕ} {he : List HandEvent} → HasHistory base ce cf se sf he
+    → (shown : Option ℕ) → IsClientList size cells base ce → IsServerList size base shown se → AllSeeOwn size base (server_begins base) se
+fronts-own size cells few {base} {ce} {cf} {se} {sf} {he} h shown hers his =
+    let fit : AllFit size (client_begins base) None (client_of h.order) = subst (λ (es : List ClientEvent). AllFit size (client_begins base) None es) (sym h.client_is) (all_fit size cells base ce hers) in
+    let follow : AllFollow false (server_of h.order) = subst (λ (es : List ServerEvent). AllFollow false es) (sym h.server_is) (all_follow size base shown se his) in
+    subst (λ (es : List ServerEvent). AllSeeOwn size base (server_begins base) es) h.server_is (all_own size base few h.order h.legal fit follow)

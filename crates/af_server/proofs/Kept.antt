@@ -1,5 +1,5 @@
 -- Lists that calls spell, and the values that they give.
-use Rattle.std.proofs.Common.{◌≡◌, ℕ, ◌≤◌, Option, Some, None, MatchOption, fold, List, [], ◌∷◌, ◌++◌, refl, sym, ap, ◌∙◌, subst, append_assoc}
+use Rattle.std.proofs.Common.{◌≡◌, ℕ, ◌+◌, ◌≤◌, min, arith, Option, Some, None, MatchOption, fold, List, [], ◌∷◌, ◌++◌, refl, sym, ap, ◌∙◌, subst, append_assoc}
 use Rattle.std.proofs.lemmas.Grind.{fold-append}
 use Rattle.af_base.specs.declared.event.ServerEvent.{ServerEvent}
 use Rattle.af_base.specs.declared.event.ServerEvent.TheVariants as server
@@ -10,6 +10,10 @@ use Rattle.af_cblk.specs.Parts.{server_did}
 use Rattle.af_cblk.specs.Rule.{new_server}
 use Rattle.af_cblk.specs.Sides.{ServerSide, ServerIs}
 use Rattle.af_server.specs.Order.{ServerState, Keeps, IsReady, kept_of, counted, IsInOrder}
+
+-- a count that ends at M goes on
+pub fewer : (M a b : ℕ) → min M (min M a + b) ≡ min M (a + b)
+fewer M a b = omega arith
 
 -- nothing was done yet
 pub new_keeps : (k : Shape) (s : ServerPart) (front : ℕ) → s ≡ new_server k → Keeps s 0 front None 0 None

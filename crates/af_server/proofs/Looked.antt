@@ -1,16 +1,17 @@
 -- What a look leaves in order.
-use Rattle.std.proofs.Common.{◌≡◌, ◌≢◌, ℕ, ◌+◌, ◌≤◌, ◌<◌, min, Bool, true, false, true≢false, not, nat_lt, ◌==◌, ◌||◌, if◌then◌else◌, MatchOption, Option, Some, None, fold, List, [], ◌∷◌, ◌++◌, refl, sym, ap, ◌∙◌, subst, arith, append_assoc, eq-eqb, ne_eqb}
+use Rattle.std.proofs.Common.{◌≡◌, ◌≢◌, ℕ, ◌+◌, ◌≤◌, min, Bool, true, false, true≢false, not, nat_lt, ◌==◌, ◌||◌, if◌then◌else◌, MatchOption, Option, Some, None, fold, List, [], ◌∷◌, ◌++◌, refl, sym, ap, ◌∙◌, subst, arith, append_assoc, eq-eqb, ne_eqb}
 use Rattle.af_base.specs.declared.event.ServerEvent.{ServerEvent}
 use Rattle.af_base.specs.declared.event.ServerEvent.TheVariants as server
 use Rattle.af_base.specs.declared.seen.Seen.{Seen}
 use Rattle.af_base.specs.declared.seen.Seen.TheVariants as seen
 use Rattle.af_model.specs.Room.{ahead, outside}
 use Rattle.af_model.specs.ServerCalls.{ServerKept, server_keeps, server_begins, server_kept, look_at, drops_of, look_events, shown_by, IsServerList, looks}
+use Rattle.af_model.proofs.Logic.{LieOutside, server_outside}
 use Rattle.af_cblk.specs.declared.view.ServerPart.{ServerPart}
 use Rattle.af_cblk.specs.Parts.{front_stored, dropped, took, MayStoreFront}
 use Rattle.af_server.specs.Order.{ServerState, Keeps, IsReady, kept_of, counted, IsInOrder}
 use Rattle.af_server.specs.Looks.{shut_of, saw_all}
-use Rattle.af_server.proofs.Kept.{kept-more}
+use Rattle.af_server.proofs.Kept.{kept-more, fewer}
 
 -- ## What a look shows
 
@@ -59,9 +60,6 @@ may_drop c flush rear front k new =
     let other : (flush == s.flush) ≡ false = ne_eqb flush s.flush (λ e. new (e ∙ k.seen_is ∙ sym k.flush_is)) in
     let noticed : (saw_all s flush rear front).noticed ≡ true = noticed_is s flush rear front false k.settled other in
     ((λ _. (refl, refl)), (λ e. absurd (true≢false (sym noticed ∙ e))))
-
-fewer : (M a b : ℕ) → min M (min M a + b) ≡ min M (a + b)
-fewer M a b = omega arith
 
 pub discard_keeps : (c d : ServerState) (asked flush rear front : ℕ) → IsInOrder c → c.shut ≡ None → 1 ≤ asked → flush ≢ c.flush
     → d.pass.part ≡ front_stored (saw_all c.pass.part flush rear front) rear
@@ -141,33 +139,6 @@ judge_keeps c d asked flush rear front k unshut some same is flush_is front_is s
 -- ## Words that do not fit
 
 -- the words that shut a proxy do not fit the block
-abbrev pub LieOutside : ℕ → Option (ℕ × ℕ) → Type 0
-LieOutside size o = MatchOption o (Unit {0}) (λ words. size < ahead words.0 words.1)
-
-chosen : (size front rear : ℕ) (b : Bool) → nat_lt size (ahead front rear) ≡ b → LieOutside size (if b then Some (front, rear) else None)
-chosen size front rear true e = search arith
-chosen size front rear false e = tt
-
-either : (size : ℕ) (b : Bool) (o : Option (ℕ × ℕ)) → LieOutside size o → LieOutside size (if b then None else o)
-either size true o h = tt
-either size false o h = h
-
-lie_on : (size : ℕ) (kept : ServerKept) (e : ServerEvent) → LieOutside size kept.shut → LieOutside size (server_keeps size kept e).shut
-lie_on size kept (server.SawGain word) h = h
-lie_on size kept (server.SawFlush flush) h = h
-lie_on size kept (server.SawRear rear) h = h
-lie_on size kept (server.SawFront front) h = either size kept.is_new (outside size front kept.rear) (chosen size front kept.rear (nat_lt size (ahead front kept.rear)) refl)
-lie_on size kept (server.Drop to) h = h
-lie_on size kept (server.Take count) h = h
-lie_on size kept (server.Tally missing) h = h
-lie_on size kept (server.SetFlags bits) h = h
-lie_on size kept (server.SetStatus word) h = h
-lie_on size kept (server.Learn count) h = h
-
-lie_all : (size : ℕ) (kept : ServerKept) (es : List ServerEvent) → LieOutside size kept.shut → LieOutside size (fold (server_keeps size) kept es).shut
-lie_all size kept [] h = h
-lie_all size kept (e ∷ es) h = lie_all size (server_keeps size kept e) es (lie_on size kept e h)
-
 pub shut_outside : (c : ServerState) → IsInOrder c → LieOutside c.pass.part.shape.frames c.shut
 shut_outside c k =
-    subst (λ (o : Option (ℕ × ℕ)). LieOutside c.pass.part.shape.frames o) (sym k.shut_is) (lie_all c.pass.part.shape.frames (server_begins c.pass.part.shape.base) c.pass.part.events tt)
+    subst (λ (o : Option (ℕ × ℕ)). LieOutside c.pass.part.shape.frames o) (sym k.shut_is) (server_outside c.pass.part.shape.frames (server_begins c.pass.part.shape.base) c.pass.part.events tt)

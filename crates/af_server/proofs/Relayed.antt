@@ -1,5 +1,5 @@
 -- Lists that stay lawful, and lists without a drop.
-use Rattle.std.proofs.Common.{◌≡◌, ℕ, zero, suc, ◌+◌, ◌≤◌, Bool, true, false, true≢false, ◌&&◌, ◌⊎◌, inl, inr, MatchOption, Option, None, Some, List, [], ◌∷◌, ◌++◌, length, take, drop, map, refl, sym, ap, ◌∙◌, subst, length-take-le}
+use Rattle.std.proofs.Common.{◌≡◌, ℕ, zero, suc, ◌+◌, ◌≤◌, true, ◌⊎◌, inl, inr, MatchOption, Option, None, Some, List, [], ◌∷◌, ◌++◌, length, take, drop, map, refl, sym, ap, ◌∙◌, subst, length-take-le}
 use Rattle.std.proofs.Math.Seq.{take-append-add}
 use Rattle.std.proofs.lemmas.List.{take-append-drop, map-append}
 use Rattle.af_base.specs.declared.frame.Frame.{Frame}
@@ -9,22 +9,11 @@ use Rattle.af_base.specs.declared.seen.Seen.TheVariants as seen
 use Rattle.af_base.specs.Sample.{packed_word}
 use Rattle.af_model.specs.Fates.{keeps_all, drops_none}
 use Rattle.af_model.specs.ServerCalls.{look_at, look_events, shown_by}
+use Rattle.af_model.proofs.Logic.{both_left, both_right, both_are}
 use Rattle.af_server.specs.Relay.{IsFlushed}
 use Rattle.af_server.specs.Looks.{Looks}
 use Rattle.af_server.specs.declared.look.Look.{Look}
 use Rattle.af_server.specs.Order.{ServerState}
-
-both_left : (a b : Bool) → (a && b) ≡ true → a ≡ true
-both_left true b e = refl
-both_left false b e = e
-
-both_right : (a b : Bool) → (a && b) ≡ true → b ≡ true
-both_right true b e = e
-both_right false b e = absurd (true≢false (sym e))
-
-both_are : (a b : Bool) → a ≡ true → b ≡ true → (a && b) ≡ true
-both_are true b x y = y
-both_are false b x y = x
 
 pub drops_join : (xs ys : List ServerEvent) → drops_none xs ≡ true → drops_none ys ≡ true → drops_none (xs ++ ys) ≡ true
 drops_join [] ys a b = b

@@ -1,5 +1,5 @@
 -- What a take leaves in order.
-use Rattle.std.proofs.Common.{◌≡◌, ℕ, ◌+◌, ◌%◌, ◌^◌, ◌≤◌, ◌<◌, min, Bool, true, false, true≢false, if◌then◌else◌, Option, Some, None, List, [], ◌∷◌, ◌++◌, length, take, map, set, refl, sym, ap, ◌∙◌, subst, arith, eq-eqb, length-take-le}
+use Rattle.std.proofs.Common.{◌≡◌, ℕ, ◌+◌, ◌%◌, ◌^◌, ◌≤◌, ◌<◌, Bool, true, false, true≢false, if◌then◌else◌, Option, Some, None, List, [], ◌∷◌, ◌++◌, length, take, map, set, refl, sym, ap, ◌∙◌, subst, arith, eq-eqb, length-take-le}
 use Rattle.std.proofs.lemmas.List.{length-map, take_more_set, map-append}
 use Rattle.af_base.specs.declared.frame.Frame.{Frame}
 use Rattle.af_base.specs.declared.event.ServerEvent.TheVariants as server
@@ -13,7 +13,7 @@ use Rattle.af_cblk.specs.Sides.{ServerSide, ServerIs}
 use Rattle.af_cblk.proofs.Numbers.{ahead_of}
 use Rattle.af_server.specs.Order.{ServerState, Keeps, IsReady, kept_of, counted, IsInOrder}
 use Rattle.af_server.specs.Looks.{Reads}
-use Rattle.af_server.proofs.Kept.{kept-more}
+use Rattle.af_server.proofs.Kept.{kept-more, fewer}
 
 -- one more cell in order
 saw_next : (s : ServerPart) (cells position word : ℕ) → s.shape.cells ≡ cells → position ≡ wrapped (s.front + length s.loaded) → saw_cell s (position % cells) word ≡ (record s { loaded = s.loaded ++ word ∷ [] })
@@ -62,9 +62,6 @@ module _ (p s : ServerPart) (front n : ℕ) (words : List ℕ) (ready : IsReady 
       ∙ ap (λ (z : ℕ). record s { events = s.events ++ server.Take z ∷ []; frames = s.frames ++ take z s.loaded; front = to; fresh = false; loaded = [] }) moved
       ∙ ap (λ (x : ServerPart). record x { events = x.events ++ server.Take n ∷ []; frames = x.frames ++ take n x.loaded; front = to; fresh = false; loaded = [] }) loaded
       ∙ ap (λ (l : List ℕ). record p { events = p.events ++ server.Take n ∷ []; frames = p.frames ++ l; front = to; fresh = false; loaded = [] }) (all_taken n words many)
-
-fewer : (M a b : ℕ) → min M (min M a + b) ≡ min M (a + b)
-fewer M a b = omega arith
 
 pub take_keeps : (c : ServerState) (q : ServerPart) (front n consumed : ℕ) (words : List ℕ) → IsInOrder c → c.shown ≡ Some n
     → q ≡ (record c.pass.part { events = c.pass.part.events ++ server.Take n ∷ []; frames = c.pass.part.frames ++ words; front = front; fresh = false; loaded = [] })

@@ -1,11 +1,10 @@
 -- What a look and a take of a server's proxy come to.
-use Rattle.std.specs.Prelude.{◌≡◌, ℕ, ◌<◌, ◌≤◌, is_some, if◌then◌else◌, MatchOption, Option, Some, None, List, ◌++◌, ◌∷◌, [], map, length}
+use Rattle.std.specs.Prelude.{◌≡◌, ℕ, ◌≤◌, is_some, if◌then◌else◌, MatchOption, Option, Some, None, List, ◌++◌, ◌∷◌, [], map, length}
 use Rattle.af_base.specs.declared.event.ServerEvent.TheVariants as server
 use Rattle.af_base.specs.declared.frame.Frame.{Frame}
 use Rattle.af_base.specs.declared.seen.Seen.{Seen}
 use Rattle.af_base.specs.declared.seen.Seen.TheVariants as seen
 use Rattle.af_base.specs.Sample.{packed_word}
-use Rattle.af_model.specs.Room.{ahead}
 use Rattle.af_model.specs.ServerCalls.{look_at, look_events, shown_by}
 use Rattle.af_cblk.specs.declared.view.ServerPart.{ServerPart}
 use Rattle.af_cblk.specs.Parts.{saw_flush, saw_rear, server_saw_front}
@@ -49,11 +48,6 @@ sight_steps _ = 3
 
 abbrev pub look_steps : ServerState → Seen → ℕ
 look_steps c answer = if is_some c.shut then 0 else sight_steps answer
-
--- the words of a Shut answer do not fit the block
-abbrev pub ShutIs : ℕ → Seen → Type 0
-ShutIs size (seen.Shut front rear) = size < ahead front rear
-ShutIs size _ = Unit {0}
 
 -- ## The parts of a look and a take
 

@@ -5,7 +5,7 @@ use Rattle.af_model.specs.Room.{ahead}
 use Rattle.af_model.specs.ServerCalls.{ServerKept, server_kept, IsServerList}
 use Rattle.af_cblk.specs.declared.view.ServerPart.{ServerPart}
 use Rattle.af_cblk.specs.Parts.{server_did}
-use Rattle.af_cblk.specs.Sides.{ServerSide}
+use Rattle.af_cblk.specs.Sides.{Made, ServerSide, server_made}
 
 -- the pass, the flush count and front last seen, how many frames the last call showed if it showed some, how many were consumed, and the front and rear that shut it
 pub record ServerState : Type 0 where
@@ -44,6 +44,10 @@ pub record Keeps (s : ServerPart) (flush front : ℕ) (shown : Option ℕ) (cons
 -- what its maker establishes, and each call and each meeting keeps
 abbrev pub IsInOrder : ServerState → Type 0
 IsInOrder c = Keeps c.pass.part c.flush c.front c.shown c.consumed c.shut
+
+-- the proxy is of this block, and in order
+abbrev pub IsServerOf : Made → ServerState → Type 0
+IsServerOf block c = (server_made c.pass ≡ block) × IsInOrder c
 
 -- the proxy with one event more, after a call that shows no frames
 abbrev pub did : ServerState → ServerEvent → ServerState

@@ -1,8 +1,8 @@
 //! The calls of both proxies of a block, as the tests' tables name them.
 ghost use Rattle.std.specs.Prelude.{◌≡◌, ◌≤◌};
 ghost use Rattle.af_cblk.specs.Sides.{client_made, server_made};
-ghost use Rattle.af_client.specs.Order.{IsInOrder as IsClientInOrder};
-ghost use Rattle.af_server.specs.Order.{IsInOrder};
+ghost use Rattle.af_client.specs.Order.{IsClientOf};
+ghost use Rattle.af_server.specs.Order.{IsServerOf};
 
 use crate::{Look, Server};
 use af_base::{Frame, Seen, Steps};
@@ -59,10 +59,8 @@ fn write<L: Ledger>(
     count: u16,
     steps: &mut Steps<L>,
 ) -> Answer
-    requires made { client_made client.old.pass ≡ block.now }
-    requires order { IsClientInOrder client.old }
-    ensures made { client_made client.new.pass ≡ block.now }
-    ensures order { IsClientInOrder client.new }
+    requires ready { IsClientOf block.now client.old }
+    ensures ready { IsClientOf block.now client.new }
 {
     let frames = [
         numbered(first),
@@ -83,10 +81,8 @@ pub(crate) fn ask_client<L: Ledger>(
     call: &Call,
     steps: &mut Steps<L>,
 ) -> Answer
-    requires made { client_made client.old.pass ≡ block.now }
-    requires order { IsClientInOrder client.old }
-    ensures made { client_made client.new.pass ≡ block.now }
-    ensures order { IsClientInOrder client.new }
+    requires ready { IsClientOf block.now client.old }
+    ensures ready { IsClientOf block.now client.new }
 {
     match *call {
         Call::Write(first, count) => write(block, client, first, count, steps),
@@ -113,11 +109,9 @@ pub(crate) fn ask_client<L: Ledger>(
 
 // Looks for up to three frames, and takes them.
 fn take<L: Ledger>(block: &Block, server: &mut Server, ask: u32, steps: &mut Steps<L>) -> Answer
-    requires made { server_made server.old.pass ≡ block.now }
-    requires order { IsInOrder server.old }
+    requires ready { IsServerOf block.now server.old }
     requires ask { (1 ≤ ask) × (ask ≤ 3) }
-    ensures made { server_made server.new.pass ≡ block.now }
-    ensures order { IsInOrder server.new }
+    ensures ready { IsServerOf block.now server.new }
 {
     let mut into = [numbered(0); 3];
     let look = server.look(block, ask, steps);
@@ -134,10 +128,8 @@ pub(crate) fn ask_server<L: Ledger>(
     call: &Call,
     steps: &mut Steps<L>,
 ) -> Answer
-    requires made { server_made server.old.pass ≡ block.now }
-    requires order { IsInOrder server.old }
-    ensures made { server_made server.new.pass ≡ block.now }
-    ensures order { IsInOrder server.new }
+    requires ready { IsServerOf block.now server.old }
+    ensures ready { IsServerOf block.now server.new }
 {
     match *call {
         Call::Look(ask) if ask > 0 => Answer::Saw(server.look(block, ask, steps)),

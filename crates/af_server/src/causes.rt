@@ -1,10 +1,8 @@
 //! What a call's answer says that its proxy saw and did, and whether the answer has its cause.
 use crate::Look;
 use crate::calls::{Answer, Call};
-use af_base::{ClientEvent, Memory, Seen, ServerEvent};
+use af_base::{ClientEvent, INVALID, Memory, Seen, ServerEvent};
 use af_client::{Sent, Wrote};
-
-const INVALID: u32 = 4;
 
 // The sizes of a block, whether its client may poke, and what a proxy kept before a call: its position, the flush count, and the front and rear that shut it.
 #[derive(Clone, Copy)]

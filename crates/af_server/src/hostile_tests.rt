@@ -1,7 +1,8 @@
 //! A client and a server on two threads, on a stream block and a command block, that meet between their rounds. In each tenth run the client pokes.
 ghost use Rattle.std.specs.Prelude.{◌≡◌, ◌<◌, ◌≤◌, ◌^◌, IfOk};
 ghost use Rattle.af_model.specs.Merges.{IsStart};
-ghost use Rattle.af_server.specs.Rounds.{IsClientOf, IsServerOf};
+ghost use Rattle.af_client.specs.Order.{IsClientOf};
+ghost use Rattle.af_server.specs.Order.{IsServerOf};
 
 use crate::Server;
 use crate::calls::Call;

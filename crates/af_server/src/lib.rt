@@ -9,10 +9,12 @@ mod take;
 mod words;
 
 pub use look::Look;
-pub use server::{MOST_CONSUMED, Server};
+pub use server::Server;
 pub use slot::place_of;
 pub use take::load_frames;
 
+#[cfg(test)]
+mod block_tests;
 #[cfg(test)]
 mod calls;
 #[cfg(test)]

@@ -4,8 +4,8 @@ ghost use Rattle.af_model.specs.Room.{ahead};
 ghost use Rattle.af_model.specs.ServerCalls.{look_at, shown_by};
 ghost use Rattle.af_cblk.specs.Parts.{MayStoreFront, front_stored};
 ghost use Rattle.af_cblk.specs.Sides.{server_made, ServerIs};
-ghost use Rattle.af_server.specs.Order.{IsInOrder, counted};
-ghost use Rattle.af_server.specs.Looks.{Looks, shut_of, dropped_of, WithinAsk, look_steps, ShutIs, saw_all};
+ghost use Rattle.af_server.specs.Order.{IsServerOf, counted};
+ghost use Rattle.af_server.specs.Looks.{Looks, shut_of, dropped_of, WithinAsk, look_steps, saw_all};
 
 use crate::server::{Server, raised};
 use af_base::{Seen, Steps};
@@ -88,16 +88,13 @@ impl Server {
     ///
     /// Flushed exactly where the flush count differs from the one kept: that is kept, and all frames up to the rear seen are discarded, by one step more. Shut exactly where rear minus front, as a signed number, is below 0 or above the block's frames. Empty exactly where rear is front. Else Frames, with the lesser of `ask` and the frames that are there.
     pub fn look<L: Ledger>(&mut self, block: &Block, ask: u32, steps: &mut Steps<L>) -> Look
-        requires made { server_made self.old.pass ≡ block.now }
-        requires order { IsInOrder self.old }
+        requires ready { IsServerOf block.now self.old }
         requires some { 1 ≤ ask }
-        ensures made { server_made self.new.pass ≡ block.now }
-        ensures order { IsInOrder self.new }
+        ensures ready { IsServerOf block.now self.new }
         ensures looks { Looks self.old ask result self.new }
         ensures kept { (self.new.flush ≡ result.flush) × (self.new.shown ≡ shown_by result.seen) × (self.new.shut ≡ shut_of result.seen) × (self.new.consumed ≡ counted (self.old.consumed + dropped_of result.seen)) }
         ensures within { WithinAsk ask result.seen }
         ensures frames { (self.new.pass.part.frames ≡ self.old.pass.part.frames) × (self.new.pass.has_hand ≡ self.old.pass.has_hand) }
-        ensures shut { ShutIs self.old.pass.part.shape.frames result.seen }
         ensures steps { steps.new ≡ steps.old + look_steps self.old result.seen }
     {
         self.shown = None;

@@ -6,8 +6,8 @@ ghost use Rattle.af_model.specs.Fates.{drops_none};
 ghost use Rattle.af_model.specs.History.{is_lawful, HasHistory};
 ghost use Rattle.af_model.specs.ClientCalls.{IsClientList};
 ghost use Rattle.af_cblk.specs.Parts.{client_met, server_did};
-ghost use Rattle.af_cblk.specs.Sides.{client_made, server_made};
-ghost use Rattle.af_server.specs.Order.{IsInOrder};
+ghost use Rattle.af_cblk.specs.Sides.{client_made};
+ghost use Rattle.af_server.specs.Order.{IsServerOf};
 
 use crate::server::Server;
 use af_base::Steps;
@@ -19,11 +19,11 @@ impl Server {
     ///
     /// Where the client has not poked, their lists have a history, in which no look of this server was shut, and where no frames were discarded, those taken are a beginning of those released.
     pub fn meet<L: Ledger>(&mut self, block: &Block, client: &mut ClientPass, steps: &mut Steps<L>)
-        requires made { (client_made client.old ≡ block.now) × (server_made self.old.pass ≡ block.now) }
-        requires order { IsInOrder self.old }
+        requires client { client_made client.old ≡ block.now }
+        requires ready { IsServerOf block.now self.old }
         requires spelled { let k = block.now.shape in IsClientList k.frames k.cells k.base client.old.part.events }
-        ensures made { (client_made client.new ≡ block.now) × (server_made self.new.pass ≡ block.now) }
-        ensures order { IsInOrder self.new }
+        ensures made { client_made client.new ≡ block.now }
+        ensures ready { IsServerOf block.now self.new }
         ensures client { client.new.part ≡ client_met client.old.part self.old.pass.part.events }
         ensures server { self.new ≡ (record self.old { pass = record self.old.pass { part = server_did self.old.pass.part (server_event.Learn (length client.old.part.events)) } }) }
         ensures history { is_lawful client.old.part.events ≡ true

@@ -4,8 +4,8 @@ ghost use Rattle.af_base.specs.Sample.{packed_word};
 ghost use Rattle.af_model.specs.Fates.{drops_none};
 ghost use Rattle.af_model.specs.History.{is_lawful};
 ghost use Rattle.af_cblk.specs.Sides.{client_made, server_made};
-ghost use Rattle.af_client.specs.Order.{IsInOrder as IsClientInOrder};
-ghost use Rattle.af_server.specs.Order.{IsInOrder};
+ghost use Rattle.af_client.specs.Order.{IsClientOf};
+ghost use Rattle.af_server.specs.Order.{IsServerOf};
 ghost use Rattle.af_server.specs.Relay.{Sent, Received, count_of, IsFlushed};
 
 use crate::Server;
@@ -18,8 +18,8 @@ use std::sync::ledger::{Blank, Ledger};
 use std::test::*;
 use std::thread::{Threads, join, yield_now};
 
-// The most calls of each thread.
-const MOST: u32 = 1_000_000;
+// The most rounds of each thread. A round makes at most three calls, so a thread makes at most 999,999.
+const MOST: u32 = 333_333;
 
 // Writes some of the frames, and answers how many.
 fn send_some<L: Ledger>(
@@ -28,12 +28,10 @@ fn send_some<L: Ledger>(
     rest: &[Frame],
     steps: &mut Steps<L>,
 ) -> usize
-    requires made { client_made client.old.pass ≡ block.now }
-    requires order { IsClientInOrder client.old }
+    requires ready { IsClientOf block.now client.old }
     requires some { 1 ≤ length rest.now }
     requires few { client.old.released < 2 ^ 62 }
-    ensures made { client_made client.new.pass ≡ block.now }
-    ensures order { IsClientInOrder client.new }
+    ensures ready { IsClientOf block.now client.new }
     ensures lawful { is_lawful client.old.pass.part.events ≡ true → is_lawful client.new.pass.part.events ≡ true }
     ensures sent { client.new.pass.part.frames ≡ client.old.pass.part.frames ++ map packed_word (take result rest.now) }
     ensures count { (result ≤ length rest.now) × (client.new.released ≡ client.old.released + result) }
@@ -51,10 +49,8 @@ fn send_some<L: Ledger>(
 
 // Asks for a flush, and sets other gains.
 fn stir<L: Ledger>(block: &Block, client: &mut Client, gains: u32, steps: &mut Steps<L>)
-    requires made { client_made client.old.pass ≡ block.now }
-    requires order { IsClientInOrder client.old }
-    ensures made { client_made client.new.pass ≡ block.now }
-    ensures order { IsClientInOrder client.new }
+    requires ready { IsClientOf block.now client.old }
+    ensures ready { IsClientOf block.now client.new }
     ensures lawful { is_lawful client.old.pass.part.events ≡ true → is_lawful client.new.pass.part.events ≡ true }
     ensures same { (client.new.pass.part.frames ≡ client.old.pass.part.frames) × (client.new.released ≡ client.old.released) }
 {
@@ -72,10 +68,8 @@ fn stir_at<L: Ledger>(
     gains: u32,
     steps: &mut Steps<L>,
 )
-    requires made { client_made client.old.pass ≡ block.now }
-    requires order { IsClientInOrder client.old }
-    ensures made { client_made client.new.pass ≡ block.now }
-    ensures order { IsClientInOrder client.new }
+    requires ready { IsClientOf block.now client.old }
+    ensures ready { IsClientOf block.now client.new }
     ensures lawful { is_lawful client.old.pass.part.events ≡ true → is_lawful client.new.pass.part.events ≡ true }
     ensures same { (client.new.pass.part.frames ≡ client.old.pass.part.frames) × (client.new.released ≡ client.old.released) }
 {
@@ -93,12 +87,10 @@ fn send_in<L: Ledger>(
     busy: bool,
 ) -> Client
     requires ledger { (blank.name ≡ L.name) × (blank.parts ≡ L.parts) × (0 < blank.parts) }
-    requires made { client_made client.pass ≡ block.now }
-    requires order { IsClientInOrder client }
+    requires ready { IsClientOf block.now client }
     requires new { (client.pass.part.frames ≡ []) × (client.pass.part.events ≡ []) × (client.released ≡ 0) }
     requires few { length frames.now ≤ 65536 }
-    ensures made { client_made result.pass ≡ block.now }
-    ensures order { IsClientInOrder result }
+    ensures ready { IsClientOf block.now result }
     ensures sent { Sent frames.now result.pass.part }
 {
     let mut steps = Steps::<L>::start(blank);
@@ -117,12 +109,10 @@ fn send_in<L: Ledger>(
 }
 
 fn send(block: &Block, client: Client, frames: &[Frame], busy: bool) -> Client
-    requires made { client_made client.pass ≡ block.now }
-    requires order { IsClientInOrder client }
+    requires ready { IsClientOf block.now client }
     requires new { (client.pass.part.frames ≡ []) × (client.pass.part.events ≡ []) × (client.released ≡ 0) }
     requires few { length frames.now ≤ 65536 }
-    ensures made { client_made result.pass ≡ block.now }
-    ensures order { IsClientInOrder result }
+    ensures ready { IsClientOf block.now result }
     ensures sent { Sent frames.now result.pass.part }
 {
     send_in::<Brand>(Blank::new(1), block, client, frames, busy)
@@ -135,11 +125,9 @@ fn take_some<L: Ledger>(
     into: &mut [Frame],
     steps: &mut Steps<L>,
 ) -> Seen
-    requires made { server_made server.old.pass ≡ block.now }
-    requires order { IsInOrder server.old }
+    requires ready { IsServerOf block.now server.old }
     requires room { length into.old ≡ 4 }
-    ensures made { server_made server.new.pass ≡ block.now }
-    ensures order { IsInOrder server.new }
+    ensures ready { IsServerOf block.now server.new }
     ensures taken { server.new.pass.part.frames ≡ server.old.pass.part.frames ++ map packed_word (take (count_of result) into.new) }
     ensures few { count_of result ≤ 4 }
     ensures clean { drops_none server.old.pass.part.events ≡ true → IsFlushed result ⊎ (drops_none server.new.pass.part.events ≡ true) }
@@ -176,11 +164,9 @@ fn receive_in<L: Ledger>(
     total: u64,
 ) -> Result<(Server, Vec<Frame>, bool, bool), Memory>
     requires ledger { (blank.name ≡ L.name) × (blank.parts ≡ L.parts) × (0 < blank.parts) }
-    requires made { server_made server.pass ≡ block.now }
-    requires order { IsInOrder server }
+    requires ready { IsServerOf block.now server }
     requires new { (server.pass.part.frames ≡ []) × (server.pass.part.events ≡ []) }
-    ensures made { IfOk result (λ r. server_made r.0.pass ≡ block.now) }
-    ensures order { IfOk result (λ r. IsInOrder r.0) }
+    ensures ready { IfOk result (λ r. IsServerOf block.now r.0) }
     ensures received { IfOk result (λ r. Received r.2 r.1.items r.0.pass.part) }
 {
     let mut steps = Steps::<L>::start(blank);
@@ -218,11 +204,9 @@ fn receive(
     alloc: Global,
     total: u64,
 ) -> Result<(Server, Vec<Frame>, bool, bool), Memory>
-    requires made { server_made server.pass ≡ block.now }
-    requires order { IsInOrder server }
+    requires ready { IsServerOf block.now server }
     requires new { (server.pass.part.frames ≡ []) × (server.pass.part.events ≡ []) }
-    ensures made { IfOk result (λ r. server_made r.0.pass ≡ block.now) }
-    ensures order { IfOk result (λ r. IsInOrder r.0) }
+    ensures ready { IfOk result (λ r. IsServerOf block.now r.0) }
     ensures received { IfOk result (λ r. Received r.2 r.1.items r.0.pass.part) }
 {
     receive_in::<Brand>(Blank::new(1), block, server, alloc, total)
@@ -239,8 +223,8 @@ fn compare_in<L: Ledger>(
     clean: bool,
 )
     requires ledger { (blank.name ≡ L.name) × (blank.parts ≡ L.parts) × (0 < blank.parts) }
-    requires made { (client_made client.pass ≡ block.now) × (server_made server.pass ≡ block.now) }
-    requires order { IsClientInOrder client × IsInOrder server }
+    requires client { IsClientOf block.now client }
+    requires server { IsServerOf block.now server }
     requires sent { Sent frames.now client.pass.part }
     requires received { Received clean all.now.items server.pass.part }
     ensures { clean ≡ true → map packed_word all.now.items ≡ take (vec_len all.now) (map packed_word frames.now) }
@@ -269,12 +253,12 @@ fn relay<R: Threads + Sync>(
     let (client, received) = join(
         rt,
         move || -> Client
-            requires { (client_made client.pass ≡ shared.now) × IsClientInOrder client × (client.pass.part.frames ≡ []) × (client.pass.part.events ≡ []) × (client.released ≡ 0) × (length frames.now ≤ 65536) }
-            ensures { (client_made result.pass ≡ shared.entry.now) × IsClientInOrder result × Sent frames.entry.now result.pass.part }
+            requires { IsClientOf shared.now client × (client.pass.part.frames ≡ []) × (client.pass.part.events ≡ []) × (client.released ≡ 0) × (length frames.now ≤ 65536) }
+            ensures { IsClientOf shared.entry.now result × Sent frames.entry.now result.pass.part }
         { send(shared, client, frames, busy) },
         move || -> Result<(Server, Vec<Frame>, bool, bool), Memory>
-            requires { (server_made server.pass ≡ shared.now) × IsInOrder server × (server.pass.part.frames ≡ []) × (server.pass.part.events ≡ []) }
-            ensures { IfOk result (λ r. (server_made r.0.pass ≡ shared.entry.now) × IsInOrder r.0 × Received r.2 r.1.items r.0.pass.part) }
+            requires { IsServerOf shared.now server × (server.pass.part.frames ≡ []) × (server.pass.part.events ≡ []) }
+            ensures { IfOk result (λ r. IsServerOf shared.entry.now r.0 × Received r.2 r.1.items r.0.pass.part) }
         { receive(shared, server, alloc, total) },
     );
     let (server, all, clean, in_place) = received?;

@@ -4,7 +4,7 @@ ghost use Rattle.std.specs.Borrow.{Lends, sem};
 ghost use Rattle.af_cblk.specs.Rule.{new_server, new_hand};
 ghost use Rattle.af_cblk.specs.Sides.{server_made, hand_made};
 ghost use Rattle.af_cblk.specs.contracts.pass.ServerPass.{the_row as pass_row};
-ghost use Rattle.af_server.specs.Order.{IsInOrder, counted};
+ghost use Rattle.af_server.specs.Order.{IsServerOf, counted};
 ghost use Rattle.af_server.specs.contracts.server.Server.{the_row};
 
 use af_base::Steps;
@@ -13,7 +13,7 @@ use std::marker::Model;
 use std::sync::ledger::Ledger;
 
 /// Where the consumed count of a server ends.
-pub const MOST_CONSUMED: u64 = 0x7fff_ffff_ffff_ffff;
+pub(crate) const MOST_CONSUMED: u64 = 0x7fff_ffff_ffff_ffff;
 
 /// The server's side of one control block: AOSP's `ServerProxy`.
 ///
@@ -56,7 +56,7 @@ impl Server {
         requires new { pass.part ≡ new_server block.now.shape }
         ensures pass { result.pass ≡ pass }
         ensures kept { (result.flush ≡ 0) × (result.consumed ≡ 0) × (result.shown ≡ None) × (result.shut ≡ None) }
-        ensures order { IsInOrder result }
+        ensures ready { IsServerOf block.now result }
     {
         let front = block.base();
         Server {
@@ -69,7 +69,7 @@ impl Server {
         }
     }
 
-    /// How many frames this server took and discarded, up to `MOST_CONSUMED`.
+    /// How many frames this server took and discarded, up to 2^63 - 1.
     pub fn consumed(&self) -> u64
         ensures { result ≡ self.now.consumed }
     {
@@ -92,11 +92,9 @@ impl Server {
 
     /// Splits the hand off this server's pass. It can be done once. One step.
     pub fn hand<L: Ledger>(&mut self, block: &Block, steps: &mut Steps<L>) -> FlagHand
-        requires made { server_made self.old.pass ≡ block.now }
-        requires order { IsInOrder self.old }
+        requires ready { IsServerOf block.now self.old }
         requires first { self.old.pass.has_hand ≡ true }
-        ensures made { server_made self.new.pass ≡ block.now }
-        ensures order { IsInOrder self.new }
+        ensures ready { IsServerOf block.now self.new }
         ensures split { self.new ≡ (record self.old { pass = record self.old.pass { has_hand = false }; shown = None }) }
         ensures hand { (hand_made result ≡ block.now) × (result.part ≡ new_hand block.now.shape) }
         ensures steps { steps.new ≡ steps.old + 1 }

@@ -1,6 +1,7 @@
 //! A proxy, and what its calls saw and did, written down call by call.
 ghost use Rattle.std.specs.Prelude.{◌≡◌, ◌<◌};
-ghost use Rattle.af_server.specs.Rounds.{IsClientOf, IsServerOf};
+ghost use Rattle.af_client.specs.Order.{IsClientOf};
+ghost use Rattle.af_server.specs.Order.{IsServerOf};
 
 use crate::Server;
 use crate::calls::{Call, ask_client, ask_server};
@@ -57,7 +58,7 @@ pub(crate) trait Side: Drop {
 }
 
 impl Side for Recorded<Client, ClientEvent> {
-    ghost use Rattle.af_server.specs.Rounds.{IsClientOf};
+    ghost use Rattle.af_client.specs.Order.{IsClientOf};
 
     ghost is_ready = { λ b s. IsClientOf b s.proxy };
 
@@ -82,7 +83,7 @@ impl Side for Recorded<Client, ClientEvent> {
 }
 
 impl Side for Recorded<Server, ServerEvent> {
-    ghost use Rattle.af_server.specs.Rounds.{IsServerOf};
+    ghost use Rattle.af_server.specs.Order.{IsServerOf};
 
     ghost is_ready = { λ b s. IsServerOf b s.proxy };
 

@@ -1,7 +1,7 @@
 //! Taking frames.
 ghost use Rattle.std.specs.Prelude.{◌≡◌, ◌+◌, ◌^◌, ◌<◌, [], length, Some, None};
 ghost use Rattle.af_cblk.specs.Sides.{server_made};
-ghost use Rattle.af_server.specs.Order.{IsInOrder, counted};
+ghost use Rattle.af_server.specs.Order.{IsServerOf, counted};
 ghost use Rattle.af_server.specs.Looks.{Reads, Takes};
 
 use crate::server::{Server, raised};
@@ -38,11 +38,9 @@ impl Server {
     ///
     /// It loads their cells, across the wrap where needed, and then raises front, in one step each.
     pub fn take<L: Ledger>(&mut self, block: &Block, into: &mut [Frame], steps: &mut Steps<L>)
-        requires made { server_made self.old.pass ≡ block.now }
-        requires order { IsInOrder self.old }
+        requires ready { IsServerOf block.now self.old }
         requires shown { self.old.shown ≡ Some (length into.old) }
-        ensures made { server_made self.new.pass ≡ block.now }
-        ensures order { IsInOrder self.new }
+        ensures ready { IsServerOf block.now self.new }
         ensures takes { Takes self.old into.new self.new }
         ensures kept { self.new ≡ (record self.old { pass = self.new.pass; shown = None; consumed = counted (self.old.consumed + length into.old) }) }
         ensures hand { self.new.pass.has_hand ≡ self.old.pass.has_hand }

@@ -1,8 +1,8 @@
 //! Both proxies of one block, call by call, as tables.
 ghost use Rattle.std.specs.Prelude.{◌≡◌, ◌+◌, ◌<◌, ◌≤◌, length};
 ghost use Rattle.af_cblk.specs.Sides.{client_made, server_made};
-ghost use Rattle.af_client.specs.Order.{IsInOrder as IsClientInOrder};
-ghost use Rattle.af_server.specs.Order.{IsInOrder};
+ghost use Rattle.af_client.specs.Order.{IsClientOf};
+ghost use Rattle.af_server.specs.Order.{IsServerOf};
 
 use crate::calls::{Answer, Call, ask_client, ask_server};
 use crate::{Look, Server};
@@ -34,8 +34,8 @@ fn all_answer<L: Ledger>(
     table: &[(Call, Answer)],
     steps: &mut Steps<L>,
 ) -> bool
-    requires made { (client_made client.pass ≡ block.now) × (server_made server.pass ≡ block.now) }
-    requires order { IsClientInOrder client × IsInOrder server }
+    requires client { IsClientOf block.now client }
+    requires server { IsServerOf block.now server }
 {
     for (call, answer) in table {
         let found = if is_server(call) {
@@ -182,10 +182,8 @@ fn a_client_that_pokes_shuts_both(rt: HostRuntime) {
 
 // Whether so many commands are sent, each at front 0.
 fn all_sent<L: Ledger>(block: &Block, client: &mut Client, count: u32, steps: &mut Steps<L>) -> bool
-    requires made { client_made client.old.pass ≡ block.now }
-    requires order { IsClientInOrder client.old }
-    ensures made { client_made client.new.pass ≡ block.now }
-    ensures order { IsClientInOrder client.new }
+    requires ready { IsClientOf block.now client.old }
+    ensures ready { IsClientOf block.now client.new }
 {
     let mut all = true;
     for _ in 0..count {

@@ -1,24 +1,18 @@
 //! Gains, missing frames, flags and the status word.
 ghost use Rattle.std.specs.Prelude.{◌≡◌, ◌+◌, ◌≤◌};
 ghost use Rattle.af_base.specs.declared.event.ServerEvent.TheVariants as server_event;
-ghost use Rattle.af_cblk.specs.Sides.{server_made};
-ghost use Rattle.af_server.specs.Order.{IsInOrder, did};
+ghost use Rattle.af_server.specs.Order.{IsServerOf, did};
 
 use crate::server::Server;
-use af_base::Steps;
+use af_base::{Steps, UNDERRUN};
 use af_cblk::Block;
 use std::sync::ledger::Ledger;
-
-/// The flag that says that frames were missing.
-const UNDERRUN: u32 = 1;
 
 impl Server {
     /// The gains that the client set last: left in the low 16 bits, right in the high 16 bits. One step.
     pub fn gains<L: Ledger>(&mut self, block: &Block, steps: &mut Steps<L>) -> u32
-        requires made { server_made self.old.pass ≡ block.now }
-        requires order { IsInOrder self.old }
-        ensures made { server_made self.new.pass ≡ block.now }
-        ensures order { IsInOrder self.new }
+        requires ready { IsServerOf block.now self.old }
+        ensures ready { IsServerOf block.now self.new }
         ensures saw { self.new ≡ did self.old (server_event.SawGain result) }
         ensures steps { steps.new ≡ steps.old + 1 }
     {
@@ -28,11 +22,9 @@ impl Server {
 
     /// Adds to the count of missing frames, and sets UNDERRUN (0x01). Two steps.
     pub fn tally<L: Ledger>(&mut self, block: &Block, missing: u32, steps: &mut Steps<L>)
-        requires made { server_made self.old.pass ≡ block.now }
-        requires order { IsInOrder self.old }
+        requires ready { IsServerOf block.now self.old }
         requires missing { 1 ≤ missing }
-        ensures made { server_made self.new.pass ≡ block.now }
-        ensures order { IsInOrder self.new }
+        ensures ready { IsServerOf block.now self.new }
         ensures tallied { self.new ≡ did (did self.old (server_event.Tally missing)) (server_event.SetFlags 1) }
         ensures steps { steps.new ≡ steps.old + 2 }
     {
@@ -43,10 +35,8 @@ impl Server {
 
     /// Sets flags, beside those that are set. One step.
     pub fn set_flags<L: Ledger>(&mut self, block: &Block, bits: u32, steps: &mut Steps<L>)
-        requires made { server_made self.old.pass ≡ block.now }
-        requires order { IsInOrder self.old }
-        ensures made { server_made self.new.pass ≡ block.now }
-        ensures order { IsInOrder self.new }
+        requires ready { IsServerOf block.now self.old }
+        ensures ready { IsServerOf block.now self.new }
         ensures set { self.new ≡ did self.old (server_event.SetFlags bits) }
         ensures steps { steps.new ≡ steps.old + 1 }
     {
@@ -56,10 +46,8 @@ impl Server {
 
     /// Stores the status word. One step.
     pub fn set_status<L: Ledger>(&mut self, block: &Block, word: u32, steps: &mut Steps<L>)
-        requires made { server_made self.old.pass ≡ block.now }
-        requires order { IsInOrder self.old }
-        ensures made { server_made self.new.pass ≡ block.now }
-        ensures order { IsInOrder self.new }
+        requires ready { IsServerOf block.now self.old }
+        ensures ready { IsServerOf block.now self.new }
         ensures stored { self.new ≡ did self.old (server_event.SetStatus word) }
         ensures steps { steps.new ≡ steps.old + 1 }
     {

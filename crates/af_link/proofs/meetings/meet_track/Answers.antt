@@ -9,4 +9,4 @@ returns-clause-order g c =
     let old = c.args.client.now in
     let theirs = c.args.server.now.pass.part.events in
     let is : c.meet.new.client.part ≡ client_met old.pass.part theirs = c.meet.ensures.client ∙ ap (λ (p : ClientSide). client_met p.part theirs) c.pass.ensures.value in
-    (met_keeps old.pass.part c.meet.new.client.part old.rear old.flushes old.released old.shut theirs c.requires.order.0 is, c.meet.ensures.order)
+    (met_keeps old.pass.part c.meet.new.client.part old.rear old.flushes old.released old.shut theirs c.requires.order.0 is, c.meet.ensures.ready.1)

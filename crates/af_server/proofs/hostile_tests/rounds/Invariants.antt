@@ -1,4 +1,5 @@
-use Rattle.af_server.specs.Rounds.{IsClientOf, IsServerOf}
+use Rattle.af_client.specs.Order.{IsClientOf}
+use Rattle.af_server.specs.Order.{IsServerOf}
 use Rattle.af_server.proofs.hostile_tests.rounds.Given as goal
 
 abbrev pub invariant-loop-number : goal.invariant-loop-number

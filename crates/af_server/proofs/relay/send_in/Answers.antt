@@ -14,8 +14,7 @@ loop-preserved g c =
     let frames : List Frame = c.args.frames.now in
     let rest : length (drop n frames) ≡ length frames - n = length-drop n frames in
     record {
-      made = e.made;
-      order = e.order;
+      ready = e.ready;
       lawful = e.lawful (s.lawful i.lawful);
       within = (let a = e.count.0 in let b = i.within in omega arith);
       sent = e.sent ∙ ap (λ (l : List Frame). c.stir_at.new.client.pass.part.frames ++ map packed_word (take m l)) (whole (drop n frames) (length frames - n) rest) ∙ ap (λ (l : List ℕ). l ++ map packed_word (take m (drop n frames))) (s.same.0 ∙ i.sent) ∙ take_on frames n m i.within;

@@ -1,15 +1,13 @@
 use Rattle.std.proofs.Common.{◌≡◌, ◌≤◌, length, map, take, true}
 use Rattle.af_base.specs.Sample.{packed_word}
 use Rattle.af_model.specs.History.{is_lawful}
-use Rattle.af_cblk.specs.Sides.{client_made}
-use Rattle.af_client.specs.Order.{IsInOrder}
+use Rattle.af_client.specs.Order.{IsClientOf}
 use Rattle.af_server.proofs.relay.send_in.Given as goal
 
 abbrev pub invariant-loop : goal.invariant-loop
 invariant-loop g l =
     record {
-      made : client_made l.client.pass ≡ l.block;
-      order : IsInOrder l.client;
+      ready : IsClientOf l.block l.client;
       lawful : is_lawful l.client.pass.part.events ≡ true;
       within : l.next ≤ length l.frames;
       sent : l.client.pass.part.frames ≡ map packed_word (take l.next l.frames);

@@ -9,14 +9,14 @@ use Rattle.af_server.proofs.relay.send_some.Goals as goal
 pub returns-in-Put-clause-lawful : goal.returns-in-Put-clause-lawful
 returns-in-Put-clause-lawful g c = λ ok.
     let p : ClientPart = c.args.client.now.pass.part in
-    subst (λ (es : List ClientEvent). is_lawful es ≡ true) (sym c.in-Put.ensures.events) (lawful_call p.shape.frames p.shape.base p.events (call.Put c.in-Put.front c.in-Put.count) (λ e. e) ok)
+    subst (λ (es : List ClientEvent). is_lawful es ≡ true) (sym c.in-Put.ensures.does.1) (lawful_call p.shape.frames p.shape.base p.events (call.Put c.in-Put.front c.in-Put.count) (λ e. e) ok)
 
 pub returns-in-Full-clause-lawful : goal.returns-in-Full-clause-lawful
 returns-in-Full-clause-lawful g c = λ ok.
     let p : ClientPart = c.args.client.now.pass.part in
-    subst (λ (es : List ClientEvent). is_lawful es ≡ true) (sym c.in-Full.ensures.events) (lawful_call p.shape.frames p.shape.base p.events (call.Full c.in-Full.front) (λ e. e) ok)
+    subst (λ (es : List ClientEvent). is_lawful es ≡ true) (sym c.in-Full.ensures.does.1) (lawful_call p.shape.frames p.shape.base p.events (call.Full c.in-Full.front) (λ e. e) ok)
 
 pub returns-in-Dead-clause-lawful : goal.returns-in-Dead-clause-lawful
 returns-in-Dead-clause-lawful g c = λ ok.
     let p : ClientPart = c.args.client.now.pass.part in
-    subst (λ (es : List ClientEvent). is_lawful es ≡ true) (sym c.in-Dead.ensures.events) (lawful_call p.shape.frames p.shape.base p.events (call.Dead c.in-Dead.flags) (λ e. e) ok)
+    subst (λ (es : List ClientEvent). is_lawful es ≡ true) (sym c.in-Dead.ensures.does.1) (lawful_call p.shape.frames p.shape.base p.events (call.Dead c.in-Dead.flags) (λ e. e) ok)

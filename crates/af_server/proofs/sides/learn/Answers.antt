@@ -11,4 +11,4 @@ returns-clause-client g c =
     let lent : c.pass.result.now ≡ before.pass = c.pass.ensures.value in
     let met : c.meet.new.client.part ≡ client_met before.pass.part c.args.server.now.pass.part.events =
     c.meet.ensures.client ∙ ap (λ (x : ClientSide). client_met x.part c.args.server.now.pass.part.events) lent in
-    (c.meet.ensures.made.0, met_keeps before.pass.part c.meet.new.client.part before.rear before.flushes before.released before.shut c.args.server.now.pass.part.events c.requires.client.1 met)
+    (c.meet.ensures.made, met_keeps before.pass.part c.meet.new.client.part before.rear before.flushes before.released before.shut c.args.server.now.pass.part.events c.requires.client.1 met)

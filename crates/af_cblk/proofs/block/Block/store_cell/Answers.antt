@@ -3,6 +3,7 @@ use Rattle.af_cblk.specs.declared.view.ClientPart.{ClientPart}
 use Rattle.af_cblk.specs.Parts.{ahead, released, room, stored_at}
 use Rattle.af_cblk.specs.Sides.{Made, client_made}
 use Rattle.af_cblk.proofs.Calls.{cell_within, cell_by_client, cell_is}
+use Rattle.af_cblk.proofs.Passes.{pass_on}
 use Rattle.af_cblk.proofs.block.Block.store_cell.Goals as goal
 
 pub store-requires : goal.store-requires
@@ -26,3 +27,6 @@ returns-clause-stored g c =
     ap (λ m. m.0.client) c.store.ensures.2
     ∙ cell_is _ _ (ap (λ (m : Made). m.shape) same) c.self.invariant.2 at c.args.word _ index (search rules) (subst (λ (p : ClientPart). ahead (released p) at < room p) (sym part) c.requires.room)
     ∙ ap (λ (p : ClientPart). stored_at p at c.args.word) part
+
+pub invariant_of-pass : goal.invariant_of-pass
+invariant_of-pass g c = let p = c.pass.invariant in pass_on c.pass.inside.seat.me _ _ _ _ _ _ p c.store.ensures.2 p.2 p.3

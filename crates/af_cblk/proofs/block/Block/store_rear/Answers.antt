@@ -1,10 +1,10 @@
 use Rattle.std.proofs.Common.{rules, ◌+◌, ◌%◌, ◌^◌, ℕ, sym, ap, ◌∙◌, subst}
 use Rattle.af_cblk.specs.declared.view.ClientPart.{ClientPart}
-use Rattle.af_model.specs.Point.{wrapped}
 use Rattle.af_cblk.specs.Parts.{AreStored, released}
 use Rattle.af_cblk.specs.Sides.{Made, client_made}
 use Rattle.af_cblk.proofs.Calls.{rear_by_client, rear_is}
 use Rattle.af_cblk.proofs.Numbers.{past}
+use Rattle.af_cblk.proofs.Passes.{pass_rear}
 use Rattle.af_cblk.proofs.block.Block.store_rear.Goals as goal
 
 pub store-requires : goal.store-requires
@@ -22,6 +22,6 @@ store-requires g c =
 
 pub invariant_of-pass : goal.invariant_of-pass
 invariant_of-pass g c =
-    let now = c.store.ensures.2 in
     let p = c.pass.invariant in
-    (ap (λ m. m.0.is_client) now ∙ p.0, ap (λ m. m.1) now ∙ p.1, rear_is c.pass.inside.seat.me.0.client _ (search rules) ∙ ap (λ m. wrapped (released m.0.client)) (sym now))
+    let me = c.pass.inside.seat.me in
+    pass_rear me _ _ _ _ _ p c.store.ensures.2 (rear_is me.0.client _ (search rules))

@@ -26,9 +26,9 @@ returns-then-filled-frames-clause-opens g c =
     flags.ensures.saw ∙ ap (λ (x : ClientPart × ℕ). client_did x.0 (client.SawFlags x.1)) (λ i. ((c.self.view_is i).pass.part, recorded-none unset c.if-flags-ne0.false i)) in
     let both : q ≡ saw_both p found.result = found.ensures.saw.0 ∙ ap (λ (x : ClientPart). client_saw_front x found.result) first in
     let rear : c.self.inside.rear ≡ old.rear = ap (λ (x : ClientState). x.rear) c.self.view_is in
-    let rear_is : c.self.inside.rear ≡ wrapped (released m) = rear ∙ c.requires.order.rear_is ∙ ap (λ (x : ClientPart). wrapped (released x)) (sym first) in
+    let rear_is : c.self.inside.rear ≡ wrapped (released m) = rear ∙ c.requires.ready.1.rear_is ∙ ap (λ (x : ClientPart). wrapped (released x)) (sym first) in
     let many : filled q ≡ (c.self.inside.rear + (4294967296 - found.result)) % 4294967296 = filled-word m q c.self.inside.rear found.result rear_is found.type_inv found.ensures.saw.0 in
-    let size : c.frames.result ≡ p.shape.frames = c.frames.ensures.value ∙ ap (λ (x : Made). x.shape.frames) (sym c.requires.made) in
+    let size : c.frames.result ≡ p.shape.frames = c.frames.ensures.value ∙ ap (λ (x : Made). x.shape.frames) (sym c.requires.ready.0) in
     let beyond : p.shape.frames < filled q = (let a = c.if-filled-frames.true in omega arith) in
     let sizes : q.shape.frames ≡ p.shape.frames = ap (λ (x : ClientPart). x.shape.frames) both in
     let never : is_lawful p.events ≡ true → ⊥ = (λ ok.

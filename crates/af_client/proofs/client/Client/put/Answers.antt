@@ -5,6 +5,7 @@ use Rattle.af_cblk.specs.Parts.{released}
 use Rattle.af_client.specs.Order.{ClientState}
 use Rattle.af_client.specs.Calls.{SameBut}
 use Rattle.af_client.proofs.Opened.{same_end, before_end, put_is, put_rear, words_are}
+use Rattle.af_client.proofs.Stores.{stored_first}
 use Rattle.af_client.proofs.client.Client.put.Goals as goal
 
 pub returns-clause-count : goal.returns-clause-count
@@ -24,15 +25,14 @@ pub returns-clause-put : goal.returns-clause-put
 returns-clause-put g c =
     let few : c.min-count.result ≤ length c.args.frames.now = (let e = c.min-count.ensures in omega arith) in
     let same : SameBut c.args.self.now.pass.part c.store_frames.new.pass.part = c.store_frames.ensures.same ∙ ap (λ (x : ClientState). record x.pass.part { stored = c.store_frames.new.pass.part.stored }) c.self.view_is in
-    put_is c.args.self.now.pass.part c.store_frames.new.pass.part c.store_rear.new.pass.part c.min-count.result c.args.frames.now same c.store_frames.ensures.stored few c.store_rear.ensures.released
+    let stored = stored_first c.store_frames.new.pass.part c.args.frames.now c.min-count.result few c.store_frames.ensures.stored in
+    put_is c.args.self.now.pass.part c.store_frames.new.pass.part c.store_rear.new.pass.part c.min-count.result c.args.frames.now same stored few c.store_rear.ensures.released
 
 pub returns-clause-rear : goal.returns-clause-rear
 returns-clause-rear g c =
     let few : c.min-count.result ≤ length c.args.frames.now = (let e = c.min-count.ensures in omega arith) in
     let rear : c.self.inside.rear ≡ wrapped (released c.args.self.now.pass.part) = ap (λ (x : ClientState). x.rear) c.self.view_is ∙ c.requires.rear in
-    let same : SameBut c.args.self.now.pass.part c.store_frames.new.pass.part = c.store_frames.ensures.same ∙ ap (λ (x : ClientState). record x.pass.part { stored = c.store_frames.new.pass.part.stored }) c.self.view_is in
-    let put = put_is c.args.self.now.pass.part c.store_frames.new.pass.part c.store_rear.new.pass.part c.min-count.result c.args.frames.now same c.store_frames.ensures.stored few c.store_rear.ensures.released in
-    put_rear c.args.self.now.pass.part c.store_rear.new.pass.part c.self.inside.rear c.min-count.result (map packed_word (take c.min-count.result c.args.frames.now)) rear (words_are c.min-count.result c.args.frames.now few) put
+    put_rear c.args.self.now.pass.part c.store_rear.new.pass.part c.self.inside.rear c.min-count.result (map packed_word (take c.min-count.result c.args.frames.now)) rear (words_are c.min-count.result c.args.frames.now few) (returns-clause-put g c)
 
 pub returns-clause-some : goal.returns-clause-some
 returns-clause-some g c = λ roomy some.

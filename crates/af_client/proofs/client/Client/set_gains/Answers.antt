@@ -4,6 +4,6 @@ use Rattle.af_base.specs.declared.event.ClientEvent.TheVariants as client
 use Rattle.af_client.proofs.Kept.{quiet_keeps}
 use Rattle.af_client.proofs.client.Client.set_gains.Goals as goal
 
-pub returns-clause-order : goal.returns-clause-order
-returns-clause-order g c =
-    quiet_keeps c.args.self.now _ c.store_volume.new.pass (call.Gain c.args.word) (client.SetGain c.args.word) c.requires.order tt refl refl refl c.self.view_is c.store_volume.ensures.stored
+pub returns-clause-ready : goal.returns-clause-ready
+returns-clause-ready g c =
+    (c.store_volume.ensures.made, quiet_keeps c.args.self.now _ c.store_volume.new.pass (call.Gain c.args.word) (client.SetGain c.args.word) c.requires.ready.1 tt refl refl refl c.self.view_is c.store_volume.ensures.stored)

@@ -4,6 +4,6 @@ use Rattle.af_base.specs.declared.event.ClientEvent.TheVariants as client
 use Rattle.af_client.proofs.Kept.{quiet_keeps}
 use Rattle.af_client.proofs.client.Client.status.Goals as goal
 
-pub returns-clause-order : goal.returns-clause-order
-returns-clause-order g c =
-    quiet_keeps c.args.self.now _ c.load_status.new.pass (call.Status c.load_status.result) (client.SawStatus c.load_status.result) c.requires.order tt refl refl refl c.self.view_is c.load_status.ensures.saw
+pub returns-clause-ready : goal.returns-clause-ready
+returns-clause-ready g c =
+    (c.load_status.ensures.made, quiet_keeps c.args.self.now _ c.load_status.new.pass (call.Status c.load_status.result) (client.SawStatus c.load_status.result) c.requires.ready.1 tt refl refl refl c.self.view_is c.load_status.ensures.saw)

@@ -1,13 +1,13 @@
-use Rattle.std.proofs.Common.{None, sym, ap, subst}
+use Rattle.std.proofs.Common.{rules, None, sym, ap, subst}
 use Rattle.af_cblk.specs.declared.view.ServerPart.{ServerPart}
 use Rattle.af_cblk.specs.Sides.{ServerSide}
 use Rattle.af_server.specs.Order.{ServerState, Keeps}
 use Rattle.af_server.proofs.Kept.{rest_keeps}
 use Rattle.af_server.proofs.server.Server.hand.Goals as goal
 
-pub returns-clause-order : goal.returns-clause-order
-returns-clause-order g c =
+pub returns-clause-ready : goal.returns-clause-ready
+returns-clause-ready g c =
     let old : ServerState = c.args.self.now in
-    let rests = rest_keeps old.pass.part old.flush old.front old.shown old.consumed old.shut c.requires.order in
+    let rests = rest_keeps old.pass.part old.flush old.front old.shown old.consumed old.shut c.requires.ready.1 in
     let there = subst (λ (x : ServerState). Keeps x.pass.part x.flush x.front None x.consumed x.shut) (sym c.self.view_is) rests in
-    subst (λ (x : ServerPart). Keeps x c.self.inside.flush c.self.inside.front None c.self.inside.consumed c.self.inside.shut) (sym (ap (λ (x : ServerSide). x.part) c.hand.ensures.pass)) there
+    (search rules, subst (λ (x : ServerPart). Keeps x c.self.inside.flush c.self.inside.front None c.self.inside.consumed c.self.inside.shut) (sym (ap (λ (x : ServerSide). x.part) c.hand.ensures.pass)) there)

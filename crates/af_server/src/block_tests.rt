@@ -1,9 +1,9 @@
-//! Each call once, by one thread.
+//! Each word call of a block once, by one thread.
 ghost use Rattle.std.specs.Prelude.{◌≡◌, ◌<◌, ◌+◌, false, []};
 ghost use Rattle.af_cblk.specs.Sides.{client_made, server_made};
 
-use crate::{Block, ClientPass, ServerPass};
 use af_base::{Memory, Steps};
+use af_cblk::{Block, ClientPass, ServerPass};
 use std::alloc::Global;
 use std::marker::Brand;
 use std::sync::ledger::{Blank, Ledger};
