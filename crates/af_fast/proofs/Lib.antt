@@ -8,3 +8,4 @@ mod Added
 mod Meeting
 mod Zips
 mod OneBlock
+mod Waiting

@@ -9,7 +9,7 @@ use Rattle.af_link.specs.declared.links.Links.{Links}
 use Rattle.af_model.specs.StateQueue.{slot_of}
 use Rattle.af_fast.specs.Meets.{AreOfBlockOf}
 use Rattle.af_fast.specs.Mixer.{MixerState, IsInOrder, IsLinked}
-use Rattle.af_fast.specs.Ready.{IsClientOf}
+use Rattle.af_client.specs.Order.{IsClientOf}
 use Rattle.af_fast.proofs.HeldFacts.{some_same}
 
 only : (b x : Made) (i : ℕ) → slice_get (b ∷ []) i ≡ Some x → x ≡ b

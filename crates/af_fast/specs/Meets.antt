@@ -21,7 +21,7 @@ use Rattle.af_link.specs.Reports.{ReaderSide, CyclesNeverFall}
 use Rattle.af_link.specs.declared.links.Links.{Links}
 use Rattle.af_link.specs.declared.names.StreamNames.{StreamNames}
 use Rattle.af_fast.specs.Mixer.{MixerState}
-use Rattle.af_fast.specs.Ready.{IsClientOf}
+use Rattle.af_client.specs.Order.{IsClientOf}
 
 -- the ends of the other side: that which pushes states, that which loads reports, and that which puts frames
 pub record Others : Type 0 where

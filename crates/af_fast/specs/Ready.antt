@@ -1,9 +1,9 @@
 -- When the ends that a test moves are ready for its next call.
 use Rattle.std.specs.Prelude.{◌≡◌, ℕ, suc, ◌≤◌, false, List, [], ◌∷◌, Option, Some}
 use Rattle.std.specs.List.{AllZip}
-use Rattle.af_cblk.specs.Sides.{Made, client_made, server_made}
-use Rattle.af_client.specs.Order.{ClientState, IsInOrder as IsClientInOrder}
-use Rattle.af_server.specs.Order.{ServerState, IsInOrder as IsServerInOrder}
+use Rattle.af_cblk.specs.Sides.{Made}
+use Rattle.af_client.specs.Order.{ClientState, IsClientOf}
+use Rattle.af_server.specs.Order.{ServerState, IsServerOf}
 use Rattle.af_stateq.specs.Mutates.{Mutates, at}
 use Rattle.af_link.specs.Names.{IsStreamOf}
 use Rattle.af_link.specs.PipeEnds.{InSide, in_made}
@@ -23,16 +23,13 @@ pub record IsReady (links : Links) (frames : ℕ) (m : Mutates ServerState Strea
   pub idle : m.editing ≡ false
   pub report : r.cell ≡ links.report.now
 
--- each client was made with the block of its place, and is in order
-abbrev pub IsClientOf : Made → ClientState → Type 0
-IsClientOf block c = (client_made c.pass ≡ block) × IsClientInOrder c
-
+-- each client is of the block of its place
 abbrev pub AreClientsOf : List Made → List ClientState → Type 0
 AreClientsOf = AllZip IsClientOf
 
--- a block with a client and a server that were made with it, and are in order
+-- a block with its client and its server
 abbrev pub IsLine : Made × ClientState × ServerState → Type 0
-IsLine l = IsClientOf l.0 l.1 × (server_made l.2.pass ≡ l.0) × IsServerInOrder l.2
+IsLine l = IsClientOf l.0 l.1 × IsServerOf l.0 l.2
 
 -- each server belongs to the track of its place, from i on
 abbrev pub AreStreamsOf : List Made → ℕ → List ServerState → Type 0

@@ -3,7 +3,8 @@ ghost use Rattle.std.specs.Prelude.{◌≡◌, ◌<◌, [], ◌∷◌};
 ghost use Rattle.af_cblk.specs.Sides.{hand_made};
 ghost use Rattle.af_link.specs.PipeEnds.{in_made};
 ghost use Rattle.af_fast.specs.Mixer.{IsInOrder, IsLinked};
-ghost use Rattle.af_fast.specs.Ready.{IsClientOf, IsReady};
+ghost use Rattle.af_client.specs.Order.{IsClientOf};
+ghost use Rattle.af_fast.specs.Ready.{IsReady};
 
 use crate::FastMixer;
 use crate::tests::{Ends, attach, begin, push_command, turn};

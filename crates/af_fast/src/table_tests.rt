@@ -1,12 +1,9 @@
 //! One driver for the tests by calls: a table of steps, with what each of them tells.
-ghost use Rattle.std.specs.Prelude.{◌≡◌, ◌+◌, ◌<◌, ◌≤◌, ◌^◌, IfOk, IfSome, length, slice_set, None, Some};
-ghost use Rattle.std.specs.List.{AllZip};
-ghost use Rattle.af_cblk.specs.Sides.{client_made, server_made};
-ghost use Rattle.af_client.specs.Order.{IsInOrder as IsClientInOrder};
-ghost use Rattle.af_server.specs.Order.{IsInOrder as IsServerInOrder};
+ghost use Rattle.std.specs.Prelude.{◌≡◌, ◌+◌, ◌<◌, ◌≤◌, ◌^◌, IfOk, IfSome, length, false};
+ghost use Rattle.af_client.specs.Order.{IsClientOf};
 ghost use Rattle.af_link.specs.Names.{IsStreamOf};
 ghost use Rattle.af_link.specs.PipeEnds.{in_made};
-ghost use Rattle.af_fast.specs.Ready.{AreClientsOf, AreWaiting, IsTable};
+ghost use Rattle.af_fast.specs.Ready.{AreClientsOf, AreWaiting, IsLine, IsTable};
 
 use crate::tests::{Ends, Pushing, Turned, attach, begin, detach, log_is, push_command, turn};
 use af_base::{Command, CycleEntry, Frame, Memory, Push, Steps};
@@ -93,10 +90,8 @@ fn client_does<L: Ledger>(
     step: Step,
     steps: &mut Steps<L>,
 ) -> Told
-    requires made { client_made client.old.pass ≡ block.now }
-    requires order { IsClientInOrder client.old }
-    ensures made { client_made client.new.pass ≡ block.now }
-    ensures order { IsClientInOrder client.new }
+    requires { IsClientOf block.now client.old }
+    ensures { IsClientOf block.now client.new }
 {
     match step {
         Step::Write { count, .. } if 1 <= count && count <= 6 && client.released() < 1000 => {
@@ -279,8 +274,7 @@ fn play_all<L: Ledger>(
 
 // A block of eight frames with its proxies.
 fn line(alloc: Global) -> Result<(Block, Client, Server), Memory>
-    ensures client { IfOk result (λ r. (client_made r.1.pass ≡ r.0) × IsClientInOrder r.1) }
-    ensures server { IfOk result (λ r. (server_made r.2.pass ≡ r.0) × IsServerInOrder r.2) }
+    ensures { IfOk result IsLine }
 {
     let (block, client, server) = Block::make(alloc, 8, 0)?;
     let client = Client::with(client, &block);

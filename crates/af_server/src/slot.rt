@@ -3,8 +3,7 @@ ghost use Rattle.std.specs.Prelude.{◌≡◌, ◌+◌, ◌<◌, ◌≤◌, ◌^
 ghost use Rattle.af_base.specs.Log.{count_seen};
 ghost use Rattle.af_model.specs.Cycles.{after_look, place_of, tally};
 ghost use Rattle.af_model.specs.ServerCalls.{shown_by};
-ghost use Rattle.af_cblk.specs.Sides.{server_made};
-ghost use Rattle.af_server.specs.Order.{IsInOrder};
+ghost use Rattle.af_server.specs.Order.{IsServerOf};
 ghost use Rattle.af_server.specs.Looks.{WithinAsk};
 ghost use Rattle.af_server.specs.Slot.{HasDone, Plays};
 
@@ -26,11 +25,9 @@ pub fn place_of(place: usize, seen: Seen) -> usize
 impl Server {
     // Tallies missing frames, where there are some.
     fn tally_some<L: Ledger>(&mut self, block: &Block, missing: usize, steps: &mut Steps<L>)
-        requires made { server_made self.old.pass ≡ block.now }
-        requires order { IsInOrder self.old }
+        requires ready { IsServerOf block.now self.old }
         requires few { missing < 2 ^ 32 }
-        ensures made { server_made self.new.pass ≡ block.now }
-        ensures order { IsInOrder self.new }
+        ensures ready { IsServerOf block.now self.new }
         ensures list { HasDone self.old (tally missing) [] self.new }
         ensures steps { steps.new ≡ steps.old + length (tally missing) }
     {
@@ -48,13 +45,11 @@ impl Server {
         buffer: &mut [Frame],
         steps: &mut Steps<L>,
     )
-        requires made { server_made self.old.pass ≡ block.now }
-        requires order { IsInOrder self.old }
+        requires ready { IsServerOf block.now self.old }
         requires shown { self.old.shown ≡ shown_by seen }
         requires within { WithinAsk (length buffer.old) seen }
         requires few { length buffer.old < 2 ^ 32 }
-        ensures made { server_made self.new.pass ≡ block.now }
-        ensures order { IsInOrder self.new }
+        ensures ready { IsServerOf block.now self.new }
         ensures list { HasDone self.old (after_look (length buffer.old) was_shut seen) (take (count_seen seen) buffer.new) self.new }
         ensures steps { steps.new ≤ steps.old + length buffer.old + 2 }
     {
@@ -80,11 +75,9 @@ impl Server {
         buffer: &mut [Frame],
         steps: &mut Steps<L>,
     ) -> SlotEntry
-        requires made { server_made self.old.pass ≡ block.now }
-        requires order { IsInOrder self.old }
+        requires ready { IsServerOf block.now self.old }
         requires buffer { (1 ≤ length buffer.old) × (length buffer.old < 2 ^ 32) }
-        ensures made { server_made self.new.pass ≡ block.now }
-        ensures order { IsInOrder self.new }
+        ensures ready { IsServerOf block.now self.new }
         ensures plays { Plays (length buffer.old) place self.old buffer.new result self.new }
         ensures steps { steps.new ≤ steps.old + length buffer.old + 7 }
     {

@@ -1,6 +1,7 @@
-use Rattle.std.proofs.Common.{◌∙◌, sym, arith}
+use Rattle.std.proofs.Common.{◌≡◌, ◌∙◌, sym, subst, arith}
 use Rattle.std.proofs.lemmas.Slice.Zip.{AllZip-long}
-use Rattle.af_fast.specs.Ready.{IsClientOf}
+use Rattle.af_cblk.specs.Sides.{Made}
+use Rattle.af_client.specs.Order.{IsClientOf}
 use Rattle.af_fast.proofs.Zips.{zip_at, zip_set}
 use Rattle.af_fast.proofs.table_tests.track_does.Goals as goal
 
@@ -10,7 +11,9 @@ bounds-clients-track g c = omega (arith, AllZip-long IsClientOf c.args.streams.n
 pub client_does-requires : goal.client_does-requires
 client_does-requires g c =
     let is = zip_at IsClientOf c.args.streams.now c.args.clients.now c.args.track c.index-streams-track.result c.index-clients-track.result c.requires (omega arith) in
-    record { made = is.0 ∙ sym c.index-streams-track.is; order = is.1 }
+    (is.0 ∙ sym c.index-streams-track.is, is.1)
 
 pub returns : goal.returns
-returns g c = zip_set IsClientOf c.args.streams.now c.args.clients.now c.args.track c.index-streams-track.result c.client_does.new.client c.requires (c.client_does.ensures.made ∙ c.index-streams-track.is, c.client_does.ensures.order)
+returns g c =
+    zip_set IsClientOf c.args.streams.now c.args.clients.now c.args.track c.index-streams-track.result c.client_does.new.client c.requires
+    (c.client_does.ensures.0 ∙ c.index-streams-track.is, c.client_does.ensures.1)
