@@ -37,8 +37,8 @@ AreStreamsOf blocks i [] = Unit {0}
 AreStreamsOf blocks i (s ∷ ss) = IsStreamOf blocks i s × AreStreamsOf blocks (suc i) ss
 
 -- the proxies that no slot has, each of the track of its place
-abbrev pub AreWaiting : List Made → List (Option ServerState) → Type 0
-AreWaiting blocks servers = (i : ℕ) (s : ServerState) → at servers i ≡ Some s → IsStreamOf blocks i s
+pub record AreWaiting (blocks : List Made) (servers : List (Option ServerState)) : Type 0 where
+  pub each : (i : ℕ) (s : ServerState) → at servers i ≡ Some s → IsStreamOf blocks i s
 
 -- the ends, the clients and the waiting proxies are of these links, and there were no more pushes than were counted
 pub record IsTable (links : Links) (m : Mutates ServerState StreamNames) (f : MixerState) (r : ReaderSide) (p : InSide) (clients : List ClientState) (servers : List (Option ServerState)) (pushes : ℕ) : Type 0 where
