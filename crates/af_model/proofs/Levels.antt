@@ -1,13 +1,13 @@
 -- From the places where walks of one length end to those of the next.
-use Rattle.std.proofs.Common.{◌≡◌, ◌⊎◌, ℕ, ◌+◌, ◌<◌, ◌≤◌, List, [], ◌∷◌, ◌++◌, length, take, drop, get_or, Option, Some, None, Bool, true, false, cond, ◌==◌, refl, ap, ◌∙◌, sym, subst, inl, inr, arith}
+use Rattle.std.proofs.Common.{◌≡◌, ◌⊎◌, ℕ, ◌+◌, ◌<◌, ◌≤◌, List, [], ◌∷◌, ◌++◌, length, take, get_or, Option, Some, None, Bool, true, false, cond, ◌==◌, refl, ap, ◌∙◌, sym, subst, inl, inr, arith}
 use Rattle.std.specs.Option.{option_and_then, IfSome}
 use Rattle.std.specs.List.{Contains, All}
 use Rattle.std.proofs.lemmas.Option.{option_and_then_some, same_Some, MatchOption-at_some}
-use Rattle.std.proofs.lemmas.List.{take_more, take-append-drop}
-use Rattle.std.proofs.lemmas.List.Elements.{Contains-get_or, Contains-append_left, Contains-append_right, Contains-push, Contains-push_cases, All-contains}
+use Rattle.std.proofs.lemmas.List.{take_more}
+use Rattle.std.proofs.lemmas.List.Elements.{Contains-get_or, Contains-append_left, Contains-push, Contains-push_cases, All-contains}
 use Rattle.std.proofs.lemmas.Bool.{cases_lt}
 use Rattle.std.proofs.lemmas.Bool.Decides.{nat_tests}
-use Rattle.af_model.specs.Walks.{walk, IsNext, IsLevel, IsFoundBelow, IsReached, Collects, Adds, Spreads}
+use Rattle.af_model.specs.Walks.{walk, IsNext, IsLevel, IsFoundBelow, IsReached, Collects, Adds, Spreads, HasSame}
 
 -- one step more at the end of a walk
 pub walk-push : {W M : Type 0} (step : W → M → Option M) (ws : List W) (w : W) (start m n : M)
@@ -138,12 +138,6 @@ found-all step size Counts starts found n short below = record {
   complete = λ s ws m c e k. below.complete s ws m c e (short s ws m c e) k;
 }
 
-pub next-none : {W M : Type 0} (step : W → M → Option M) (now : List M) → IsNext step (take 0 now) []
-next-none step now = record {
-  sound = λ n c. absurd (omega (arith, c.1));
-  complete = λ w m n c e. absurd (omega (arith, c.1));
-}
-
 -- what one place of now leads to is added
 pub next-more : {W M : Type 0} (step : W → M → Option M) (now old new : List M) (i : ℕ) (m d : M)
     → i < length now → m ≡ get_or now i d → IsNext step (take i now) old → Spreads step m old new → IsNext step (take (i + 1) now) new
@@ -181,13 +175,6 @@ pub All-from_adds : {M : Type 0} (P : M → Type 0) (old : List M) (found : Opti
 All-from_adds P old found new adds here all =
     All-added P old new (λ x. found ≡ Some x) adds.only (λ x e. MatchOption-at_some _ P x e here) all
 
-pub collects-none : {M : Type 0} (Counts : M → Type 0) (now old : List M) → Collects Counts (take 0 now) old old
-collects-none Counts now old = record {
-  keeps = λ x c. c;
-  has = λ x c k. absurd (omega (arith, c.1));
-  only = λ x c. inl c;
-}
-
 chosen : {M : Type 0} (b : Bool) (m x : M) → cond b (Some m) None ≡ Some x → m ≡ x
 chosen true m x e = same_Some _ _ e
 chosen false m x e = cc
@@ -214,11 +201,16 @@ collects-more test now old mid new i m d h at collects adds =
           ];
     }
 
+-- the same places make the same level
+pub level-same : {W M : Type 0} (step : W → M → Option M) (size : M → ℕ) (starts now new : List M) (n : ℕ) → IsLevel step size starts n now → HasSame now new → IsLevel step size starts n new
+level-same step size starts now new n level same = record {
+  sound = λ m c. level.sound m (same.only m c);
+  complete = λ s ws m c e k. same.keeps m (level.complete s ws m c e k);
+}
+
+pub All-same : {M : Type 0} (P : M → Type 0) (old new : List M) → HasSame old new → All P old → All P new
+All-same P old new same all k d h = All-contains P old _ all (same.only (get_or new k d) (Contains-get_or new k d h))
+
 pub no_items : {X : Type 0} (xs : List X) → length xs ≡ 0 → xs ≡ []
 no_items [] h = refl
 no_items (x ∷ xs) h = absurd (omega arith)
-
--- an element of the end of a list
-pub contains_drop : {X : Type 0} (n : ℕ) (xs ys : List X) (x : X) → ys ≡ drop n xs → Contains ys x → Contains xs x
-contains_drop n xs ys x e c =
-    subst (λ zs. Contains zs x) (take-append-drop n xs) (Contains-append_right (take n xs) (drop n xs) x (subst (λ zs. Contains zs x) e c))

@@ -42,10 +42,6 @@ far_met : (known place i k : ℕ) → place + 1 < k → ((nat_le k (place + 1) |
     → ((nat_le (k + 1) (place + 1) || nat_le known i) && (nat_le i known || nat_le place (k + 1))) ≡ true
 far_met known place i k h e = grind (arith, nat_tests)
 
-near_met : (known place i : ℕ) → ((nat_le (place + 1) (place + 1) || nat_le known i) && (nat_le i known || nat_le place (place + 1))) ≡ true
-    → ((nat_le (place + 1 + 1) (place + 1) || nat_le known i) && (nat_le i known || nat_le place (place + 1 + 1))) ≡ nat_le known i
-near_met known place i e = grind (arith, nat_tests)
-
 past_met : (known place i k : ℕ) → k ≤ place → ((nat_le k (place + 1) || nat_le known i) && (nat_le i known || nat_le place k)) ≡ true
     → ((nat_le (k + 1) (place + 1) || nat_le known i) && (nat_le i known || nat_le place (k + 1))) ≡ true
 past_met known place i k h e = grind (arith, nat_tests)

@@ -1,22 +1,12 @@
 //! The mix of one entry of a log.
 ghost use Rattle.std.specs.Prelude.{◌≡◌, ◌<◌, ◌&&◌, ◌==◌, true, map, length, take, drop};
 ghost use Rattle.std.specs.Int.{bit_at};
-ghost use Rattle.af_base.specs.Log.{slots, entry_at, slot_take, takes_of, count_seen};
+ghost use Rattle.af_base.specs.Log.{slots, entry_at, slot_take, takes_of};
 ghost use Rattle.af_base.specs.Mix.{mix};
 ghost use Rattle.af_base.specs.Part.{take_of};
 ghost use Rattle.af_model.specs.Cycles.{is_mixed};
 
-use af_base::{CycleEntry, FastLog, Frame, Part, SLOTS, Seen, plain_frame};
-
-// How many frames a look showed.
-fn count_of(seen: Seen) -> usize
-    ensures { result ≡ count_seen seen }
-{
-    match seen {
-        Seen::Frames { count } => count as usize,
-        _ => 0,
-    }
-}
+use af_base::{CycleEntry, FastLog, Frame, Part, SLOTS, plain_frame};
 
 // So many frames from a place on, or as many of them as there are.
 fn frames_from(frames: &[Frame], first: usize, count: usize) -> &[Frame]
@@ -33,7 +23,7 @@ fn slot_part<'a>(frames: &'a [Frame], entry: &CycleEntry, slot: usize) -> Part<'
 {
     let seen = entry.slots[slot];
     Part {
-        frames: frames_from(frames, seen.first, count_of(seen.seen)),
+        frames: frames_from(frames, seen.first, seen.seen.count() as usize),
         mono: (entry.mono >> slot) & 1 == 1,
         gains: seen.gains,
         scale: entry.scales[slot],

@@ -8,7 +8,9 @@ ghost use Rattle.af_model.specs.Merges.{IsStart};
 
 use crate::events::Events;
 use crate::point::TrackPoint;
-use crate::search::{Stage, add, advance, event_at, has_whole, is_known, names_each, rises};
+use crate::search::{
+    Stage, add, advance, event_at, has_whole, is_known, leave_one_of_each, names_each, rises,
+};
 use af_base::{ClientEvent, HandEvent, ServerEvent};
 use std::alloc::{AllocError, Global};
 
@@ -132,6 +134,7 @@ fn settle(alloc: Global, events: &Events<'_>, starts: &[Stage]) -> Result<Vec<St
         collect(events, &now, &mut found)?;
         now = advance(alloc, events, &now)?;
         join(events, starts, level + 1, &mut now)?;
+        leave_one_of_each(&mut now);
     }
     Ok(found)
 }

@@ -1,5 +1,5 @@
 /// Where a block stands after some events. The numbers are those of frames, flushes and bits, and not words: positions never wrap.
-#[derive(Clone, Copy, PartialEq, Eq, Debug)]
+#[derive(Clone, Copy, PartialEq, Eq, PartialOrd, Ord, Debug)]
 pub struct TrackPoint {
     /// The position after the last frame that the client released: the base plus the number of frames.
     pub released: u64,

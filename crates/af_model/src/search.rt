@@ -1,7 +1,7 @@
 //! The search for a legal order of three lists of events, event by event.
 ghost use Rattle.std.specs.Prelude.{◌≡◌, ◌+◌, ◌*◌, ◌<◌, ◌≤◌, ◌^◌, ◌↔◌, IfOk, IfSome, IsTrue, OnOk, All, Contains, Some, None, true, if◌then◌else◌, slice_get, drop, length};
 ghost use Rattle.af_model.specs.MergeSteps.{HasRoom};
-ghost use Rattle.af_model.specs.Walks.{IsNext, Adds, Spreads};
+ghost use Rattle.af_model.specs.Walks.{IsNext, Adds, Spreads, HasSame};
 ghost use Rattle.af_model.specs.MergePieces.{names_at_least};
 ghost use Rattle.af_model.specs.Rising.{rises_from, first_names};
 ghost use Rattle.af_model.specs.Stages.{Client, Server, Hand, keeps_mets, known_by, move, eager, takes_met, is_met, begin, lists_of, IsWhole, InBounds, AreShortLists};
@@ -13,12 +13,12 @@ use af_base::{ClientEvent, HandEvent, ServerEvent};
 use std::alloc::{AllocError, Global};
 
 /// A stage in an order of three lists: the point, and how many events of each list have stood.
-#[derive(Clone, Copy, Debug, PartialEq, Eq)]
+#[derive(Clone, Copy, Debug, PartialEq, Eq, PartialOrd, Ord)]
 pub(crate) struct Stage {
-    pub point: TrackPoint,
     pub clients: usize,
     pub servers: usize,
     pub hands: usize,
+    pub point: TrackPoint,
 }
 
 /// Whether each Met names no fewer client events than the Met before it.
@@ -178,30 +178,22 @@ fn hand_move(events: &Events<'_>, stage: &Stage) -> Option<Stage>
     )
 }
 
-fn has(found: &[Stage], stage: &Stage) -> bool
-    ensures { IsTrue result → Contains found.now stage.now }
-{
-    found.contains(stage)
-}
-
-/// Whether it is one of the last 32. That serves speed alone.
-fn has_recent(found: &[Stage], stage: &Stage) -> bool
-    ensures { IsTrue result → Contains found.now stage.now }
-{
-    let (_, recent) = found.split_at(found.len().saturating_sub(32));
-    has(recent, stage)
-}
-
 pub(crate) fn add(found: &mut Vec<Stage>, stage: Option<Stage>) -> Result<(), AllocError>
     ensures { OnOk result (Adds found.old.items stage found.new.items) }
 {
     let Some(stage) = stage else {
         return Ok(());
     };
-    if !has_recent(found, &stage) {
-        found.push(stage)?;
-    }
+    found.push(stage)?;
     Ok(())
+}
+
+/// Leaves one of those that are equal. So a level costs what its different stages cost.
+pub(crate) fn leave_one_of_each(stages: &mut Vec<Stage>)
+    ensures { HasSame stages.old.items stages.new.items }
+{
+    stages.sort_unstable();
+    stages.dedup();
 }
 
 /// Whether the hand's next event is a Met that may stand here.

@@ -1,13 +1,10 @@
 //! One event of a block's history as a step of a search.
-ghost use Rattle.std.specs.Prelude.{◌≡◌, IfSome, if◌then◌else◌, Some, None};
+ghost use Rattle.std.specs.Prelude.{◌≡◌, bit_or, IfSome, if◌then◌else◌, Some, None};
 ghost use Rattle.af_model.specs.Point.{wrapped, after_hand as after_hand_event};
 ghost use Rattle.af_model.specs.MergeSteps.{HasRoom, ClientGrows, ServerGrows, client_step, server_step};
 
 use crate::point::TrackPoint;
-use af_base::{ClientEvent, HandEvent, ServerEvent};
-
-/// The flag that says that the block is dead.
-const INVALID: u32 = 4;
+use af_base::{ClientEvent, DISABLED, HandEvent, INVALID, ServerEvent};
 
 fn wrapped_word(x: u64) -> u32
     ensures { result ≡ wrapped x }
@@ -19,6 +16,21 @@ fn when(legal: bool, point: TrackPoint) -> Option<TrackPoint>
     ensures { result ≡ (if legal then Some point else None) }
 {
     if legal { Some(point) } else { None }
+}
+
+fn with_consumed(point: &TrackPoint, consumed: u64) -> TrackPoint
+    ensures { result ≡ record point.now { consumed = consumed } }
+{
+    TrackPoint { consumed, ..*point }
+}
+
+fn with_flags(point: &TrackPoint, bits: u32) -> TrackPoint
+    ensures { result ≡ record point.now { flags = bit_or point.now.flags bits } }
+{
+    TrackPoint {
+        flags: point.flags | bits,
+        ..*point
+    }
 }
 
 /// The point after a client's event, where it is legal. That many events of the server stand before it.
@@ -48,7 +60,7 @@ pub(crate) fn after_client(
         ClientEvent::ClearFlags { old } => when(
             old == point.flags,
             TrackPoint {
-                flags: point.flags & 0xffff_fff7,
+                flags: point.flags & !DISABLED,
                 ..*point
             },
         ),
@@ -96,26 +108,17 @@ pub(crate) fn after_server(
         ServerEvent::SawFront { front } => when(front == wrapped_word(point.consumed), *point),
         ServerEvent::Drop { to } => when(
             to == wrapped_word(point.rear_seen),
-            TrackPoint {
-                consumed: point.rear_seen,
-                ..*point
-            },
+            with_consumed(point, point.rear_seen),
         ),
         ServerEvent::Take { count } => {
             let consumed = point.consumed + u64::from(count);
-            when(
-                consumed <= point.rear_seen,
-                TrackPoint { consumed, ..*point },
-            )
+            when(consumed <= point.rear_seen, with_consumed(point, consumed))
         }
         ServerEvent::Tally { missing } => Some(TrackPoint {
             underruns: point.underruns.wrapping_add(missing),
             ..*point
         }),
-        ServerEvent::SetFlags { bits } => Some(TrackPoint {
-            flags: point.flags | bits,
-            ..*point
-        }),
+        ServerEvent::SetFlags { bits } => Some(with_flags(point, bits)),
         ServerEvent::SetStatus { word } => Some(TrackPoint {
             status: word,
             ..*point
@@ -129,10 +132,7 @@ pub(crate) fn after_hand(point: &TrackPoint, event: &HandEvent) -> TrackPoint
     ensures { result ≡ after_hand_event point.now event.now }
 {
     match *event {
-        HandEvent::SetFlags { bits } => TrackPoint {
-            flags: point.flags | bits,
-            ..*point
-        },
+        HandEvent::SetFlags { bits } => with_flags(point, bits),
         HandEvent::Met { .. } => *point,
     }
 }

@@ -61,7 +61,10 @@ abbrev pub playables : List TrackSpec → Result (List Playable) Refusal
 playables [] = Ok []
 playables (track ∷ tracks) = ok_or (written_of track) Unbuilt >>= (λ written. then_cons (playable_with track written) (playables tracks))
 
--- the limits of a file and of all files, in bytes
+-- the limits of a script, of a file and of all files, in bytes
+abbrev pub most_script : ℕ
+most_script = 2 ^ 20
+
 abbrev pub most_file : ℕ
 most_file = 2 ^ 23
 
@@ -109,7 +112,7 @@ plan_of files script =
 
 -- what the file of a script plays
 abbrev pub prepared_of : Files → List ℕ → Result Plan Refusal
-prepared_of files name = loaded role.Script (2 ^ 20) (files name) >>= (λ bytes. script_or (script_of bytes) >>= plan_of files)
+prepared_of files name = loaded role.Script most_script (files name) >>= (λ bytes. script_or (script_of bytes) >>= plan_of files)
 
 -- what the words ask for: the output's name and the plan
 abbrev pub asked_of : Files → List (List ℕ) → Result (List ℕ × Plan) Refusal

@@ -3,7 +3,9 @@ use crate::status::Status;
 use crate::words::names_of;
 use af_io::{MemSink, MemStore, NoGate};
 use std::alloc::Global;
+use std::process::Abort;
 use std::test::Fail;
+use std::thread::Threads;
 
 /// Two frames of one stereo track in one cycle.
 const ONE: &str =
@@ -70,12 +72,14 @@ fn each_call_fails_in_turn(rt: HostRuntime) -> Result<(), Fail> {
 fn refusals_print_their_lines(rt: HostRuntime) -> Result<(), Fail> {
     let alloc = rt.alloc();
     let words = first_words(alloc)?;
-    for (script, length, status, line) in [
-        (Some(ONE), 7, 4, "file: track 0 ragged 7\n"),
-        (Some(ONE), 4, 4, "file: track 0 short 1 2\n"),
-        (None, 8, 4, "file: script missing\n"),
-        (Some("= 1"), 8, 3, "script: toml\n"),
-        (Some(IDLE), 8, 9, "unbuilt\n"),
+    for (given, script, length, status, line) in [
+        (3, Some(ONE), 7, 4, "file: track 0 ragged 7\n"),
+        (3, Some(ONE), 4, 4, "file: track 0 short 1 2\n"),
+        (3, None, 8, 4, "file: script missing\n"),
+        (3, Some("= 1"), 8, 3, "script: toml\n"),
+        (3, Some(IDLE), 8, 9, "unbuilt\n"),
+        (2, Some(ONE), 8, 2, "usage: render SCRIPT OUT\n"),
+        (0, Some(ONE), 8, 2, "usage: render SCRIPT OUT\n"),
     ] {
         let mut store = MemStore::new(alloc, Vec::new(alloc));
         if let Some(text) = script {
@@ -83,10 +87,188 @@ fn refusals_print_their_lines(rt: HostRuntime) -> Result<(), Fail> {
         }
         store.put("tone.pcm", TONE.as_slice().get(..length).unwrap_or(&[]))?;
         let mut out = MemSink::new(alloc, Vec::new(alloc));
-        let ended = run(&rt, alloc, &words, &mut store, &mut out, &NoGate);
+        let words = words.get(..given).unwrap_or(&[]);
+        let ended = run(&rt, alloc, words, &mut store, &mut out, &NoGate);
         assert_eq!(rt; ended.code(), status, "{line}");
         assert_eq!(rt; out.bytes(), line.as_bytes(), "{line}");
         assert!(rt; store.file("out.pcm").is_none(), "{line}");
+    }
+    Ok(())
+}
+
+/// A track of a worked case: its channels, its key of scale, its op of gain, and the samples that its client writes.
+#[derive(Clone, Copy)]
+struct Voice<'a> {
+    channels: u32,
+    scale: &'a str,
+    gain: &'a str,
+    count: u32,
+    bytes: &'a [u8],
+}
+
+/// The turns of clients in order.
+fn client_turns(alloc: Global, count: usize) -> Result<String, Fail> {
+    let mut text = String::new(alloc);
+    for number in 0..count {
+        text.push_str(format!(in alloc; "\"c {number}\", ")?.as_str())?;
+    }
+    Ok(text)
+}
+
+/// The script of some tracks, in one cycle of two frames.
+fn script_of(alloc: Global, voices: &[Voice<'_>]) -> Result<String, Fail> {
+    let clients = client_turns(alloc, voices.len())?;
+    let mut text = format!(in alloc;
+        "version = 1\nframes = 2\nnormal = 1\ncycles = 100\nturns = [{clients}\"n\", {clients}\"f 1\"]\n"
+    )?;
+    for (number, voice) in voices.iter().enumerate() {
+        let table = format!(in alloc;
+            "[[track]]\nkind = \"fast\"\nframes = 8\nchannels = {}\nfile = \"t{number}.pcm\"\n{}ops = [\"open\", \"start\", {}\"write {}\"]\n",
+            voice.channels, voice.scale, voice.gain, voice.count
+        )?;
+        text.push_str(table.as_str())?;
+    }
+    Ok(text)
+}
+
+/// A store with the script and the files of some tracks.
+fn store_of(alloc: Global, voices: &[Voice<'_>]) -> Result<MemStore, Fail> {
+    let mut store = MemStore::new(alloc, Vec::new(alloc));
+    store.put("one.toml", script_of(alloc, voices)?.as_str().as_bytes())?;
+    for (number, voice) in voices.iter().enumerate() {
+        store.put(format!(in alloc; "t{number}.pcm")?.as_str(), voice.bytes)?;
+    }
+    Ok(store)
+}
+
+/// The output of some tracks, and the line without its line feed.
+fn expect_mix<R: Threads + Sync + Abort>(
+    rt: &R,
+    alloc: Global,
+    voices: &[Voice<'_>],
+    want: [u8; 8],
+    line: &str,
+) -> Result<(), Fail> {
+    let mut store = store_of(alloc, voices)?;
+    let mut out = MemSink::new(alloc, Vec::new(alloc));
+    let words = first_words(alloc)?;
+    let status = run(rt, alloc, &words, &mut store, &mut out, &NoGate);
+    assert_eq!(rt; status, Status::Done, "{line}");
+    assert_eq!(rt;
+        store.file("out.pcm").ok_or("no file")?,
+        want.as_slice(),
+        "{line}"
+    );
+    assert_eq!(rt; out.bytes().trim_ascii_end(), line.as_bytes(), "{line}");
+    Ok(())
+}
+
+/// A track of one channel or two at unity.
+fn plain(channels: u32, count: u32, bytes: &[u8]) -> Voice<'_> {
+    Voice {
+        channels,
+        scale: "",
+        gain: "",
+        count,
+        bytes,
+    }
+}
+
+/// Several tracks: their sum, clamped once, and silence where one has no frame left.
+#[test]
+fn tracks_are_added(rt: HostRuntime) -> Result<(), Fail> {
+    let loud = [0xff, 0x7f, 0x00, 0x80];
+    let turned = [0x01, 0x80, 0, 0];
+    expect_mix(
+        &rt,
+        rt.alloc(),
+        &[plain(2, 2, &TONE), plain(2, 1, &loud)],
+        [0xff, 0x7f, 0x00, 0x80, 0xd0, 7, 0x30, 0xf8],
+        "cycles 1 mixed 3 dropped 0 queued 0 peak 32768",
+    )?;
+    expect_mix(
+        &rt,
+        rt.alloc(),
+        &[plain(2, 1, &loud), plain(2, 1, &loud), plain(2, 1, &turned)],
+        [0xff, 0x7f, 0x00, 0x80, 0, 0, 0, 0],
+        "cycles 1 mixed 3 dropped 0 queued 0 peak 32768",
+    )?;
+    let one = [0xe8, 3];
+    expect_mix(
+        &rt,
+        rt.alloc(),
+        &[
+            plain(1, 1, &one),
+            plain(1, 1, &one),
+            plain(1, 1, &one),
+            plain(1, 1, &one),
+            plain(1, 1, &one),
+            plain(1, 1, &one),
+            plain(1, 1, &one),
+        ],
+        [0x58, 0x1b, 0x58, 0x1b, 0, 0, 0, 0],
+        "cycles 1 mixed 7 dropped 0 queued 0 peak 7000",
+    )
+}
+
+/// Gains above unity count as unity, a scale turns a gain down, halves are rounded down, and mono has two gains.
+#[test]
+fn gains_are_applied(rt: HostRuntime) -> Result<(), Fail> {
+    for (channels, scale, gain, count, bytes, want, line) in [
+        (
+            2,
+            "",
+            "\"gain 4097 65535\", ",
+            2,
+            TONE,
+            TONE,
+            "cycles 1 mixed 2 dropped 0 queued 0 peak 2000",
+        ),
+        (
+            2,
+            "scale = 2048\n",
+            "",
+            2,
+            TONE,
+            [0xf4, 1, 0x0c, 0xfe, 0xe8, 3, 0x18, 0xfc],
+            "cycles 1 mixed 2 dropped 0 queued 0 peak 1000",
+        ),
+        (
+            2,
+            "",
+            "\"gain 2048 2048\", ",
+            1,
+            [1, 0, 0xff, 0xff, 0, 0, 0, 0],
+            [0, 0, 0xff, 0xff, 0, 0, 0, 0],
+            "cycles 1 mixed 1 dropped 0 queued 0 peak 1",
+        ),
+        (
+            1,
+            "",
+            "\"gain 4096 2048\", ",
+            2,
+            [1, 0, 0xfe, 0xff, 0, 0, 0, 0],
+            [1, 0, 0, 0, 0xfe, 0xff, 0xff, 0xff],
+            "cycles 1 mixed 2 dropped 0 queued 0 peak 2",
+        ),
+        (
+            1,
+            "",
+            "",
+            3,
+            [1, 0, 2, 0, 3, 0, 0, 0],
+            [1, 0, 1, 0, 2, 0, 2, 0],
+            "cycles 1 mixed 2 dropped 0 queued 1 peak 2",
+        ),
+    ] {
+        let voice = Voice {
+            channels,
+            scale,
+            gain,
+            count,
+            bytes: &bytes,
+        };
+        expect_mix(&rt, rt.alloc(), &[voice], want, line)?;
     }
     Ok(())
 }

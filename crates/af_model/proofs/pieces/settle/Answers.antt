@@ -3,7 +3,7 @@ use Rattle.af_model.specs.declared.search.Stage.{Stage}
 use Rattle.af_model.specs.Walks.{Collects, IsNext, IsFoundBelow}
 use Rattle.af_model.specs.Stages.{lists_of, eager, InBounds, HasCount, count, total}
 use Rattle.af_model.specs.MergePieces.{IsOpen}
-use Rattle.af_model.proofs.Levels.{level-first, level-more, found-none, found-more, found-all, All-collected}
+use Rattle.af_model.proofs.Levels.{level-first, level-more, level-same, All-same, found-none, found-more, found-all, All-collected}
 use Rattle.af_model.proofs.StageCounts.{count-eager, count-short}
 use Rattle.af_model.proofs.pieces.settle.Goals as goal
 
@@ -30,9 +30,12 @@ loop-level-preserved c =
     let next = subst (λ (xs : List Stage). IsNext (eager l) xs c.in_ok-now.now.items) c.deref-in-loop-level.ensures.value c.in_ok-now.ensures.next in
     let collects = subst (λ (xs : List Stage). Collects (IsOpen l) xs c.loop-level.found.items c.collect.new.found.items) c.deref.ensures.value c.in_ok-collect.ensures in
     record {
-      level = level-more (eager l) count starts c.loop-level.now.items c.in_ok-now.now.items c.join-in-loop-level.new.now.items n (count-eager l) c.loop-level.invariant.level next c.in_ok-join-2.ensures;
+      level = level-same (eager l) count starts c.join-in-loop-level.new.now.items _ (n + 1)
+          (level-more (eager l) count starts c.loop-level.now.items c.in_ok-now.now.items c.join-in-loop-level.new.now.items n (count-eager l) c.loop-level.invariant.level next c.in_ok-join-2.ensures)
+          c.leave_one_of_each.ensures;
       found = found-more (eager l) count (IsOpen l) starts c.loop-level.now.items c.loop-level.found.items c.collect.new.found.items n c.loop-level.invariant.level c.loop-level.invariant.found collects;
-      bounds = All-collected (InBounds l) (HasCount (n + 1)) starts c.in_ok-now.now.items c.join-in-loop-level.new.now.items c.in_ok-join-2.ensures c.requires.bounds c.in_ok-now.ensures.bounds;
+      bounds = All-same (InBounds l) c.join-in-loop-level.new.now.items _ c.leave_one_of_each.ensures
+          (All-collected (InBounds l) (HasCount (n + 1)) starts c.in_ok-now.now.items c.join-in-loop-level.new.now.items c.in_ok-join-2.ensures c.requires.bounds c.in_ok-now.ensures.bounds);
       found_bounds = All-collected (InBounds l) (IsOpen l) c.loop-level.now.items c.loop-level.found.items c.collect.new.found.items collects c.loop-level.invariant.bounds c.loop-level.invariant.found_bounds;
     }
 

@@ -1,6 +1,6 @@
 use Rattle.std.proofs.Common.{◌≡◌, ◌≤◌, map, drop, All, length}
 use Rattle.af_io.specs.Files.{SameFiles}
-use Rattle.af_player.specs.Asked.{tracks_in}
+use Rattle.af_player.specs.Asked.{most_files, tracks_in}
 use Rattle.af_player.specs.Prepared.{playable_view}
 use Rattle.af_player.specs.Tracks.{track_view, IsReady}
 use Rattle.af_player.proofs.Chains.{behind}
@@ -12,8 +12,8 @@ invariant-loop-number g l = record {
       ≡ behind (map track_view l.tracks.items) (tracks_in (g.S.Store.files l.fn.store) l.number l.total (map playable_view (drop l.number l.list)));
   same : g.S.Store.told l.fn.store → SameFiles (g.S.Store.files l.fn.store) (g.S.Store.files l.store);
   tells : g.S.Store.told l.fn.store → g.S.Store.told l.store;
-  later : g.S.Store.faults l.fn.store ≤ g.S.Store.faults l.store;
-  total : l.total ≤ 16777216;
+  stays : g.S.Store.faults l.store ≡ g.S.Store.faults l.fn.store;
+  total : l.total ≤ most_files;
   ready : All IsReady l.tracks.items;
   count : length l.tracks.items ≡ l.number;
 }
