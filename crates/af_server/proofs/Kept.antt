@@ -25,20 +25,26 @@ new_keeps k s front new =
 pub kept-more : (size base : ℕ) (es more : List ServerEvent) → server_kept size base (es ++ more) ≡ fold (server_keeps size) (server_kept size base es) more
 kept-more size base es more = fold-append (server_keeps size) (server_begins base) es more
 
+-- the list goes on, and gives the kept values of before
+same_values : (s t : ServerPart) (flush front : ℕ) (shown shown' : Option ℕ) (consumed : ℕ) (shut : Option (ℕ × ℕ)) → Keeps s flush front shown consumed shut
+    → kept_of t ≡ kept_of s → (t.flush ≡ s.flush) × (t.noticed ≡ s.noticed) → IsServerList t.shape.frames t.shape.base shown' t.events
+    → MatchOption shown' (Unit {0}) (λ count. IsReady t front count) → Keeps t flush front shown' consumed shut
+same_values s t flush front shown shown' consumed shut k now same list ready =
+    record {
+      spelled = list;
+      flush_is = k.flush_is ∙ sym (ap (λ (x : ServerKept). x.flush) now);
+      seen_is = same.0 ∙ k.seen_is ∙ sym (ap (λ (x : ServerKept). x.flush) now);
+      settled = same.1 ∙ k.settled;
+      consumed_is = k.consumed_is ∙ sym (ap (λ (x : ServerKept). counted x.consumed) now);
+      shut_is = k.shut_is ∙ sym (ap (λ (x : ServerKept). x.shut) now);
+      ready = ready;
+    }
+
 -- an event that changes no kept value
 quiet : (s : ServerPart) (flush front : ℕ) (shown : Option ℕ) (consumed : ℕ) (shut : Option (ℕ × ℕ)) (e : ServerEvent) → Keeps s flush front shown consumed shut
     → server_keeps s.shape.frames (kept_of s) e ≡ kept_of s → IsServerList s.shape.frames s.shape.base None (s.events ++ e ∷ []) → Keeps (server_did s e) flush front None consumed shut
 quiet s flush front shown consumed shut e k same list =
-    let now : kept_of (server_did s e) ≡ kept_of s = kept-more s.shape.frames s.shape.base s.events (e ∷ []) ∙ same in
-    record {
-      spelled = list;
-      flush_is = k.flush_is ∙ sym (ap (λ (x : ServerKept). x.flush) now);
-      seen_is = k.seen_is ∙ sym (ap (λ (x : ServerKept). x.flush) now);
-      settled = k.settled;
-      consumed_is = k.consumed_is ∙ sym (ap (λ (x : ServerKept). counted x.consumed) now);
-      shut_is = k.shut_is ∙ sym (ap (λ (x : ServerKept). x.shut) now);
-      ready = tt;
-    }
+    same_values s (server_did s e) flush front shown None consumed shut k (kept-more s.shape.frames s.shape.base s.events (e ∷ []) ∙ same) (refl, refl) list tt
 
 -- a call with one such event, on a value that was opened
 pub word_keeps : (c i : ServerState) (pass : ServerSide) (e : ServerEvent) → IsInOrder c → server_keeps c.pass.part.shape.frames (kept_of c.pass.part) e ≡ kept_of c.pass.part
@@ -60,15 +66,7 @@ tally_keeps c i mid pass missing k some opened first second =
     let kept : kept_of (server_did t (server.SetFlags 1)) ≡ kept_of s =
     kept-more s.shape.frames s.shape.base (s.events ++ server.Tally missing ∷ []) (server.SetFlags 1 ∷ []) ∙ kept-more s.shape.frames s.shape.base s.events (server.Tally missing ∷ []) in
     let done : Keeps (server_did t (server.SetFlags 1)) c.flush c.front None c.consumed c.shut =
-    record {
-      spelled = subst (λ (es : List ServerEvent). IsServerList s.shape.frames s.shape.base None es) (sym same) list;
-      flush_is = k.flush_is ∙ sym (ap (λ (x : ServerKept). x.flush) kept);
-      seen_is = k.seen_is ∙ sym (ap (λ (x : ServerKept). x.flush) kept);
-      settled = k.settled;
-      consumed_is = k.consumed_is ∙ sym (ap (λ (x : ServerKept). counted x.consumed) kept);
-      shut_is = k.shut_is ∙ sym (ap (λ (x : ServerKept). x.shut) kept);
-      ready = tt;
-    } in
+    same_values s (server_did t (server.SetFlags 1)) c.flush c.front c.shown None c.consumed c.shut k kept (refl, refl) (subst (λ (es : List ServerEvent). IsServerList s.shape.frames s.shape.base None es) (sym same) list) tt in
     let there : Keeps (server_did (server_did i.pass.part (server.Tally missing)) (server.SetFlags 1)) i.flush i.front None i.consumed i.shut =
     subst (λ (x : ServerState). Keeps (server_did (server_did x.pass.part (server.Tally missing)) (server.SetFlags 1)) x.flush x.front None x.consumed x.shut) (sym opened) done in
     let parts : pass.part ≡ server_did (server_did i.pass.part (server.Tally missing)) (server.SetFlags 1) =
@@ -96,14 +94,7 @@ still_ready s front (Some count) e r = record { fresh = r.fresh; front_is = r.fr
 pub met_keeps : (s t : ServerPart) (flush front : ℕ) (shown : Option ℕ) (consumed : ℕ) (shut : Option (ℕ × ℕ)) (count : ℕ) → Keeps s flush front shown consumed shut
     → t ≡ server_did s (server.Learn count) → Keeps t flush front shown consumed shut
 met_keeps s t flush front shown consumed shut count k is =
-    let now : kept_of (server_did s (server.Learn count)) ≡ kept_of s = kept-more s.shape.frames s.shape.base s.events (server.Learn count ∷ []) in
-    subst (λ (x : ServerPart). Keeps x flush front shown consumed shut) (sym is) (
-    record {
-      spelled = meets s.events shown count k.spelled;
-      flush_is = k.flush_is ∙ sym (ap (λ (x : ServerKept). x.flush) now);
-      seen_is = k.seen_is ∙ sym (ap (λ (x : ServerKept). x.flush) now);
-      settled = k.settled;
-      consumed_is = k.consumed_is ∙ sym (ap (λ (x : ServerKept). counted x.consumed) now);
-      shut_is = k.shut_is ∙ sym (ap (λ (x : ServerKept). x.shut) now);
-      ready = still_ready s front shown (server.Learn count) k.ready;
-    })
+    let u : ServerPart = server_did s (server.Learn count) in
+    let now : kept_of u ≡ kept_of s = kept-more s.shape.frames s.shape.base s.events (server.Learn count ∷ []) in
+    subst (λ (x : ServerPart). Keeps x flush front shown consumed shut) (sym is)
+    (same_values s u flush front shown shown consumed shut k now (refl, refl) (meets s.events shown count k.spelled) (still_ready s front shown (server.Learn count) k.ready))

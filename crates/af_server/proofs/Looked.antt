@@ -1,5 +1,5 @@
 -- What a look leaves in order.
-use Rattle.std.proofs.Common.{◌≡◌, ◌≢◌, ℕ, ◌+◌, ◌≤◌, min, Bool, true, false, true≢false, not, nat_lt, ◌==◌, ◌||◌, if◌then◌else◌, MatchOption, Option, Some, None, fold, List, [], ◌∷◌, ◌++◌, refl, sym, ap, ◌∙◌, subst, arith, append_assoc, eq-eqb, ne_eqb}
+use Rattle.std.proofs.Common.{◌≡◌, ◌≢◌, ℕ, ◌+◌, ◌≤◌, ◌<◌, min, Bool, true, false, true≢false, not, nat_lt, ◌==◌, ◌||◌, if◌then◌else◌, MatchOption, Option, Some, None, fold, List, [], ◌∷◌, ◌++◌, refl, sym, ap, ◌∙◌, subst, arith, append_assoc, eq-eqb, ne_eqb}
 use Rattle.af_base.specs.declared.event.ServerEvent.{ServerEvent}
 use Rattle.af_base.specs.declared.event.ServerEvent.TheVariants as server
 use Rattle.af_base.specs.declared.seen.Seen.{Seen}
@@ -142,3 +142,7 @@ judge_keeps c d asked flush rear front k unshut some same is flush_is front_is s
 pub shut_outside : (c : ServerState) → IsInOrder c → LieOutside c.pass.part.shape.frames c.shut
 shut_outside c k =
     subst (λ (o : Option (ℕ × ℕ)). LieOutside c.pass.part.shape.frames o) (sym k.shut_is) (server_outside c.pass.part.shape.frames (server_begins c.pass.part.shape.base) c.pass.part.events tt)
+
+-- the words of a Shut answer, which shut the proxy, do not fit the block
+pub answer_outside : (d : ServerState) (front rear : ℕ) → IsInOrder d → d.shut ≡ Some (front, rear) → d.pass.part.shape.frames < ahead front rear
+answer_outside d front rear k shut = subst (λ (o : Option (ℕ × ℕ)). LieOutside d.pass.part.shape.frames o) shut (shut_outside d k)
