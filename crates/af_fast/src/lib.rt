@@ -15,9 +15,17 @@ pub use mixer::FastMixer;
 #[cfg(test)]
 mod call_tests;
 #[cfg(test)]
+mod latest_tests;
+#[cfg(test)]
 mod meeting_tests;
 #[cfg(test)]
 mod plain_tests;
+#[cfg(test)]
+mod queue_hand_tests;
+#[cfg(test)]
+mod queue_tests;
+#[cfg(test)]
+mod queue_threads;
 #[cfg(test)]
 mod run_tests;
 #[cfg(test)]

@@ -1,6 +1,7 @@
 -- The rule of a newest-value cell, and what each step tells.
-use Rattle.std.specs.Prelude.{◌≡◌, ◌≢◌, ℕ, ◌+◌, ◌%◌, ◌<◌, ◌≤◌, Bool, true, false, if◌then◌else◌, [], ◌∷◌, ◌++◌, length, Some, None}
+use Rattle.std.specs.Prelude.{◌≡◌, ◌≢◌, ℕ, ◌+◌, ◌%◌, ◌<◌, ◌≤◌, Bool, true, false, if◌then◌else◌, List, [], ◌∷◌, ◌++◌, length, Option, Some, None}
 use mathlib.Core.Option.{some}
+use mathlib.Core.Option as maybe
 use lib.ListN.{get_elem?}
 use Rattle.atomic_table.specs.Table.{State, Me, Step}
 use Rattle.af_latest.specs.declared.view.View.{View}
@@ -10,8 +11,7 @@ use Rattle.af_model.specs.declared.newest.WriterEvent.TheVariants.{Store}
 use Rattle.af_model.specs.declared.newest.WriterEvent.TheVariants as writes
 use Rattle.af_model.specs.declared.newest.ReaderEvent.TheVariants.{Load}
 use Rattle.af_model.specs.declared.newest.ReaderEvent.TheVariants as reads
-use Rattle.af_model.specs.Order.{after}
-use Rattle.af_model.specs.Held.{Held}
+use Rattle.af_model.specs.Parties.{AreHeld, Stands}
 use Rattle.af_latest.specs.Ends.{last_number}
 use Rattle.af_model.specs.NewestValue.{CellPoint, start, legal, next, HasHistory}
 
@@ -48,30 +48,45 @@ pub record Apart (a b c : ℕ) : Type 0 where
   pub ac : a ≢ c
   pub bc : b ≢ c
 
+-- which slots the parties have, what the reader has loaded, and what the last store left
+pub record Known (T : Type 0) : Type 0 where
+  pub w_slot : ℕ
+  pub w_out : Bool
+  pub r_slot : ℕ
+  pub r_out : Bool
+  pub own : Option T
+  pub saw_fresh : Bool
+  pub loaded : ℕ
+  pub number : ℕ
+  pub value : T
+
+abbrev pub known_by : {T : Type 0} → Writing T → Reading T → CellPoint T → Known T
+known_by w r p = record { w_slot = w.slot; w_out = w.out; r_slot = r.slot; r_out = r.out; own = r.value; saw_fresh = r.fresh; loaded = last_number 0 r.events; number = p.number; value = p.value }
+
+-- what lies at home, and whether the value in the middle or the reader's own is the newest
+pub record AreLaid {T : Type 0} (k : Known T) (middle : ℕ) (fresh : Bool) (homes : List (maybe.Option T)) : Type 0 where
+  pub slots : Apart k.w_slot k.r_slot middle
+  pub three : length homes ≡ 3
+  pub shown : T
+  pub middle_home : get_elem? homes middle ≡ some (some shown)
+  pub writer_home : k.w_out ≡ false → (x : T) × (get_elem? homes k.w_slot ≡ some (some x))
+  pub reader_home : k.r_out ≡ false → (x : T) × (k.own ≡ Some x) × (get_elem? homes k.r_slot ≡ some (some x))
+  pub newest : fresh ≡ true → (shown ≡ k.value) × (k.loaded < k.number)
+  pub old : fresh ≡ false → (k.own ≡ Some k.value) × (k.loaded ≡ k.number)
+  pub seen : k.saw_fresh ≡ true → fresh ≡ true
+
+-- the rule: each part is with one seat, the events stand in an order, the word names the middle slot, and the slots lie where they are by that
 pub record Kept {T : Type 0} (first : T) (s : State T (View T)) : Type 0 where
   pub writer : Writing T
   pub reader : Reading T
-  pub writer_at : ℕ
-  pub reader_at : ℕ
-  pub one_writer : Held has_writing writing s.views writer_at writer
-  pub one_reader : Held has_reading reading s.views reader_at reader
+  pub seats : AreHeld has_writing writing has_reading reading s.views writer reader
   pub first_is : writer.first ≡ Some first
-  pub history : HasHistory first writer.events reader.events
-  pub point : CellPoint T
-  pub point_is : after legal next (start first) history.order ≡ point
-  pub counts : (point.writes ≡ length writer.events) × (point.reads ≡ length reader.events)
+  pub stands : Stands legal next (start first) writer.events reader.events
+  pub counts : (stands.point.writes ≡ length writer.events) × (stands.point.reads ≡ length reader.events)
   pub middle : ℕ
   pub fresh : Bool
   pub word_is : s.words ≡ code middle fresh ∷ []
-  pub slots : Apart writer.slot reader.slot middle
-  pub three : length s.homes ≡ 3
-  pub shown : T
-  pub middle_home : get_elem? s.homes middle ≡ some (some shown)
-  pub writer_home : writer.out ≡ false → (x : T) × (get_elem? s.homes writer.slot ≡ some (some x))
-  pub reader_home : reader.out ≡ false → (x : T) × (reader.value ≡ Some x) × (get_elem? s.homes reader.slot ≡ some (some x))
-  pub newest : fresh ≡ true → (shown ≡ point.value) × (last_number 0 reader.events < point.number)
-  pub old : fresh ≡ false → (reader.value ≡ Some point.value) × (last_number 0 reader.events ≡ point.number)
-  pub seen : reader.fresh ≡ true → fresh ≡ true
+  pub laid : AreLaid (known_by writer reader stands.point) middle fresh s.homes
 
 abbrev pub Seated : Type 0 → Type 0
 Seated T = Me T (View T)

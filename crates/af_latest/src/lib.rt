@@ -7,8 +7,6 @@ mod laws;
 mod plays;
 mod rule;
 mod seats;
-#[cfg(test)]
-mod tests;
 mod view;
 
 pub use laws::{loads_never_fall, store_and_load};

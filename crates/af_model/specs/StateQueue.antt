@@ -1,5 +1,5 @@
 -- The history of a state queue: which order of pushes, looks and acknowledgements is legal, and which states and items change hands by it.
-use Rattle.std.specs.Prelude.{◌≡◌, ◌≢◌, ℕ, ◌+◌, ◌%◌, ◌<◌, ◌≤◌, ◌==◌, ◌&&◌, not, if◌then◌else◌, Bool, true, false, List, [], length, Option, Some, None, is_some, slice_index_or}
+use Rattle.std.specs.Prelude.{◌≡◌, ◌≢◌, ℕ, ◌+◌, ◌%◌, ◌<◌, ◌≤◌, ◌==◌, ◌&&◌, not, if◌then◌else◌, Bool, true, false, List, [], length, fold, Option, Some, None, is_some, slice_index_or}
 use Rattle.std.specs.Int.{bit_at}
 use Rattle.af_base.specs.declared.state.FastState.{FastState}
 use Rattle.af_base.specs.declared.state.FastTrack.{FastTrack}
@@ -55,48 +55,72 @@ module _ {P K : Type 0} where
   abbrev pub FitAt : (K → ℕ → P → Type 0) → Option K → FastState → List (Option P) → Type 0
   FitAt fits o x items = (key : K) → o ≡ Some key → AllFit (fits key) x items
 
--- the numbers of the last state pushed and of the last acknowledged, that state and the one before it, the items that the last push carried,
--- the number of the state that is to be acknowledged next, the items given back with the last acknowledgement, whether the mutator has seen it, and how many events each party has had
-pub record QueuePoint (P : Type 0) : Type 0 where
+-- what the mutator's events leave: the number of the last state pushed, that state and the one before it, the items that the last push carried, whether it was seen acknowledged, and how many events it had
+pub record MutatorPoint (P : Type 0) : Type 0 where
   pub pushed : ℕ
-  pub acked : ℕ
   pub last : FastState
   pub before : FastState
   pub items : List (Option P)
+  pub clear : Bool
+  pub count : ℕ
+
+-- what the observer's events leave: the number of the last state acknowledged, the number of the one that is to be acknowledged next, the items given back with the last acknowledgement, and how many events it had
+pub record ObserverPoint (P : Type 0) : Type 0 where
+  pub acked : ℕ
   pub due : ℕ
   pub given : List (Option P)
-  pub clear : Bool
-  pub mutator : ℕ
-  pub observer : ℕ
+  pub count : ℕ
+
+-- what both leave
+pub record QueuePoint (P : Type 0) : Type 0 where
+  pub mutator : MutatorPoint P
+  pub observer : ObserverPoint P
 
 module _ {P : Type 0} where
+  abbrev pub mutator_start : FastState → MutatorPoint P
+  mutator_start x = record { pushed = 0; last = x; before = x; items = []; clear = true; count = 0 }
+
+  abbrev pub observer_start : ObserverPoint P
+  observer_start = record { acked = 0; due = 0; given = []; count = 0 }
+
   abbrev pub start : FastState → QueuePoint P
-  start x = record { pushed = 0; acked = 0; last = x; before = x; items = []; due = 0; given = []; clear = true; mutator = 0; observer = 0 }
+  start x = record { mutator = mutator_start x; observer = observer_start }
+
+  abbrev pub mutator_next : MutatorPoint P → MutatorEvent P → MutatorPoint P
+  mutator_next m (Push k x items) = record { pushed = k; last = x; before = m.last; items = items; clear = false; count = m.count + 1 }
+  mutator_next m (SawAck a items) = record m { clear = (a == m.pushed); count = m.count + 1 }
+  mutator_next m (mutator.Learn c) = record m { count = m.count + 1 }
+
+  abbrev pub observer_next : ObserverPoint P → ObserverEvent P → ObserverPoint P
+  observer_next o (SawNext k x items) = record o { due = (if k == o.acked then 0 else k); count = o.count + 1 }
+  observer_next o (Ack k items) = record { acked = k; due = 0; given = items; count = o.count + 1 }
+  observer_next o (observer.Learn c) = record o { due = 0; count = o.count + 1 }
+
+  -- what the events of a mutator leave from the start
+  abbrev pub mutated : FastState → List (MutatorEvent P) → MutatorPoint P
+  mutated first ms = fold mutator_next (mutator_start first) ms
+
+  -- what the events of an observer leave from the start
+  abbrev pub observed : List (ObserverEvent P) → ObserverPoint P
+  observed os = fold observer_next observer_start os
 
   -- what a look at the acknowledgement brings: the items given back, where the mutator doesn't have them yet and the last state is acknowledged
   abbrev pub brought : QueuePoint P → List (Option P)
-  brought p = if not p.clear && (p.acked == p.pushed) then p.given else []
+  brought p = if not p.mutator.clear && (p.observer.acked == p.mutator.pushed) then p.observer.given else []
 
   -- a state follows the last one pushed, once that was acknowledged and seen so; a look sees the last number, and takes what the other end gave; an acknowledgement follows the look that took its state, with no look and no meeting of the observer between
   abbrev pub legal : QueuePoint P → Event (MutatorEvent P) (ObserverEvent P) → Type 0
-  legal p (one (Push k x items)) = (k ≡ p.pushed + 1) × (p.acked ≡ p.pushed) × (p.clear ≡ true) × AreOf x p.last items
-  legal p (one (SawAck a items)) = (a ≡ p.acked) × (items ≡ brought p)
-  legal p (one (mutator.Learn c)) = c ≤ p.observer
-  legal p (two (SawNext k x items)) = (k ≡ p.pushed) × (x ≡ (if k == p.acked then None else Some p.last)) × (items ≡ (if k == p.acked then [] else p.items)) × (p.due ≡ 0)
-  legal p (two (Ack k items)) = (k ≡ p.due) × (k ≢ 0) × AreOf p.before p.last items
-  legal p (two (observer.Learn c)) = (c ≤ p.mutator) × (p.due ≡ 0)
+  legal p (one (Push k x items)) = (k ≡ p.mutator.pushed + 1) × (p.observer.acked ≡ p.mutator.pushed) × (p.mutator.clear ≡ true) × AreOf x p.mutator.last items
+  legal p (one (SawAck a items)) = (a ≡ p.observer.acked) × (items ≡ brought p)
+  legal p (one (mutator.Learn c)) = c ≤ p.observer.count
+  legal p (two (SawNext k x items)) = (k ≡ p.mutator.pushed) × (x ≡ (if k == p.observer.acked then None else Some p.mutator.last)) × (items ≡ (if k == p.observer.acked then [] else p.mutator.items)) × (p.observer.due ≡ 0)
+  legal p (two (Ack k items)) = (k ≡ p.observer.due) × (k ≢ 0) × AreOf p.mutator.before p.mutator.last items
+  legal p (two (observer.Learn c)) = (c ≤ p.mutator.count) × (p.observer.due ≡ 0)
 
+  -- each event changes its own party's half
   abbrev pub next : QueuePoint P → Event (MutatorEvent P) (ObserverEvent P) → QueuePoint P
-  next p (one (Push k x items)) = record { pushed = k; acked = p.acked; last = x; before = p.last; items = items; due = p.due; given = p.given; clear = false; mutator = p.mutator + 1; observer = p.observer }
-  next p (one (SawAck a items)) =
-      record { pushed = p.pushed; acked = p.acked; last = p.last; before = p.before; items = p.items; due = p.due; given = p.given; clear = (a == p.pushed); mutator = p.mutator + 1; observer = p.observer }
-  next p (one (mutator.Learn c)) =
-      record { pushed = p.pushed; acked = p.acked; last = p.last; before = p.before; items = p.items; due = p.due; given = p.given; clear = p.clear; mutator = p.mutator + 1; observer = p.observer }
-  next p (two (SawNext k x items)) =
-      record { pushed = p.pushed; acked = p.acked; last = p.last; before = p.before; items = p.items; due = (if k == p.acked then 0 else k); given = p.given; clear = p.clear; mutator = p.mutator; observer = p.observer + 1 }
-  next p (two (Ack k items)) = record { pushed = p.pushed; acked = k; last = p.last; before = p.before; items = p.items; due = 0; given = items; clear = p.clear; mutator = p.mutator; observer = p.observer + 1 }
-  next p (two (observer.Learn c)) =
-      record { pushed = p.pushed; acked = p.acked; last = p.last; before = p.before; items = p.items; due = 0; given = p.given; clear = p.clear; mutator = p.mutator; observer = p.observer + 1 }
+  next p (one e) = record { mutator = mutator_next p.mutator e; observer = p.observer }
+  next p (two e) = record { mutator = p.mutator; observer = observer_next p.observer e }
 
   -- the two lists stand in one legal order from the first content on
   abbrev pub HasHistory : FastState → List (MutatorEvent P) → List (ObserverEvent P) → Type 0

@@ -12,7 +12,7 @@ use Rattle.af_model.specs.declared.plain_calls.Place.{Place}
 use Rattle.af_model.specs.declared.plain_calls.Place.TheVariants.{Nowhere}
 use Rattle.af_model.specs.declared.plain_calls.Move.{Move}
 use Rattle.af_model.specs.declared.plain_calls.Move.TheVariants.{Send, SeeAck, Take}
-use Rattle.af_model.specs.StateQueue.{slots, carries}
+use Rattle.af_model.specs.StateQueue.{slots, carries, MutatorPoint, ObserverPoint, observed}
 use Rattle.af_model.specs.PlainQueue.{place_at, is_placed, moved_from}
 use Rattle.af_model.proofs.Places.{length-moved_from, place_at-moved_from}
 use Rattle.af_stateq.specs.Shelved.{word, nothing}
@@ -20,12 +20,9 @@ use Rattle.af_stateq.specs.Ends.{Pushes, Polls, saw, took, acknowledged}
 use Rattle.af_stateq.specs.Mutates.{Mutates, at, is_out}
 use Rattle.af_stateq.specs.Observes.{Observes, IsSettled}
 use Rattle.af_stateq.specs.Answers.{shows, sees_same}
-use Rattle.af_stateq.specs.Laws.{last_given}
 use Rattle.af_stateq.specs.OneHand.{InPlace, AreInStep, AreAt, items_going, items_coming}
-use Rattle.af_stateq.proofs.Exact.{items_append}
-use Rattle.af_stateq.proofs.ExactAck.{given_append}
 use Rattle.af_stateq.proofs.InPlaces.{is_placed-moved, send_one, look_one, poll_one}
-use Rattle.af_stateq.proofs.EndEvents.{step_saw, step_older, step_push, step_look, step_take, step_meet, going_meet, coming_meet, going_push, coming_push, none_going, none_coming, coming_take}
+use Rattle.af_stateq.proofs.EndEvents.{mutated-end, observed-end, step_saw, step_older, step_push, step_look, step_take, step_meet, going_meet, coming_meet, going_push, coming_push, none_going, none_coming, coming_take}
 
 module _ {P : Type 0} where
   pub placed_from : (m : Move) (i : ℕ) (places : List (Place P)) → map is_placed (moved_from m i places) ≡ map is_placed places
@@ -62,7 +59,7 @@ module _ {P K : Type 0} (m : Mutates P K) (o : Observes P K) (places : List (Pla
       let w : Pushes P K = saw n items m.past in
       let seen : AreInStep w o.past = step_saw m.past o.past s items same in
       let goes : items_going w o.past ≡ items_going m.past o.past = none_going w o.past seen same ∙ sym (none_going m.past o.past s same) in
-      let comes : items_coming w o.past ≡ [] = ap (λ b. if b || not (o.past.number == n) then [] else last_given [] o.past.events) (eq-eqb (word n) (word n) refl) in
+      let comes : items_coming w o.past ≡ [] = ap (λ b. if b || not (o.past.number == n) then [] else (observed o.past.events).given) (eq-eqb (word n) (word n) refl) in
       record {
         in_step = seen;
         whole = length-moved_from SeeAck 0 places ∙ here.whole;
@@ -91,7 +88,7 @@ module _ {P K : Type 0} (m : Mutates P K) (o : Observes P K) (places : List (Pla
       let w : Pushes P K = saw a [] m.past in
       let seen : AreInStep w o.past = step_older m.past o.past s a e in
       let behind : o.past.number + 1 ≡ m.past.number = omega arith in
-      let goes : items_going w o.past ≡ items_going m.past o.past = ap (λ (l : List (Option P)). if o.past.number == m.past.number then [] else l) (items_append [] m.past.events (SawAck a [] ∷ []) refl) in
+      let goes : items_going w o.past ≡ items_going m.past o.past = ap (λ (l : List (Option P)). if o.past.number == m.past.number then [] else l) (ap (λ (z : MutatorPoint P). z.items) (mutated-end m.past.first m.past.events (SawAck a []))) in
       let comes : items_coming w o.past ≡ items_coming m.past o.past = none_coming w o.past seen behind ∙ sym (none_coming m.past o.past s behind) in
       record {
         in_step = seen;
@@ -110,7 +107,7 @@ module _ {P K : Type 0} (m : Mutates P K) (o : Observes P K) (places : List (Pla
         (sym (place_at-moved_from Send i places (let e = here.whole in omega arith)))
         (send_one _ _ _ _ _ i (place_at places i) (here.each i li)
         (ap (λ (l : List (Option P)). at l i) (none_going m.past o.past s same))
-        (ap (λ b. at (if b || not (o.past.number == m.past.number) then [] else last_given [] o.past.events) i) clear)
+        (ap (λ b. at (if b || not (o.past.number == m.past.number) then [] else (observed o.past.events).given) i) clear)
         _ _ _ (get_or-replicate slots i None None li)
         (ap (λ (l : List (Option P)). at l i) (going_push m.past o.past s m.draft m.pending same))
         (ap (λ (l : List (Option P)). at l i) (coming_push m.past o.past s m.draft m.pending same)));
@@ -123,7 +120,7 @@ module _ {P K : Type 0} (m : Mutates P K) (o : Observes P K) (places : List (Pla
     whole = here.whole;
     out = here.out;
     each = λ i li. subst (λ (l : List (Option P)). InPlace (place_at places i) (at m.pending i) (at (items_going m.past o.past) i) (at o.items i) (at l i) (at m.returned i))
-        (ap (λ (l : List (Option P)). if m.past.clear || not (o.past.number == m.past.number) then [] else l) (sym (given_append [] o.past.events (SawNext o.past.number None [] ∷ []) refl))) (here.each i li);
+        (ap (λ (l : List (Option P)). if m.past.clear || not (o.past.number == m.past.number) then [] else l) (sym (ap (λ (z : ObserverPoint P). z.given) (observed-end o.past.events (SawNext o.past.number None []))))) (here.each i li);
   }
 
   -- the next state was taken with the items that came, and acknowledged

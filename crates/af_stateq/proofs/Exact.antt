@@ -1,141 +1,169 @@
 -- A look of an end that has learnt of all that the other did sees the last of it.
-use Rattle.std.proofs.Common.{◌≡◌, ℕ, ◌+◌, ◌≤◌, ◌==◌, if◌then◌else◌, List, [], ◌∷◌, ◌++◌, length, Option, Some, None, IfSome, is_some, unwrap_or, Bool, true≢false, eq-eqb, ne_eqb, refl, ap, sym, ◌∙◌, subst, arith, length-append, get_or}
+use Rattle.std.proofs.Common.{◌≡◌, ℕ, ◌+◌, ◌≤◌, ◌==◌, ◌&&◌, not, if◌then◌else◌, List, [], ◌∷◌, ◌++◌, length, fold, Option, Some, None, IfSome, is_some, unwrap_or, Bool, false, true≢false, eq-eqb, ne_eqb, refl, ap, sym, ◌∙◌, subst, arith, length-append, get_or, append-nil}
+use Rattle.std.specs.List.{list_any}
+use Rattle.std.proofs.lemmas.List.Sums.{fold-append}
+use mathlib.Core.Logic.{dite}
+use native.Mathlib.Decide.{ℕ_discrete}
+use Rattle.af_base.specs.declared.state.FastState.{FastState}
 use Rattle.af_model.specs.declared.states.MutatorEvent.{MutatorEvent}
 use Rattle.af_model.specs.declared.states.MutatorEvent.TheVariants.{Push, SawAck}
 use Rattle.af_model.specs.declared.states.MutatorEvent.TheVariants as mutator
 use Rattle.af_model.specs.declared.states.ObserverEvent.{ObserverEvent}
 use Rattle.af_model.specs.declared.states.ObserverEvent.TheVariants.{SawNext, Ack}
 use Rattle.af_model.specs.declared.states.ObserverEvent.TheVariants as observer
-use mathlib.Core.Logic.{dite}
-use native.Mathlib.Decide.{ℕ_discrete}
-use Rattle.af_base.specs.declared.state.FastState.{FastState}
-use Rattle.af_model.specs.Order.{Event, one, two, ones, Legal, after}
+use Rattle.af_model.specs.Order.{Event, one, two, ones, twos, Legal, after}
 use Rattle.af_model.proofs.Splits.{split_at, ones_append, legal_at}
-use Rattle.af_model.specs.StateQueue.{QueuePoint, start, legal, next, HasHistory}
-use Rattle.af_stateq.specs.Laws.{last_number, last_state, last_items, pushes_of, SeesTheLast}
+use Rattle.af_model.specs.StateQueue.{MutatorPoint, ObserverPoint, QueuePoint, start, mutator_start, mutator_next, observer_start, observer_next, mutated, observed, legal, next}
+use Rattle.af_stateq.specs.Laws.{is_push, is_ack, SeesTheLast, SeesTheAck}
 
--- a look that shows a state shows the last one, with its items
-shown : {P : Type 0} (n a : ℕ) (y : FastState) (given items : List (Option P)) (x : Option FastState) → x ≡ (if n == a then None else Some y) → items ≡ (if n == a then [] else given) → IfSome x (λ s. (s ≡ y) × (items ≡ given))
-shown n a y given items None e f = tt
-shown n a y given items (Some s) e f = dite (ℕ_discrete n a)
-    (λ same. absurd (true≢false (ap is_some (e ∙ ap (λ (b : Bool). if b then None else Some y) (eq-eqb n a same)))))
-    (λ ne. (ap (λ o. unwrap_or o s) (e ∙ ap (λ (b : Bool). if b then None else Some y) (ne_eqb n a ne)), f ∙ ap (λ (b : Bool). if b then [] else given) (ne_eqb n a ne)))
+tail_of : {A : Type 0} → List A → List A
+tail_of [] = []
+tail_of (x ∷ xs) = xs
+
+module _ {A B : Type 0} where
+  -- an order cut at an event of the first party
+  record Cut (es : List (Event A B)) (xs : List A) (a : A) (rest : List A) : Type 0 where
+    before : List (Event A B)
+    behind : List (Event A B)
+    whole : es ≡ before ++ one a ∷ behind
+    first : ones before ≡ xs
+    second : ones behind ≡ rest
+
+  cut_at : (es : List (Event A B)) (xs : List A) (a : A) (rest : List A) → ones es ≡ xs ++ a ∷ rest → Cut es xs a rest
+  unfolding tail_of
+  cut_at [] xs a rest e = let n : 0 ≡ length (xs ++ a ∷ rest) = ap length e in absurd (omega (arith, length-append xs (a ∷ rest)))
+  cut_at (two b ∷ es) xs a rest e = let s = cut_at es xs a rest e in record { before = two b ∷ s.before; behind = s.behind; whole = ap (λ z. two b ∷ z) s.whole; first = s.first; second = s.second }
+  cut_at (one x ∷ es) [] a rest e = let same : x ≡ a = ap (λ (l : List A). get_or l 0 x) e in record { before = []; behind = es; whole = ap (λ z. one z ∷ es) same; first = refl; second = ap tail_of e }
+  cut_at (one x ∷ es) (y ∷ xs) a rest e =
+      let s = cut_at es xs a rest (ap tail_of e) in
+      let same : x ≡ y = ap (λ (l : List A). get_or l 0 x) e in
+      record { before = one x ∷ s.before; behind = s.behind; whole = ap (λ z. one x ∷ z) s.whole; first = λ i. same i ∷ s.first i; second = s.second }
+
+  twos_append : (xs ys : List (Event A B)) → twos (xs ++ ys) ≡ twos xs ++ twos ys
+  twos_append [] ys = refl
+  twos_append (two b ∷ xs) ys = ap (λ z. b ∷ z) (twos_append xs ys)
+  twos_append (one a ∷ xs) ys = twos_append xs ys
+
+-- of two ways to cut one list, the longer beginning goes on into the rest of the other
+between : {A : Type 0} (zs us xs ys : List A) → zs ++ us ≡ xs ++ ys → length xs ≤ length zs → (w : List A) × (zs ≡ xs ++ w) × (ys ≡ w ++ us)
+unfolding tail_of
+between zs us [] ys e h = (zs, refl, sym e)
+between [] us (x ∷ xs) ys e h = absurd (omega arith)
+between {A} (z ∷ zs) us (x ∷ xs) ys e h =
+    let same : z ≡ x = ap (λ (l : List A). get_or l 0 z) e in
+    let t = between zs us xs ys (ap tail_of e) (omega arith) in
+    (t.0, (λ i. same i ∷ t.1 i), t.2)
+
+abbrev Events : Type 0 → Type 0
+Events P = List (Event (MutatorEvent P) (ObserverEvent P))
 
 module _ {P : Type 0} where
-  pub after_pushed : (p : QueuePoint P) (es : List (Event (MutatorEvent P) (ObserverEvent P))) → (after legal next p es).pushed ≡ last_number p.pushed (ones es)
-  after_pushed p [] = refl
-  after_pushed p (one (Push k x items) ∷ es) = after_pushed (next p (one (Push k x items))) es
-  after_pushed p (one (SawAck a items) ∷ es) = after_pushed (next p (one (SawAck a items))) es
-  after_pushed p (one (mutator.Learn c) ∷ es) = after_pushed (next p (one (mutator.Learn c))) es
-  after_pushed p (two (SawNext k x items) ∷ es) = after_pushed (next p (two (SawNext k x items))) es
-  after_pushed p (two (Ack k items) ∷ es) = after_pushed (next p (two (Ack k items))) es
-  after_pushed p (two (observer.Learn c) ∷ es) = after_pushed (next p (two (observer.Learn c))) es
+  -- each party's half of the point is what its events leave
+  pub after_ones : (p : QueuePoint P) (es : Events P) → (after legal next p es).mutator ≡ fold mutator_next p.mutator (ones es)
+  after_ones p [] = refl
+  after_ones p (one e ∷ es) = after_ones (next p (one e)) es
+  after_ones p (two e ∷ es) = after_ones (next p (two e)) es
 
-  after_last : (p : QueuePoint P) (es : List (Event (MutatorEvent P) (ObserverEvent P))) → (after legal next p es).last ≡ last_state p.last (ones es)
-  after_last p [] = refl
-  after_last p (one (Push k x items) ∷ es) = after_last (next p (one (Push k x items))) es
-  after_last p (one (SawAck a items) ∷ es) = after_last (next p (one (SawAck a items))) es
-  after_last p (one (mutator.Learn c) ∷ es) = after_last (next p (one (mutator.Learn c))) es
-  after_last p (two (SawNext k x items) ∷ es) = after_last (next p (two (SawNext k x items))) es
-  after_last p (two (Ack k items) ∷ es) = after_last (next p (two (Ack k items))) es
-  after_last p (two (observer.Learn c) ∷ es) = after_last (next p (two (observer.Learn c))) es
+  pub after_twos : (p : QueuePoint P) (es : Events P) → (after legal next p es).observer ≡ fold observer_next p.observer (twos es)
+  after_twos p [] = refl
+  after_twos p (one e ∷ es) = after_twos (next p (one e)) es
+  after_twos p (two e ∷ es) = after_twos (next p (two e)) es
 
-  after_items : (p : QueuePoint P) (es : List (Event (MutatorEvent P) (ObserverEvent P))) → (after legal next p es).items ≡ last_items p.items (ones es)
-  after_items p [] = refl
-  after_items p (one (Push k x items) ∷ es) = after_items (next p (one (Push k x items))) es
-  after_items p (one (SawAck a items) ∷ es) = after_items (next p (one (SawAck a items))) es
-  after_items p (one (mutator.Learn c) ∷ es) = after_items (next p (one (mutator.Learn c))) es
-  after_items p (two (SawNext k x items) ∷ es) = after_items (next p (two (SawNext k x items))) es
-  after_items p (two (Ack k items) ∷ es) = after_items (next p (two (Ack k items))) es
-  after_items p (two (observer.Learn c) ∷ es) = after_items (next p (two (observer.Learn c))) es
+  mutator_count : (m : MutatorPoint P) (ms : List (MutatorEvent P)) → (fold mutator_next m ms).count ≡ m.count + length ms
+  mutator_count m [] = omega arith
+  mutator_count m (Push k x items ∷ ms) = let e = mutator_count (mutator_next m (Push k x items)) ms in omega arith
+  mutator_count m (SawAck a items ∷ ms) = let e = mutator_count (mutator_next m (SawAck a items)) ms in omega arith
+  mutator_count m (mutator.Learn c ∷ ms) = let e = mutator_count (mutator_next m (mutator.Learn c)) ms in omega arith
 
-  after_mutator : (p : QueuePoint P) (es : List (Event (MutatorEvent P) (ObserverEvent P))) → (after legal next p es).mutator ≡ p.mutator + length (ones es)
-  after_mutator p [] = omega arith
-  after_mutator p (one (Push k x items) ∷ es) = let e = after_mutator (next p (one (Push k x items))) es in omega arith
-  after_mutator p (one (SawAck a items) ∷ es) = let e = after_mutator (next p (one (SawAck a items))) es in omega arith
-  after_mutator p (one (mutator.Learn c) ∷ es) = let e = after_mutator (next p (one (mutator.Learn c))) es in omega arith
-  after_mutator p (two (SawNext k x items) ∷ es) = after_mutator (next p (two (SawNext k x items))) es
-  after_mutator p (two (Ack k items) ∷ es) = after_mutator (next p (two (Ack k items))) es
-  after_mutator p (two (observer.Learn c) ∷ es) = after_mutator (next p (two (observer.Learn c))) es
+  observer_count : (o : ObserverPoint P) (os : List (ObserverEvent P)) → (fold observer_next o os).count ≡ o.count + length os
+  observer_count o [] = omega arith
+  observer_count o (SawNext k x items ∷ os) = let e = observer_count (observer_next o (SawNext k x items)) os in omega arith
+  observer_count o (Ack k items ∷ os) = let e = observer_count (observer_next o (Ack k items)) os in omega arith
+  observer_count o (observer.Learn c ∷ os) = let e = observer_count (observer_next o (observer.Learn c)) os in omega arith
 
-  tail_of : List (MutatorEvent P) → List (MutatorEvent P)
-  tail_of [] = []
-  tail_of (x ∷ xs) = xs
+  -- events with no push leave the last push
+  still_pushed : (m : MutatorPoint P) (ms us : List (MutatorEvent P)) → list_any is_push (ms ++ us) ≡ false → ((fold mutator_next m ms).pushed ≡ m.pushed) × ((fold mutator_next m ms).last ≡ m.last) × ((fold mutator_next m ms).items ≡ m.items)
+  still_pushed m [] us e = (refl, refl, refl)
+  still_pushed m (Push k x items ∷ ms) us e = absurd (true≢false e)
+  still_pushed m (SawAck a items ∷ ms) us e = still_pushed (mutator_next m (SawAck a items)) ms us e
+  still_pushed m (mutator.Learn c ∷ ms) us e = still_pushed (mutator_next m (mutator.Learn c)) ms us e
 
-  pushes_append : (xs ys : List (MutatorEvent P)) → pushes_of (xs ++ ys) ≡ pushes_of xs + pushes_of ys
-  pushes_append [] ys = omega arith
-  pushes_append (Push k x items ∷ xs) ys = let e = pushes_append xs ys in omega arith
-  pushes_append (SawAck a items ∷ xs) ys = pushes_append xs ys
-  pushes_append (mutator.Learn c ∷ xs) ys = pushes_append xs ys
+  -- events with no acknowledgement leave the last one
+  still_acked : (o : ObserverPoint P) (os us : List (ObserverEvent P)) → list_any is_ack (os ++ us) ≡ false → ((fold observer_next o os).acked ≡ o.acked) × ((fold observer_next o os).given ≡ o.given)
+  still_acked o [] us e = (refl, refl)
+  still_acked o (SawNext k x items ∷ os) us e = still_acked (observer_next o (SawNext k x items)) os us e
+  still_acked o (Ack k items ∷ os) us e = absurd (true≢false e)
+  still_acked o (observer.Learn c ∷ os) us e = still_acked (observer_next o (observer.Learn c)) os us e
 
-  pub number_append : (n : ℕ) (xs ys : List (MutatorEvent P)) → pushes_of ys ≡ 0 → last_number n (xs ++ ys) ≡ last_number n xs
-  number_append n [] [] e = refl
-  number_append n [] (Push k x items ∷ ys) e = absurd (omega arith)
-  number_append n [] (SawAck a items ∷ ys) e = number_append n [] ys e
-  number_append n [] (mutator.Learn c ∷ ys) e = number_append n [] ys e
-  number_append n (Push k x items ∷ xs) ys e = number_append k xs ys e
-  number_append n (SawAck a items ∷ xs) ys e = number_append n xs ys e
-  number_append n (mutator.Learn c ∷ xs) ys e = number_append n xs ys e
+  -- zs has at least the events xs, and no push follows those: it leaves the last push of the whole list
+  last_is : (first : FastState) (ms zs us xs ys : List (MutatorEvent P)) → zs ++ us ≡ ms → ms ≡ xs ++ ys → length xs ≤ length zs → list_any is_push ys ≡ false
+      → ((mutated first zs).pushed ≡ (mutated first ms).pushed) × ((mutated first zs).last ≡ (mutated first ms).last) × ((mutated first zs).items ≡ (mutated first ms).items)
+  last_is first ms zs us xs ys all parts enough none =
+      let b = between zs us xs ys (all ∙ parts) enough in
+      let m : MutatorPoint P = mutated first xs in
+      let short = still_pushed m b.0 us (ap (list_any is_push) (sym b.2) ∙ none) in
+      let long = still_pushed m ys [] (ap (list_any is_push) (append-nil ys) ∙ none) in
+      let zs_is : mutated first zs ≡ fold mutator_next m b.0 = ap (mutated first) b.1 ∙ fold-append mutator_next (mutator_start first) xs b.0 in
+      let ms_is : mutated first ms ≡ fold mutator_next m ys = ap (mutated first) parts ∙ fold-append mutator_next (mutator_start first) xs ys in (
+        ap (λ (z : MutatorPoint P). z.pushed) zs_is ∙ short.0 ∙ sym long.0 ∙ ap (λ (z : MutatorPoint P). z.pushed) (sym ms_is),
+        ap (λ (z : MutatorPoint P). z.last) zs_is ∙ short.1 ∙ sym long.1 ∙ ap (λ (z : MutatorPoint P). z.last) (sym ms_is),
+        ap (λ (z : MutatorPoint P). z.items) zs_is ∙ short.2 ∙ sym long.2 ∙ ap (λ (z : MutatorPoint P). z.items) (sym ms_is),
+      )
 
-  pub state_append : (s : FastState) (xs ys : List (MutatorEvent P)) → pushes_of ys ≡ 0 → last_state s (xs ++ ys) ≡ last_state s xs
-  state_append s [] [] e = refl
-  state_append s [] (Push k x items ∷ ys) e = absurd (omega arith)
-  state_append s [] (SawAck a items ∷ ys) e = state_append s [] ys e
-  state_append s [] (mutator.Learn c ∷ ys) e = state_append s [] ys e
-  state_append s (Push k x items ∷ xs) ys e = state_append x xs ys e
-  state_append s (SawAck a items ∷ xs) ys e = state_append s xs ys e
-  state_append s (mutator.Learn c ∷ xs) ys e = state_append s xs ys e
+  last_ack_is : (os zs us xs ys : List (ObserverEvent P)) → zs ++ us ≡ os → os ≡ xs ++ ys → length xs ≤ length zs → list_any is_ack ys ≡ false → ((observed zs).acked ≡ (observed os).acked) × ((observed zs).given ≡ (observed os).given)
+  last_ack_is os zs us xs ys all parts enough none =
+      let b = between zs us xs ys (all ∙ parts) enough in
+      let o : ObserverPoint P = observed xs in
+      let short = still_acked o b.0 us (ap (list_any is_ack) (sym b.2) ∙ none) in
+      let long = still_acked o ys [] (ap (list_any is_ack) (append-nil ys) ∙ none) in
+      let zs_is : observed zs ≡ fold observer_next o b.0 = ap observed b.1 ∙ fold-append observer_next observer_start xs b.0 in
+      let os_is : observed os ≡ fold observer_next o ys = ap observed parts ∙ fold-append observer_next observer_start xs ys in (
+        ap (λ (z : ObserverPoint P). z.acked) zs_is ∙ short.0 ∙ sym long.0 ∙ ap (λ (z : ObserverPoint P). z.acked) (sym os_is),
+        ap (λ (z : ObserverPoint P). z.given) zs_is ∙ short.1 ∙ sym long.1 ∙ ap (λ (z : ObserverPoint P). z.given) (sym os_is),
+      )
 
-  pub items_append : (s : List (Option P)) (xs ys : List (MutatorEvent P)) → pushes_of ys ≡ 0 → last_items s (xs ++ ys) ≡ last_items s xs
-  items_append s [] [] e = refl
-  items_append s [] (Push k x items ∷ ys) e = absurd (omega arith)
-  items_append s [] (SawAck a items ∷ ys) e = items_append s [] ys e
-  items_append s [] (mutator.Learn c ∷ ys) e = items_append s [] ys e
-  items_append s (Push k x items ∷ xs) ys e = items_append items xs ys e
-  items_append s (SawAck a items ∷ xs) ys e = items_append s xs ys e
-  items_append s (mutator.Learn c ∷ xs) ys e = items_append s xs ys e
-
-  more_pushes : (z : MutatorEvent P) (xs zs : List (MutatorEvent P)) → pushes_of xs ≤ pushes_of zs → pushes_of (z ∷ xs) ≤ pushes_of (z ∷ zs)
-  more_pushes (Push k x items) xs zs h = omega arith
-  more_pushes (SawAck a items) xs zs h = h
-  more_pushes (mutator.Learn c) xs zs h = h
-
-  -- a longer beginning has no fewer pushes
-  prefix_pushes : (zs us xs ys : List (MutatorEvent P)) → zs ++ us ≡ xs ++ ys → length xs ≤ length zs → pushes_of xs ≤ pushes_of zs
-  unfolding tail_of
-  prefix_pushes zs us [] ys e h = omega arith
-  prefix_pushes [] us (x ∷ xs) ys e h = absurd (omega arith)
-  prefix_pushes (z ∷ zs) us (x ∷ xs) ys e h =
-      let same : z ≡ x = ap (λ (l : List (MutatorEvent P)). get_or l 0 z) e in
-      subst (λ w. pushes_of (w ∷ xs) ≤ pushes_of (z ∷ zs)) same (more_pushes z xs zs (prefix_pushes zs us xs ys (ap tail_of e) (omega arith)))
-
-  -- the mutator pushed nothing after the events xs, of which the observer has learnt: items next look sees the last push
-  pub exact : (first : FastState) (ms xs ys : List (MutatorEvent P)) (os rest : List (ObserverEvent P)) (c n : ℕ) (x : Option FastState) (items : List (Option P)) → HasHistory first ms ((os ++ observer.Learn c ∷ []) ++ SawNext n x items ∷ rest) → ms ≡ xs ++ ys → length xs ≤ c → pushes_of ys ≡ 0
-      → (n ≡ last_number 0 ms) × ((acked : ℕ) × (x ≡ (if n == acked then None else Some (last_state first ms))) × (items ≡ (if n == acked then [] else last_items [] ms)))
-  exact first ms xs ys os rest c n x items h parts told none =
-      let s = split_at h.order (os ++ observer.Learn c ∷ []) (SawNext n x items) rest h.of_two in
-      let es : List (Event (MutatorEvent P) (ObserverEvent P)) = s.before in
-      let l = legal_at legal next (start first) es (two (SawNext n x items)) s.behind (subst (Legal legal next (start first)) s.whole h.is_legal) in
-      let t = split_at es os (observer.Learn c) [] s.first in
-      let k = legal_at legal next (start first) t.before (two (observer.Learn c)) t.behind (subst (Legal legal next (start first)) t.whole l.0) in
-      let zs : List (MutatorEvent P) = ones es in
-      let us : List (MutatorEvent P) = ones s.behind in
-      let all : zs ++ us ≡ ms = sym (ones_append es (two (SawNext n x items) ∷ s.behind)) ∙ ap ones (sym s.whole) ∙ h.of_one in
-      let inner : zs ≡ ones t.before ++ ones t.behind = ap ones t.whole ∙ ones_append t.before (two (observer.Learn c) ∷ t.behind) in
-      let counted = after_mutator (start first) t.before in
-      let sum = ap length inner ∙ length-append (ones t.before) (ones t.behind) in
-      let enough : length xs ≤ length zs = (let learnt = k.1.0 in omega arith) in
-      let lower = prefix_pushes zs us xs ys (all ∙ parts) enough in
-      let total_1 = sym (pushes_append zs us) ∙ ap pushes_of all in
-      let total_2 = ap pushes_of parts ∙ pushes_append xs ys in
-      let rest_none : pushes_of us ≡ 0 = omega arith in
-      let number = after_pushed (start first) es ∙ sym (number_append 0 zs us rest_none) ∙ ap (last_number 0) all in
-      let carried = after_items (start first) es ∙ sym (items_append [] zs us rest_none) ∙ ap (last_items []) all in
-      let value = after_last (start first) es ∙ sym (state_append first zs us rest_none) ∙ ap (last_state first) all in
-      let acked = (after legal next (start first) es).acked in
-      (l.1.0 ∙ number, (acked, l.1.1 ∙ ap (λ (z : FastState). if n == acked then None else Some z) value, l.1.2 ∙ ap (λ (z : List (Option P)). if n == acked then [] else z) carried))
+  -- a look that shows a state shows the last one, with its items
+  shown : (n a : ℕ) (y : FastState) (given items : List (Option P)) (x : Option FastState) → x ≡ (if n == a then None else Some y) → items ≡ (if n == a then [] else given) → IfSome x (λ s. (s ≡ y) × (items ≡ given))
+  shown n a y given items None e f = tt
+  shown n a y given items (Some s) e f = dite (ℕ_discrete n a)
+      (λ same. absurd (true≢false (ap is_some (e ∙ ap (λ (b : Bool). if b then None else Some y) (eq-eqb n a same)))))
+      (λ ne. (ap (λ o. unwrap_or o s) (e ∙ ap (λ (b : Bool). if b then None else Some y) (ne_eqb n a ne)), f ∙ ap (λ (b : Bool). if b then [] else given) (ne_eqb n a ne)))
 
   pub sees_the_last : (first : FastState) (ms : List (MutatorEvent P)) → SeesTheLast first ms
   sees_the_last first ms told more os rest c n x items h parts fewer none =
-      let e = exact first ms told more os rest c n x items h parts fewer none in
-      (e.0, shown n e.1.0 (last_state first ms) (last_items [] ms) items x e.1.1 e.1.2)
+      let s = split_at h.order (os ++ observer.Learn c ∷ []) (SawNext n x items) rest h.of_two in
+      let es : Events P = s.before in
+      let l = legal_at legal next (start first) es (two (SawNext n x items)) s.behind (subst (Legal legal next (start first)) s.whole h.is_legal) in
+      let t = split_at es os (observer.Learn c) [] s.first in
+      let k = legal_at legal next (start first) t.before (two (observer.Learn c)) t.behind (subst (Legal legal next (start first)) t.whole l.0) in
+      let all : ones es ++ ones s.behind ≡ ms = sym (ones_append es (two (SawNext n x items) ∷ s.behind)) ∙ ap ones (sym s.whole) ∙ h.of_one in
+      let inner = ap (λ (z : Events P). length (ones z)) t.whole ∙ ap length (ones_append t.before (two (observer.Learn c) ∷ t.behind)) ∙ length-append (ones t.before) (ones t.behind) in
+      let counted = ap (λ (z : MutatorPoint P). z.count) (after_ones (start first) t.before) ∙ mutator_count (mutator_start first) (ones t.before) in
+      let enough : length told ≤ length (ones es) = (let learnt = k.1.0 in omega arith) in
+      let is = last_is first ms (ones es) (ones s.behind) told more all parts enough none in
+      let here = after_ones (start first) es in
+      let acked = (after legal next (start first) es).observer.acked in (
+        l.1.0 ∙ ap (λ (z : MutatorPoint P). z.pushed) here ∙ is.0,
+        shown n acked (mutated first ms).last (mutated first ms).items items x
+            (l.1.1 ∙ ap (λ (z : FastState). if n == acked then None else Some z) (ap (λ (z : MutatorPoint P). z.last) here ∙ is.1))
+            (l.1.2 ∙ ap (λ (z : List (Option P)). if n == acked then [] else z) (ap (λ (z : MutatorPoint P). z.items) here ∙ is.2)),
+      )
+
+  pub sees_the_ack : (first : FastState) (os : List (ObserverEvent P)) → SeesTheAck first os
+  sees_the_ack first os told more ms rest c a items h parts fewer none =
+      let s = cut_at h.order (ms ++ mutator.Learn c ∷ []) (SawAck a items) rest h.of_one in
+      let es : Events P = s.before in
+      let l = legal_at legal next (start first) es (one (SawAck a items)) s.behind (subst (Legal legal next (start first)) s.whole h.is_legal) in
+      let t = cut_at es ms (mutator.Learn c) [] s.first in
+      let k = legal_at legal next (start first) t.before (one (mutator.Learn c)) t.behind (subst (Legal legal next (start first)) t.whole l.0) in
+      let all : twos es ++ twos s.behind ≡ os = sym (twos_append es (one (SawAck a items) ∷ s.behind)) ∙ ap twos (sym s.whole) ∙ h.of_two in
+      let inner = ap (λ (z : Events P). length (twos z)) t.whole ∙ ap length (twos_append t.before (one (mutator.Learn c) ∷ t.behind)) ∙ length-append (twos t.before) (twos t.behind) in
+      let counted = ap (λ (z : ObserverPoint P). z.count) (after_twos (start first) t.before) ∙ observer_count observer_start (twos t.before) in
+      let enough : length told ≤ length (twos es) = (let learnt = k.1 in omega arith) in
+      let is = last_ack_is os (twos es) (twos s.behind) told more all parts enough none in
+      let m : (after legal next (start first) es).mutator ≡ mutator_next (mutated first ms) (mutator.Learn c) = after_ones (start first) es ∙ ap (mutated first) s.first ∙ fold-append mutator_next (mutator_start first) ms (mutator.Learn c ∷ []) in
+      let o = after_twos (start first) es in
+      let seen : a ≡ (after legal next (start first) es).observer.acked = l.1.0 in (
+        seen ∙ ap (λ (z : ObserverPoint P). z.acked) o ∙ is.0,
+        l.1.1 ∙ (λ i. if not (m i).clear && (sym seen i == (m i).pushed) then (ap (λ (z : ObserverPoint P). z.given) o ∙ is.1) i else []),
+      )

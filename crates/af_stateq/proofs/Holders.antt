@@ -82,22 +82,22 @@ module _ {P : Type 0} where
 
   module _ (i : ℕ) (lt : i < slots) where
     abbrev here : QueuePoint P → Bool → Bool → Bool → Holder P
-    here p a c d = where_of a (carries p.last i) (carries p.before i) c d (at p.items i) (at p.given i)
+    here p a c d = where_of a (carries p.mutator.last i) (carries p.mutator.before i) c d (at p.mutator.items i) (at p.observer.given i)
 
     unfoldable where_is : QueuePoint P → Holder P
-    where_is p = here p (p.acked == p.pushed) p.clear (p.due == 0)
+    where_is p = here p (p.observer.acked == p.mutator.pushed) p.mutator.clear (p.observer.due == 0)
 
-    where_at : (p : QueuePoint P) (a c d : Bool) → (p.acked == p.pushed) ≡ a → p.clear ≡ c → (p.due == 0) ≡ d → where_is p ≡ here p a c d
+    where_at : (p : QueuePoint P) (a c d : Bool) → (p.observer.acked == p.mutator.pushed) ≡ a → p.mutator.clear ≡ c → (p.observer.due == 0) ≡ d → where_is p ≡ here p a c d
     unfolding where_is
     where_at p a c d ea ec ed = λ j. here p (ea j) (ec j) (ed j)
 
     record At (p : QueuePoint P) : Type 0 where
-      low : p.acked ≤ p.pushed
-      high : p.pushed ≤ p.acked + 1
-      due : p.due ≢ 0 → (p.due ≡ p.pushed) × (p.pushed ≡ p.acked + 1)
-      cleared : p.clear ≡ true → p.acked ≡ p.pushed
-      out : p.acked ≢ p.pushed → is_some (at p.items i) ≡ (carries p.last i && not (carries p.before i))
-      back : p.acked ≡ p.pushed → p.clear ≡ false → is_some (at p.given i) ≡ (carries p.before i && not (carries p.last i))
+      low : p.observer.acked ≤ p.mutator.pushed
+      high : p.mutator.pushed ≤ p.observer.acked + 1
+      due : p.observer.due ≢ 0 → (p.observer.due ≡ p.mutator.pushed) × (p.mutator.pushed ≡ p.observer.acked + 1)
+      cleared : p.mutator.clear ≡ true → p.observer.acked ≡ p.mutator.pushed
+      out : p.observer.acked ≢ p.mutator.pushed → is_some (at p.mutator.items i) ≡ (carries p.mutator.last i && not (carries p.mutator.before i))
+      back : p.observer.acked ≡ p.mutator.pushed → p.mutator.clear ≡ false → is_some (at p.observer.given i) ≡ (carries p.mutator.before i && not (carries p.mutator.last i))
 
     abbrev Ring : QueuePoint P → List (Event (MutatorEvent P) (ObserverEvent P)) → Type 0
     Ring p es = Legal (may_pass i) (passed i) (where_is p) es
@@ -113,14 +113,14 @@ module _ {P : Type 0} where
     ring p [] t l = tt
     ring p (one (Push k x items) ∷ es) t l =
         let q = next p (one (Push k x items)) in
-        let rest_due : p.due ≡ 0 = dite (ℕ_discrete p.due 0) (λ e. e) (λ ne. absurd (let u = (t.due ne).1 in let b = l.0.1 in omega arith)) in
-        let has : is_some (at items i) ≡ (carries x i && not (carries p.last i)) = l.0.3.1 i lt in
-        let ne : p.acked ≢ k = λ e. (let a = l.0.0 in let b = l.0.1 in omega arith) in
-        let now = where_at p true true true (eq-eqb p.acked p.pushed l.0.1) l.0.2 (eq-eqb p.due 0 rest_due) in
-        let later = where_at q false false true (ne_eqb p.acked k ne) refl (eq-eqb p.due 0 rest_due) in
+        let rest_due : p.observer.due ≡ 0 = dite (ℕ_discrete p.observer.due 0) (λ e. e) (λ ne. absurd (let u = (t.due ne).1 in let b = l.0.1 in omega arith)) in
+        let has : is_some (at items i) ≡ (carries x i && not (carries p.mutator.last i)) = l.0.3.1 i lt in
+        let ne : p.observer.acked ≢ k = λ e. (let a = l.0.0 in let b = l.0.1 in omega arith) in
+        let now = where_at p true true true (eq-eqb p.observer.acked p.mutator.pushed l.0.1) l.0.2 (eq-eqb p.observer.due 0 rest_due) in
+        let later = where_at q false false true (ne_eqb p.observer.acked k ne) refl (eq-eqb p.observer.due 0 rest_due) in
         moves p (one (Push k x items)) es
-        (λ y e. now ∙ push_may (carries p.last i) (carries x i) (carries p.before i) true (at items i) (at p.items i) (at p.given i) has y e)
-        (ap (given_to going (at items i)) now ∙ push_goes (carries p.last i) (carries x i) (carries p.before i) true (at items i) (at p.items i) (at p.given i) has ∙ sym later)
+        (λ y e. now ∙ push_may (carries p.mutator.last i) (carries x i) (carries p.mutator.before i) true (at items i) (at p.mutator.items i) (at p.observer.given i) has y e)
+        (ap (given_to going (at items i)) now ∙ push_goes (carries p.mutator.last i) (carries x i) (carries p.mutator.before i) true (at items i) (at p.mutator.items i) (at p.observer.given i) has ∙ sym later)
         (ring q es record {
           low = (let a = l.0.0 in let b = l.0.1 in omega arith);
           high = (let a = l.0.0 in let b = l.0.1 in omega arith);
@@ -129,86 +129,86 @@ module _ {P : Type 0} where
           out = λ _. has;
           back = λ e. absurd (ne e);
         } l.1)
-    ring p (one (SawAck a items) ∷ es) t l = both_ways p.clear
+    ring p (one (SawAck a items) ∷ es) t l = both_ways p.mutator.clear
         (λ c.
         let q = next p (one (SawAck a items)) in
-        let same : p.acked ≡ p.pushed = t.cleared c in
-        let none : at items i ≡ None = ap (λ (z : List (Option P)). at z i) (l.0.1 ∙ ap (λ (b : Bool). if not b && (p.acked == p.pushed) then p.given else []) c) in
-        let c' : q.clear ≡ true = eq-eqb a p.pushed (l.0.0 ∙ same) in
+        let same : p.observer.acked ≡ p.mutator.pushed = t.cleared c in
+        let none : at items i ≡ None = ap (λ (z : List (Option P)). at z i) (l.0.1 ∙ ap (λ (b : Bool). if not b && (p.observer.acked == p.mutator.pushed) then p.observer.given else []) c) in
+        let c' : q.mutator.clear ≡ true = eq-eqb a p.mutator.pushed (l.0.0 ∙ same) in
         moves p (one (SawAck a items)) es
         (λ y e. absurd (true≢false (sym (ap is_some (sym none ∙ e)))))
-        (stays (λ _. in_hand) (at items i) (where_is p) (ap is_some none) ∙ where_at p true true (p.due == 0) (eq-eqb p.acked p.pushed same) c refl ∙ sym (where_at q true true (p.due == 0) (eq-eqb p.acked p.pushed same) c' refl))
-        (ring q es record { low = t.low; high = t.high; due = t.due; cleared = λ _. same; out = t.out; back = λ _ f. absurd (not_both q.clear c' f) } l.1))
-        (λ c. dite (ℕ_discrete p.acked p.pushed)
+        (stays (λ _. in_hand) (at items i) (where_is p) (ap is_some none) ∙ where_at p true true (p.observer.due == 0) (eq-eqb p.observer.acked p.mutator.pushed same) c refl ∙ sym (where_at q true true (p.observer.due == 0) (eq-eqb p.observer.acked p.mutator.pushed same) c' refl))
+        (ring q es record { low = t.low; high = t.high; due = t.due; cleared = λ _. same; out = t.out; back = λ _ f. absurd (not_both q.mutator.clear c' f) } l.1))
+        (λ c. dite (ℕ_discrete p.observer.acked p.mutator.pushed)
         (λ same.
         let q = next p (one (SawAck a items)) in
-        let test : (p.acked == p.pushed) ≡ true = eq-eqb p.acked p.pushed same in
-        let all : at items i ≡ at p.given i = ap (λ (z : List (Option P)). at z i) (l.0.1 ∙ ap (λ (b : Bool). if not b && (p.acked == p.pushed) then p.given else []) c ∙ ap (λ (b : Bool). if b then p.given else []) test) in
-        let c' : q.clear ≡ true = eq-eqb a p.pushed (l.0.0 ∙ same) in
+        let test : (p.observer.acked == p.mutator.pushed) ≡ true = eq-eqb p.observer.acked p.mutator.pushed same in
+        let all : at items i ≡ at p.observer.given i = ap (λ (z : List (Option P)). at z i) (l.0.1 ∙ ap (λ (b : Bool). if not b && (p.observer.acked == p.mutator.pushed) then p.observer.given else []) c ∙ ap (λ (b : Bool). if b then p.observer.given else []) test) in
+        let c' : q.mutator.clear ≡ true = eq-eqb a p.mutator.pushed (l.0.0 ∙ same) in
         let has = t.back same c in
-        let now = where_at p true false (p.due == 0) test c refl in
+        let now = where_at p true false (p.observer.due == 0) test c refl in
         moves p (one (SawAck a items)) es
-        (λ y e. now ∙ back_may (carries p.last i) (carries p.before i) (p.due == 0) (at p.items i) (at p.given i) has y (sym all ∙ e))
-        ((λ j. given_to (λ _. in_hand) (all j) (now j)) ∙ back_goes (carries p.last i) (carries p.before i) (p.due == 0) (at p.items i) (at p.given i) has ∙ sym (where_at q true true (p.due == 0) test c' refl))
-        (ring q es record { low = t.low; high = t.high; due = t.due; cleared = λ _. same; out = t.out; back = λ _ f. absurd (not_both q.clear c' f) } l.1))
+        (λ y e. now ∙ back_may (carries p.mutator.last i) (carries p.mutator.before i) (p.observer.due == 0) (at p.mutator.items i) (at p.observer.given i) has y (sym all ∙ e))
+        ((λ j. given_to (λ _. in_hand) (all j) (now j)) ∙ back_goes (carries p.mutator.last i) (carries p.mutator.before i) (p.observer.due == 0) (at p.mutator.items i) (at p.observer.given i) has ∙ sym (where_at q true true (p.observer.due == 0) test c' refl))
+        (ring q es record { low = t.low; high = t.high; due = t.due; cleared = λ _. same; out = t.out; back = λ _ f. absurd (not_both q.mutator.clear c' f) } l.1))
         (λ ne.
         let q = next p (one (SawAck a items)) in
-        let test : (p.acked == p.pushed) ≡ false = ne_eqb p.acked p.pushed ne in
-        let none : at items i ≡ None = ap (λ (z : List (Option P)). at z i) (l.0.1 ∙ ap (λ (b : Bool). if not b && (p.acked == p.pushed) then p.given else []) c ∙ ap (λ (b : Bool). if b then p.given else []) test) in
-        let c' : q.clear ≡ false = ne_eqb a p.pushed (λ e. ne (sym l.0.0 ∙ e)) in
+        let test : (p.observer.acked == p.mutator.pushed) ≡ false = ne_eqb p.observer.acked p.mutator.pushed ne in
+        let none : at items i ≡ None = ap (λ (z : List (Option P)). at z i) (l.0.1 ∙ ap (λ (b : Bool). if not b && (p.observer.acked == p.mutator.pushed) then p.observer.given else []) c ∙ ap (λ (b : Bool). if b then p.observer.given else []) test) in
+        let c' : q.mutator.clear ≡ false = ne_eqb a p.mutator.pushed (λ e. ne (sym l.0.0 ∙ e)) in
         moves p (one (SawAck a items)) es
         (λ y e. absurd (true≢false (sym (ap is_some (sym none ∙ e)))))
-        (stays (λ _. in_hand) (at items i) (where_is p) (ap is_some none) ∙ where_at p false false (p.due == 0) test c refl ∙ sym (where_at q false false (p.due == 0) test c' refl))
-        (ring q es record { low = t.low; high = t.high; due = t.due; cleared = λ f. absurd (not_both q.clear f c'); out = t.out; back = λ e. absurd (ne e) } l.1)))
+        (stays (λ _. in_hand) (at items i) (where_is p) (ap is_some none) ∙ where_at p false false (p.observer.due == 0) test c refl ∙ sym (where_at q false false (p.observer.due == 0) test c' refl))
+        (ring q es record { low = t.low; high = t.high; due = t.due; cleared = λ f. absurd (not_both q.mutator.clear f c'); out = t.out; back = λ e. absurd (ne e) } l.1)))
     ring p (one (mutator.Learn c) ∷ es) t l = let q = next p (one (mutator.Learn c)) in
-        moves p (one (mutator.Learn c)) es tt (where_at p (p.acked == p.pushed) p.clear (p.due == 0) refl refl refl ∙ sym (where_at q (p.acked == p.pushed) p.clear (p.due == 0) refl refl refl))
+        moves p (one (mutator.Learn c)) es tt (where_at p (p.observer.acked == p.mutator.pushed) p.mutator.clear (p.observer.due == 0) refl refl refl ∙ sym (where_at q (p.observer.acked == p.mutator.pushed) p.mutator.clear (p.observer.due == 0) refl refl refl))
         (ring q es record { low = t.low; high = t.high; due = t.due; cleared = t.cleared; out = t.out; back = t.back } l.1)
-    ring p (two (SawNext k x items) ∷ es) t l = dite (ℕ_discrete p.acked p.pushed)
+    ring p (two (SawNext k x items) ∷ es) t l = dite (ℕ_discrete p.observer.acked p.mutator.pushed)
         (λ same.
         let q = next p (two (SawNext k x items)) in
-        let hit : (k == p.acked) ≡ true = eq-eqb k p.acked (l.0.0 ∙ sym same) in
-        let none : at items i ≡ None = ap (λ (z : List (Option P)). at z i) (l.0.2 ∙ ap (λ (b : Bool). if b then [] else p.items) hit) in
-        let due_is : q.due ≡ 0 = ap (λ (b : Bool). if b then 0 else k) hit in
-        let test : (p.acked == p.pushed) ≡ true = eq-eqb p.acked p.pushed same in
+        let hit : (k == p.observer.acked) ≡ true = eq-eqb k p.observer.acked (l.0.0 ∙ sym same) in
+        let none : at items i ≡ None = ap (λ (z : List (Option P)). at z i) (l.0.2 ∙ ap (λ (b : Bool). if b then [] else p.mutator.items) hit) in
+        let due_is : q.observer.due ≡ 0 = ap (λ (b : Bool). if b then 0 else k) hit in
+        let test : (p.observer.acked == p.mutator.pushed) ≡ true = eq-eqb p.observer.acked p.mutator.pushed same in
         moves p (two (SawNext k x items)) es
         (λ y e. absurd (true≢false (sym (ap is_some (sym none ∙ e)))))
-        (stays (λ _. held) (at items i) (where_is p) (ap is_some none) ∙ where_at p true p.clear true test refl (eq-eqb p.due 0 l.0.3) ∙ sym (where_at q true p.clear true test refl (eq-eqb q.due 0 due_is)))
+        (stays (λ _. held) (at items i) (where_is p) (ap is_some none) ∙ where_at p true p.mutator.clear true test refl (eq-eqb p.observer.due 0 l.0.3) ∙ sym (where_at q true p.mutator.clear true test refl (eq-eqb q.observer.due 0 due_is)))
         (ring q es record { low = t.low; high = t.high; due = λ d. absurd (d due_is); cleared = t.cleared; out = t.out; back = t.back } l.1))
         (λ ne.
         let q = next p (two (SawNext k x items)) in
-        let miss : (k == p.acked) ≡ false = ne_eqb k p.acked (λ e. ne (sym e ∙ l.0.0)) in
-        let all : at items i ≡ at p.items i = ap (λ (z : List (Option P)). at z i) (l.0.2 ∙ ap (λ (b : Bool). if b then [] else p.items) miss) in
-        let due_is : q.due ≡ k = ap (λ (b : Bool). if b then 0 else k) miss in
-        let next_one : p.pushed ≡ p.acked + 1 = (let a = t.low in let b = t.high in omega arith) in
-        let test : (p.acked == p.pushed) ≡ false = ne_eqb p.acked p.pushed ne in
+        let miss : (k == p.observer.acked) ≡ false = ne_eqb k p.observer.acked (λ e. ne (sym e ∙ l.0.0)) in
+        let all : at items i ≡ at p.mutator.items i = ap (λ (z : List (Option P)). at z i) (l.0.2 ∙ ap (λ (b : Bool). if b then [] else p.mutator.items) miss) in
+        let due_is : q.observer.due ≡ k = ap (λ (b : Bool). if b then 0 else k) miss in
+        let next_one : p.mutator.pushed ≡ p.observer.acked + 1 = (let a = t.low in let b = t.high in omega arith) in
+        let test : (p.observer.acked == p.mutator.pushed) ≡ false = ne_eqb p.observer.acked p.mutator.pushed ne in
         let has = t.out ne in
-        let now = where_at p false p.clear true test refl (eq-eqb p.due 0 l.0.3) in
+        let now = where_at p false p.mutator.clear true test refl (eq-eqb p.observer.due 0 l.0.3) in
         moves p (two (SawNext k x items)) es
-        (λ y e. now ∙ take_may (carries p.last i) (carries p.before i) p.clear (at p.items i) (at p.given i) has y (sym all ∙ e))
-        ((λ j. given_to (λ _. held) (all j) (now j)) ∙ take_goes (carries p.last i) (carries p.before i) p.clear (at p.items i) (at p.given i) has
-        ∙ sym (where_at q false p.clear false test refl (ne_eqb q.due 0 (λ e. let a = l.0.0 in let b = next_one in omega arith))))
+        (λ y e. now ∙ take_may (carries p.mutator.last i) (carries p.mutator.before i) p.mutator.clear (at p.mutator.items i) (at p.observer.given i) has y (sym all ∙ e))
+        ((λ j. given_to (λ _. held) (all j) (now j)) ∙ take_goes (carries p.mutator.last i) (carries p.mutator.before i) p.mutator.clear (at p.mutator.items i) (at p.observer.given i) has
+        ∙ sym (where_at q false p.mutator.clear false test refl (ne_eqb q.observer.due 0 (λ e. let a = l.0.0 in let b = next_one in omega arith))))
         (ring q es record { low = t.low; high = t.high; due = λ d. (due_is ∙ l.0.0, next_one); cleared = t.cleared; out = t.out; back = t.back } l.1))
     ring p (two (Ack k items) ∷ es) t l =
         let q = next p (two (Ack k items)) in
         let u = t.due (λ e. l.0.1 (l.0.0 ∙ e)) in
-        let k_is : k ≡ p.pushed = l.0.0 ∙ u.0 in
-        let ne : p.acked ≢ p.pushed = λ e. (let b = u.1 in omega arith) in
-        let c : p.clear ≡ false = not_true p.clear (λ e. ne (t.cleared e)) in
-        let has : is_some (at items i) ≡ (carries p.before i && not (carries p.last i)) = l.0.2.1 i lt in
-        let now = where_at p false false false (ne_eqb p.acked p.pushed ne) c (ne_eqb p.due 0 (λ e. l.0.1 (l.0.0 ∙ e))) in
+        let k_is : k ≡ p.mutator.pushed = l.0.0 ∙ u.0 in
+        let ne : p.observer.acked ≢ p.mutator.pushed = λ e. (let b = u.1 in omega arith) in
+        let c : p.mutator.clear ≡ false = not_true p.mutator.clear (λ e. ne (t.cleared e)) in
+        let has : is_some (at items i) ≡ (carries p.mutator.before i && not (carries p.mutator.last i)) = l.0.2.1 i lt in
+        let now = where_at p false false false (ne_eqb p.observer.acked p.mutator.pushed ne) c (ne_eqb p.observer.due 0 (λ e. l.0.1 (l.0.0 ∙ e))) in
         moves p (two (Ack k items)) es
-        (λ y e. now ∙ give_may (carries p.last i) (carries p.before i) false (at items i) (at p.items i) (at p.given i) has y e)
-        (ap (given_to coming (at items i)) now ∙ give_goes (carries p.last i) (carries p.before i) (at items i) (at p.items i) (at p.given i) has ∙ sym (where_at q true false true (eq-eqb k p.pushed k_is) c refl))
+        (λ y e. now ∙ give_may (carries p.mutator.last i) (carries p.mutator.before i) false (at items i) (at p.mutator.items i) (at p.observer.given i) has y e)
+        (ap (given_to coming (at items i)) now ∙ give_goes (carries p.mutator.last i) (carries p.mutator.before i) (at items i) (at p.mutator.items i) (at p.observer.given i) has ∙ sym (where_at q true false true (eq-eqb k p.mutator.pushed k_is) c refl))
         (ring q es record {
           low = (let e = k_is in omega arith);
           high = (let e = k_is in omega arith);
           due = λ d. absurd (d refl);
-          cleared = λ e. absurd (not_both p.clear e c);
+          cleared = λ e. absurd (not_both p.mutator.clear e c);
           out = λ n. absurd (n k_is);
           back = λ _ _. has;
         } l.1)
     ring p (two (observer.Learn c) ∷ es) t l = let q = next p (two (observer.Learn c)) in
-        moves p (two (observer.Learn c)) es tt (where_at p (p.acked == p.pushed) p.clear true refl refl (eq-eqb p.due 0 l.0.1) ∙ sym (where_at q (p.acked == p.pushed) p.clear true refl refl refl))
+        moves p (two (observer.Learn c)) es tt (where_at p (p.observer.acked == p.mutator.pushed) p.mutator.clear true refl refl (eq-eqb p.observer.due 0 l.0.1) ∙ sym (where_at q (p.observer.acked == p.mutator.pushed) p.mutator.clear true refl refl refl))
         (ring q es record { low = t.low; high = t.high; due = λ d. absurd (d refl); cleared = t.cleared; out = t.out; back = t.back } l.1)
 
   pub one_holder : (first : FastState) (ms : List (MutatorEvent P)) (os : List (ObserverEvent P)) → OneHolder first ms os

@@ -1,14 +1,15 @@
 -- The two ends of a new queue are the new plain queue.
-use Rattle.std.proofs.Common.{◌≡◌, ℕ, ◌<◌, ◌==◌, ◌||◌, not, if◌then◌else◌, true, List, [], Option, None, replicate, ap, sym, ◌∙◌, subst, arith}
+use Rattle.std.proofs.Common.{◌≡◌, ℕ, ◌<◌, ◌==◌, ◌||◌, not, if◌then◌else◌, List, [], Option, None, replicate, ap, sym, ◌∙◌, subst, arith}
 use Rattle.std.proofs.lemmas.List.{get_or-replicate, length-replicate}
 use Rattle.af_model.specs.declared.plain_calls.Place.{Place}
 use Rattle.af_model.specs.declared.plain_calls.Place.TheVariants.{Nowhere}
-use Rattle.af_model.specs.StateQueue.{slots}
+use Rattle.af_model.specs.declared.states.MutatorEvent.{MutatorEvent}
+use Rattle.af_model.specs.declared.states.ObserverEvent.{ObserverEvent}
+use Rattle.af_model.specs.StateQueue.{slots, mutated, observed}
 use Rattle.af_model.specs.Draft.{initial}
 use Rattle.af_model.specs.PlainQueue.{new_queue}
 use Rattle.af_stateq.specs.Mutates.{Mutates, IsNewMutator, at}
 use Rattle.af_stateq.specs.Observes.{Observes, IsNewObserver}
-use Rattle.af_stateq.specs.Laws.{last_number, last_state, is_clear, last_acked, last_given}
 use Rattle.af_stateq.specs.OneHand.{InPlace, AreInStep, AreAt, Agrees, items_going, items_coming}
 use Rattle.af_stateq.proofs.EndEvents.{none_going}
 
@@ -18,10 +19,10 @@ module _ {P K : Type 0} (frames : ℕ) (key : K) (m : Mutates P K) (o : Observes
 
   in_step : AreInStep m.past o.past
   in_step = record {
-    pushed = ap (last_number 0) n.silent.2 ∙ sym n.silent.0;
-    last = ap (last_state m.past.first) n.silent.2 ∙ n.begins.0 ∙ sym n.begins.1;
-    clear = ap (is_clear 0 true) n.silent.2 ∙ sym n.silent.1;
-    acked = ap (last_acked 0) p.silent.1 ∙ sym p.silent.0;
+    pushed = ap (λ (l : List (MutatorEvent P)). (mutated m.past.first l).pushed) n.silent.2 ∙ sym n.silent.0;
+    last = ap (λ (l : List (MutatorEvent P)). (mutated m.past.first l).last) n.silent.2 ∙ n.begins.0 ∙ sym n.begins.1;
+    clear = ap (λ (l : List (MutatorEvent P)). (mutated m.past.first l).clear) n.silent.2 ∙ sym n.silent.1;
+    acked = ap (λ (l : List (ObserverEvent P)). (observed l).acked) p.silent.1 ∙ sym p.silent.0;
     level = (let e = same in omega arith, let e = same in omega arith);
     seen = λ _. same;
   }
@@ -38,7 +39,7 @@ module _ {P K : Type 0} (frames : ℕ) (key : K) (m : Mutates P K) (o : Observes
       pending = empty_at m.pending i lt n.empty.0;
       going = ap (λ (l : List (Option P)). at l i) (none_going m.past o.past in_step same);
       held = empty_at o.items i lt p.empty.2;
-      coming = ap (λ b. at (if b || not (o.past.number == m.past.number) then [] else last_given [] o.past.events) i) n.silent.1;
+      coming = ap (λ b. at (if b || not (o.past.number == m.past.number) then [] else (observed o.past.events).given) i) n.silent.1;
       returned = empty_at m.returned i lt n.empty.1;
     };
   }

@@ -21,7 +21,7 @@ use Rattle.af_model.specs.declared.plain_calls.QueueCall.{QueueCall}
 use Rattle.af_model.specs.declared.plain_calls.QueueCall.TheVariants as call
 use Rattle.af_model.specs.declared.plain_calls.QueueAnswer.{QueueAnswer}
 use Rattle.af_model.specs.declared.plain_calls.QueueAnswer.TheVariants as answer
-use Rattle.af_model.specs.StateQueue.{slots, carries, HasHistory}
+use Rattle.af_model.specs.StateQueue.{slots, carries, mutated, observed, HasHistory}
 use Rattle.af_model.specs.Draft.{attached, detached}
 use Rattle.af_model.specs.PlainQueue.{QueueState, place_at, is_placed, returned_of, let_go, left, moved_from, readiness, is_allowed, shown, allowed_step, step}
 use Rattle.af_stateq.specs.Shelved.{word}
@@ -29,7 +29,6 @@ use Rattle.af_stateq.specs.Ends.{Pushes, Polls, saw, looked, took, acknowledged}
 use Rattle.af_stateq.specs.Mutates.{Mutates, at, is_out, InDraft}
 use Rattle.af_stateq.specs.Observes.{Observes}
 use Rattle.af_stateq.specs.Answers.{shows, WasPushed, WasAcked, WasPolled, sees_same}
-use Rattle.af_stateq.specs.Laws.{last_items, last_given}
 use Rattle.af_stateq.specs.OneHand.{AreAt, HaveMet, plain_of, Agrees, ready_of, Made, Tried, items_going, items_coming}
 use Rattle.af_stateq.proofs.Slots.{both_ways, none_back, not_false, and_one, on_shelf}
 use Rattle.af_stateq.proofs.InPlaces.{is_placed-left, is_placed-let_go, attach_at, detach_at, take_at}
@@ -103,7 +102,7 @@ module _ {P K : Type 0} (m : Mutates P K) (o : Observes P K) (places : List (Pla
         let same : o.past.number ≡ m.past.number = (let l = here.in_step.level in omega arith) in
         let e = eq-eqb o.past.number m.past.number same in
         let clear = begins z in
-        let none : items_coming m.past o.past ≡ [] = ap (λ b. if b || not (o.past.number == m.past.number) then [] else last_given [] o.past.events) clear in
+        let none : items_coming m.past o.past ≡ [] = ap (λ b. if b || not (o.past.number == m.past.number) then [] else (observed o.past.events).given) clear in
         kept_as call.Push _ m' o (answer.Pushed (pushing.Pushed (m.past.number + 1))) (shows m) o (ap (λ k. answer.Pushed (pushing.Pushed k)) w.1) (w.2 z).0 refl (
           moved_from Send 0 (moved_from SeeAck 0 places),
           shows_it m o (moved_from SeeAck 0 places) (sees_nothing m o places here none) same clear,
@@ -153,7 +152,7 @@ module _ {P K : Type 0} (m : Mutates P K) (o : Observes P K) (places : List (Pla
         let f = look_is_exact m.past o.past here.in_step met (o.past.number + 1) (Some x) came (Ack (o.past.number + 1) back ∷ [])
         (subst (λ (l : List (ObserverEvent P)). HasHistory m.past.first m.past.events l) (append_assoc o.past.events (SawNext (o.past.number + 1) (Some x) came ∷ []) (Ack (o.past.number + 1) back ∷ [])) (subst (λ (z : Observes P K). HasOrder m.past z.past) eo h)) in
         let e = ne_eqb o.past.number m.past.number (λ z. let y = f.0 in omega arith) in
-        let brought : came ≡ items_going m.past o.past = f.1.1 ∙ ap (λ b. if b then [] else last_items [] m.past.events) (sym e) in
+        let brought : came ≡ items_going m.past o.past = f.1.1 ∙ ap (λ b. if b then [] else (mutated m.past.first m.past.events).items) (sym e) in
         kept_as call.Poll _ m o' (answer.Polled (polling.New m.past.number)) m o0 (ap (λ k. answer.Polled (polling.New k)) (w.0 ∙ f.0)) refl eo (
           moved_from (Take x) 0 places,
           takes m o places here x came back (Some x) o.current o'.items w.1.1.3 f.0 brought,

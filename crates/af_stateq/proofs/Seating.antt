@@ -1,5 +1,5 @@
 -- The rule at the start, where the ends take their slots, and where a part changes seats.
-use Rattle.std.proofs.Common.{◌≡◌, ◌≢◌, ℕ, zero, suc, ◌+◌, ◌<◌, true, false, true≢false, List, [], ◌∷◌, length, map, drop, set, get_or, replicate, None, sym, refl, ap, ◌∙◌, arith, length-set}
+use Rattle.std.proofs.Common.{◌≡◌, ◌≢◌, ℕ, zero, suc, ◌+◌, ◌<◌, true, false, true≢false, List, [], ◌∷◌, map, drop, set, get_or, replicate, None, sym, refl, ap, ◌∙◌, arith, length-set}
 use mathlib.Core.Option as maybe
 use lib.ListN.{get_elem?}
 use Rattle.std.proofs.lemmas.List.{drop-set-lt}
@@ -11,11 +11,11 @@ use Rattle.af_stateq.specs.declared.rule.Basis.{Basis}
 use Rattle.af_stateq.specs.declared.view.View.{View}
 use Rattle.af_stateq.specs.declared.view.Mutating.{Mutating}
 use Rattle.af_stateq.specs.declared.view.Observing.{Observing}
-use Rattle.af_model.proofs.Holds.{mine, same, none as lacking, joined_none, moved, taken as taken_over}
+use Rattle.af_model.proofs.PartySteps.{one_changes, two_changes, two_leaves, two_comes}
 use mathlib.Core.Option.{some-injective, some-ne-none}
 use Rattle.af_model.specs.StateQueue.{slots, start}
 use Rattle.af_stateq.proofs.Acts.{takes_all, carried_takes, takes_else, length_takes, takes_valid}
-use Rattle.af_stateq.specs.Shelved.{cell, cells, starting, spent, has_mutating, mutating, has_observing, observing, Phase, quiet, shown, taken, InPhase, Kept, Seated, sat_mutator, sat_observer}
+use Rattle.af_stateq.specs.Shelved.{cell, cells, starting, spent, has_mutating, mutating, has_observing, observing, Phase, quiet, shown, taken, known_by, InPhase, Kept, Seated, sat_mutator, sat_observer}
 
 module _ {P K : Type 0} (fits : K → ℕ → P → Type 0) (basis : Basis K) where
   abbrev Rule : State (Slot P) (View P K) → Type 0
@@ -35,23 +35,22 @@ module _ {P K : Type 0} (fits : K → ℕ → P → Type 0) (basis : Basis K) wh
       record {
         m = v.mutating;
         o = v.observing;
-        m_at = 0;
-        o_at = 0;
-        one_mutator = λ j u e _. ((alone v j u e).0, ap mutating (sym (alone v j u e).1));
-        one_observer = λ j u e _. ((alone v j u e).0, ap observing (sym (alone v j u e).1));
-        keys = (refl, refl, refl);
-        history = record { order = []; is_legal = tt; of_one = refl; of_two = refl };
-        point = start basis.first;
-        point_is = refl;
-        counts = (refl, refl);
-        numbers = (refl, refl, refl, refl);
-        states = (refl, refl);
+        seats = record {
+          one_at = 0;
+          two_at = 0;
+          one_held = λ j u e _. ((alone v j u e).0, ap mutating (sym (alone v j u e).1));
+          two_held = λ j u e _. ((alone v j u e).0, ap observing (sym (alone v j u e).1));
+        };
+        stands = record { history = record { order = []; is_legal = tt; of_one = refl; of_two = refl }; point = start basis.first; point_is = refl };
+        ties = record { keys = (refl, refl, refl); counts = (refl, refl); numbers = (refl, refl, refl, refl); states = (refl, refl) };
         words = refl;
-        whole = refl;
-        phase = quiet;
-        in_phase = (refl, refl, refl, (empty, refl), λ e. absurd (true≢false e));
-        m_home = λ _. (refl, refl, (empty, refl), (replicate slots empty, refl, refl));
-        o_home = λ _. (refl, (empty, refl), (empty, refl));
+        laid = record {
+          whole = refl;
+          phase = quiet;
+          in_phase = (refl, refl, refl, (empty, refl), λ e. absurd (true≢false e));
+          m_home = λ _. (refl, refl, (empty, refl), (replicate slots empty, refl, refl));
+          o_home = λ _. (refl, (empty, refl), (empty, refl));
+        };
       }
 
   pub splits_allowed : (id : ℕ) (v : View P K) → v.observes ≡ true → Splits Rule id v (record v { observes = false }) (record v { mutates = false })
@@ -61,23 +60,11 @@ module _ {P K : Type 0} (fits : K → ℕ → P → Type 0) (basis : Basis K) wh
       record {
         m = k.m;
         o = k.o;
-        m_at = k.m_at;
-        o_at = length (set s.views id a);
-        one_mutator = joined_none has_mutating mutating (set s.views id a) k.m_at k.m b (same has_mutating mutating s.views k.m_at id k.m v a k.one_mutator here refl refl) refl;
-        one_observer = moved has_observing observing s.views k.o_at id k.o v a b k.one_observer here ok refl refl;
-        keys = k.keys;
-        history = k.history;
-        point = k.point;
-        point_is = k.point_is;
-        counts = k.counts;
-        numbers = k.numbers;
-        states = k.states;
+        seats = two_leaves has_mutating mutating has_observing observing s.views k.m k.o k.seats id v here a b ok refl refl refl refl refl;
+        stands = k.stands;
+        ties = k.ties;
         words = k.words;
-        whole = k.whole;
-        phase = k.phase;
-        in_phase = k.in_phase;
-        m_home = k.m_home;
-        o_home = k.o_home;
+        laid = k.laid;
       }
 
   pub joins_allowed : (id : ℕ) (v : View P K) (other : ℕ) (w : View P K) → w.observes ≡ true → Joins Rule id v other w (record v { observes = w.observes; observing = w.observing }) spent
@@ -86,28 +73,16 @@ module _ {P K : Type 0} (fits : K → ℕ → P → Type 0) (basis : Basis K) wh
       record {
         m = k.m;
         o = k.o;
-        m_at = k.m_at;
-        o_at = id;
-        one_mutator = lacking has_mutating mutating (set s.views id both) k.m_at other k.m spent (same has_mutating mutating s.views k.m_at id k.m v both k.one_mutator here refl refl) refl;
-        one_observer = taken_over has_observing observing s.views k.o_at id other k.o w both spent k.one_observer apart there ok refl refl;
-        keys = k.keys;
-        history = k.history;
-        point = k.point;
-        point_is = k.point_is;
-        counts = k.counts;
-        numbers = k.numbers;
-        states = k.states;
+        seats = two_comes has_mutating mutating has_observing observing s.views k.m k.o k.seats id v here other w both spent apart there ok refl refl refl refl refl;
+        stands = k.stands;
+        ties = k.ties;
         words = k.words;
-        whole = k.whole;
-        phase = k.phase;
-        in_phase = k.in_phase;
-        m_home = k.m_home;
-        o_home = k.o_home;
+        laid = k.laid;
       }
 
   module _ (s : State (Slot P) (View P K)) (k : Rule s) where
     abbrev Now : Mutating P K → Observing P K → Homes → Phase → Type 0
-    Now m o hs = InPhase (fits basis.key) m o k.point hs
+    Now m o hs = InPhase (fits basis.key) (known_by m o k.stands.point) hs
 
     -- a mutator takes the shelves ys, and then its cell
     module _ (cs : List (ℕ × Slot P)) (ys : List (Slot P)) where
@@ -148,8 +123,8 @@ module _ {P K : Type 0} (fits : K → ℕ → P → Type 0) (basis : Basis K) wh
   sits_mutator slots id me ok home s k len here low =
       let v = me.0 in
       let w : View P K = record v { mutating = record v.mutating { out = true } } in
-      let is : v.mutating ≡ k.m = (k.one_mutator id v here ok).1 in
-      let h = k.m_home (ap (λ (m : Mutating P K). m.out) (sym is) ∙ home) in
+      let is : v.mutating ≡ k.m = (k.seats.one_held id v here ok).1 in
+      let h = k.laid.m_home (ap (λ (m : Mutating P K). m.out) (sym is) ∙ home) in
       let ys : List (Slot P) = h.3.0 in (
         w,
         chain (takes_all cells ys) (takes 0 h.2.0),
@@ -157,23 +132,17 @@ module _ {P K : Type 0} (fits : K → ℕ → P → Type 0) (basis : Basis K) wh
         record {
           m = record k.m { out = true };
           o = k.o;
-          m_at = id;
-          o_at = k.o_at;
-          one_mutator = mine has_mutating mutating s.views k.m_at id k.m (record k.m { out = true }) v w k.one_mutator here ok (ap (λ (m : Mutating P K). record m { out = true }) is);
-          one_observer = same has_observing observing s.views k.o_at id k.o v w k.one_observer here refl refl;
-          keys = k.keys;
-          history = k.history;
-          point = k.point;
-          point_is = k.point_is;
-          counts = k.counts;
-          numbers = k.numbers;
-          states = k.states;
+          seats = one_changes has_mutating mutating has_observing observing s.views k.m k.o k.seats id v here w (record k.m { out = true }) ok (ap (λ (m : Mutating P K). record m { out = true }) is) refl refl;
+          stands = k.stands;
+          ties = record { keys = k.ties.keys; counts = k.ties.counts; numbers = k.ties.numbers; states = k.ties.states };
           words = ap (λ (ws : List ℕ). set ws 0 (get_or ws 0 0)) k.words;
-          whole = length-set (h1 s k me.1 ys) 0 maybe.none ∙ length_takes cells ys s.homes me.1 ∙ k.whole;
-          phase = k.phase;
-          in_phase = seated_m s k me.1 ys k.phase h.0 h.1 k.in_phase;
-          m_home = λ e. absurd (true≢false e);
-          o_home = λ e. let b = k.o_home e in (b.0, (b.1.0, far s k me.1 ys 3 b.1.0 (omega arith) (omega arith) b.1.1), (b.2.0, far s k me.1 ys 2 b.2.0 (omega arith) (omega arith) b.2.1));
+          laid = record {
+            whole = length-set (h1 s k me.1 ys) 0 maybe.none ∙ length_takes cells ys s.homes me.1 ∙ k.laid.whole;
+            phase = k.laid.phase;
+            in_phase = seated_m s k me.1 ys k.laid.phase h.0 h.1 k.laid.in_phase;
+            m_home = λ e. absurd (true≢false e);
+            o_home = λ e. let b = k.laid.o_home e in (b.0, (b.1.0, far s k me.1 ys 3 b.1.0 (omega arith) (omega arith) b.1.1), (b.2.0, far s k me.1 ys 2 b.2.0 (omega arith) (omega arith) b.2.1));
+          };
         },
         (h.2.0, ys, h.3.2, λ i. (w, (0, h.2.0) ∷ carried_takes cells ys me.1 i)),
       )
@@ -182,31 +151,25 @@ module _ {P K : Type 0} (fits : K → ℕ → P → Type 0) (basis : Basis K) wh
   sits_observer slots id me ok home s k len here low =
       let v = me.0 in
       let w : View P K = record v { observing = record v.observing { out = true } } in
-      let is : v.observing ≡ k.o = (k.one_observer id v here ok).1 in
-      let h = k.o_home (ap (λ (o : Observing P K). o.out) (sym is) ∙ home) in (
+      let is : v.observing ≡ k.o = (k.seats.two_held id v here ok).1 in
+      let h = k.laid.o_home (ap (λ (o : Observing P K). o.out) (sym is) ∙ home) in (
         w,
         chain (takes 2 h.2.0) (takes 3 h.1.0),
         (h.2.1, set_else s.homes 2 3 maybe.none (λ e. omega arith) ∙ h.1.1),
         record {
           m = k.m;
           o = record k.o { out = true };
-          m_at = k.m_at;
-          o_at = id;
-          one_mutator = same has_mutating mutating s.views k.m_at id k.m v w k.one_mutator here refl refl;
-          one_observer = mine has_observing observing s.views k.o_at id k.o (record k.o { out = true }) v w k.one_observer here ok (ap (λ (o : Observing P K). record o { out = true }) is);
-          keys = k.keys;
-          history = k.history;
-          point = k.point;
-          point_is = k.point_is;
-          counts = k.counts;
-          numbers = k.numbers;
-          states = k.states;
+          seats = two_changes has_mutating mutating has_observing observing s.views k.m k.o k.seats id v here w (record k.o { out = true }) ok (ap (λ (o : Observing P K). record o { out = true }) is) refl refl;
+          stands = k.stands;
+          ties = record { keys = k.ties.keys; counts = k.ties.counts; numbers = k.ties.numbers; states = k.ties.states };
           words = ap (λ (ws : List ℕ). set ws 0 (get_or ws 0 0)) k.words;
-          whole = length-set (g1 s k) 3 maybe.none ∙ length-set s.homes 2 maybe.none ∙ k.whole;
-          phase = k.phase;
-          in_phase = seated_o s k k.phase h.0 k.in_phase;
-          m_home = λ e. let b = k.m_home e in (b.0, b.1, (b.2.0, near s k 0 b.2.0 (λ e. omega arith) (λ e. omega arith) b.2.1), (b.3.0, still s k (map maybe.some b.3.0) b.3.1, b.3.2));
-          o_home = λ e. absurd (true≢false e);
+          laid = record {
+            whole = length-set (g1 s k) 3 maybe.none ∙ length-set s.homes 2 maybe.none ∙ k.laid.whole;
+            phase = k.laid.phase;
+            in_phase = seated_o s k k.laid.phase h.0 k.laid.in_phase;
+            m_home = λ e. let b = k.laid.m_home e in (b.0, b.1, (b.2.0, near s k 0 b.2.0 (λ e. omega arith) (λ e. omega arith) b.2.1), (b.3.0, still s k (map maybe.some b.3.0) b.3.1, b.3.2));
+            o_home = λ e. absurd (true≢false e);
+          };
         },
         (h.1.0, h.2.0, refl),
       )

@@ -1,13 +1,15 @@
 -- The observer's numbers and states are those that its events tell.
-use Rattle.std.proofs.Common.{◌≡◌, ℕ, ◌+◌, ◌-◌, List, [], ◌∷◌, ◌++◌, length, Option, Some, None, refl, ap, sym, ◌∙◌, subst, arith, append_assoc, length-append}
+use Rattle.std.proofs.Common.{◌≡◌, ℕ, ◌+◌, ◌-◌, List, [], ◌∷◌, ◌++◌, length, fold, Option, Some, None, refl, ap, sym, ◌∙◌, subst, arith, append_assoc, length-append}
 use Rattle.std.proofs.lemmas.List.{append-nil}
+use Rattle.std.proofs.lemmas.List.Sums.{fold-append}
 use Rattle.af_base.specs.declared.state.FastState.{FastState}
 use Rattle.af_model.specs.declared.states.ObserverEvent.{ObserverEvent}
 use Rattle.af_model.specs.declared.states.ObserverEvent.TheVariants.{SawNext, Ack}
 use Rattle.af_model.specs.declared.states.ObserverEvent.TheVariants as observer
 use Rattle.af_model.specs.Cycles.{state_of}
 use Rattle.af_model.proofs.UsedStates.{state_of-before, state_of-newest}
-use Rattle.af_stateq.specs.Laws.{polled_states, last_acked}
+use Rattle.af_model.specs.StateQueue.{ObserverPoint, observer_start, observer_next, observed}
+use Rattle.af_stateq.specs.Laws.{polled_states}
 use Rattle.af_stateq.specs.Observes.{Observes, InOrder, AreTold}
 
 module _ {P : Type 0} where
@@ -19,21 +21,18 @@ module _ {P : Type 0} where
   polled_more rest more h y (Ack k items ∷ es) = ap (λ z. y ∷ z) (polled_more rest more h y es)
   polled_more rest more h y (observer.Learn c ∷ es) = polled_more rest more h y es
 
-  acked_more : (n : ℕ) (es rest : List (ObserverEvent P)) → last_acked n (es ++ rest) ≡ last_acked (last_acked n es) rest
-  acked_more n [] rest = refl
-  acked_more n (SawNext k x items ∷ es) rest = acked_more n es rest
-  acked_more n (Ack k items ∷ es) rest = acked_more k es rest
-  acked_more n (observer.Learn c ∷ es) rest = acked_more n es rest
+  acked_more : (es rest : List (ObserverEvent P)) → (observed (es ++ rest)).acked ≡ (fold observer_next (observed es) rest).acked
+  acked_more es rest = ap (λ (z : ObserverPoint P). z.acked) (fold-append observer_next observer_start es rest)
 
   pub told_start : (x : FastState) → AreTold {P = P} [] 0 x None None
   told_start x = record { acked = refl; counted = λ _. refl; current = λ _. refl; previous = λ _. refl; state = λ lt. absurd (omega arith) }
 
   module _ (es : List (ObserverEvent P)) (n : ℕ) (s : FastState) (current previous : Option FastState) (t : AreTold es n s current previous) where
     -- events that acknowledge nothing
-    pub told_quiet : (rest : List (ObserverEvent P)) → ((y : FastState) → polled_states y rest ≡ []) → ((a : ℕ) → last_acked a rest ≡ a) → AreTold (es ++ rest) n s current previous
+    pub told_quiet : (rest : List (ObserverEvent P)) → ((y : FastState) → polled_states y rest ≡ []) → ((o : ObserverPoint P) → (fold observer_next o rest).acked ≡ o.acked) → AreTold (es ++ rest) n s current previous
     told_quiet rest none same =
         let states : (y : FastState) → polled_states y (es ++ rest) ≡ polled_states y es = λ y. polled_more rest [] none y es ∙ append-nil (polled_states y es) in record {
-          acked = acked_more 0 es rest ∙ same (last_acked 0 es) ∙ t.acked;
+          acked = acked_more es rest ∙ same (observed es) ∙ t.acked;
           counted = λ y. ap length (states y) ∙ t.counted y;
           current = λ y. ap (λ (xs : List FastState). state_of xs n) (states y) ∙ t.current y;
           previous = λ y. ap (λ (xs : List FastState). state_of xs (n - 1)) (states y) ∙ t.previous y;
@@ -52,7 +51,7 @@ module _ {P : Type 0} where
         let two : List (ObserverEvent P) = SawNext (n + 1) (Some x) came ∷ Ack (n + 1) back ∷ [] in
         let states : (y : FastState) → polled_states y (es ++ two) ≡ polled_states y es ++ x ∷ [] = λ y. polled_more two (x ∷ []) (λ _. refl) y es in
         subst (λ (l : List (ObserverEvent P)). AreTold l (n + 1) x (Some x) current) (sym (append_assoc es (SawNext (n + 1) (Some x) came ∷ []) (Ack (n + 1) back ∷ []))) record {
-          acked = acked_more 0 es two;
+          acked = acked_more es two;
           counted = λ y. ap length (states y) ∙ length-append (polled_states y es) (x ∷ []) ∙ ap (λ k. k + 1) (t.counted y);
           current = λ y. ap (λ (xs : List FastState). state_of xs (n + 1)) (states y) ∙ ap (λ k. state_of (polled_states y es ++ x ∷ []) (k + 1)) (sym (t.counted y)) ∙ state_of-newest (polled_states y es) x;
           previous = λ y. let e : (n + 1) - 1 ≡ n = omega arith in let c = t.counted y in

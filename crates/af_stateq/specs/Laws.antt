@@ -1,5 +1,6 @@
 -- What a history of a state queue says of the states, and of the item of one slot.
-use Rattle.std.specs.Prelude.{◌≡◌, ℕ, suc, ◌≤◌, ◌<◌, ◌==◌, ◌&&◌, not, if◌then◌else◌, Bool, true, false, List, [], ◌∷◌, ◌++◌, length, Option, Some, None, IfSome}
+use Rattle.std.specs.Prelude.{◌≡◌, ℕ, ◌≤◌, ◌<◌, ◌==◌, ◌&&◌, not, if◌then◌else◌, Bool, true, false, List, [], ◌∷◌, ◌++◌, length, Option, Some, None, IfSome}
+use Rattle.std.specs.List.{list_any}
 use Rattle.af_base.specs.declared.state.FastState.{FastState}
 use Rattle.af_model.specs.declared.states.MutatorEvent.{MutatorEvent}
 use Rattle.af_model.specs.declared.states.MutatorEvent.TheVariants.{Push, SawAck}
@@ -8,7 +9,7 @@ use Rattle.af_model.specs.declared.states.ObserverEvent.{ObserverEvent}
 use Rattle.af_model.specs.declared.states.ObserverEvent.TheVariants.{SawNext, Ack}
 use Rattle.af_model.specs.declared.states.ObserverEvent.TheVariants as observer
 use Rattle.af_model.specs.Order.{Event, one, two, Legal}
-use Rattle.af_model.specs.StateQueue.{slots, carries, HasHistory}
+use Rattle.af_model.specs.StateQueue.{slots, carries, mutated, observed, HasHistory}
 use Rattle.af_stateq.specs.Mutates.{at}
 
 module _ {P : Type 0} where
@@ -27,73 +28,26 @@ module _ {P : Type 0} where
   polled_states y (Ack k items ∷ es) = y ∷ polled_states y es
   polled_states y (observer.Learn c ∷ es) = polled_states y es
 
-  -- the number of the last state pushed, n where none was
-  abbrev pub last_number : ℕ → List (MutatorEvent P) → ℕ
-  last_number n [] = n
-  last_number n (Push k x items ∷ ms) = last_number k ms
-  last_number n (SawAck a items ∷ ms) = last_number n ms
-  last_number n (mutator.Learn c ∷ ms) = last_number n ms
+  -- whether an event is a push, an acknowledgement
+  abbrev pub is_push : MutatorEvent P → Bool
+  is_push (Push k x items) = true
+  is_push _ = false
 
-  -- that state, y where none was
-  abbrev pub last_state : FastState → List (MutatorEvent P) → FastState
-  last_state y [] = y
-  last_state y (Push k x items ∷ ms) = last_state x ms
-  last_state y (SawAck a items ∷ ms) = last_state y ms
-  last_state y (mutator.Learn c ∷ ms) = last_state y ms
-
-  -- the items that it carried, none where there is no such state
-  abbrev pub last_items : List (Option P) → List (MutatorEvent P) → List (Option P)
-  last_items y [] = y
-  last_items y (Push k x items ∷ ms) = last_items items ms
-  last_items y (SawAck a items ∷ ms) = last_items y ms
-  last_items y (mutator.Learn c ∷ ms) = last_items y ms
-
-  -- whether the last state pushed was seen acknowledged, or none was pushed. The state n was the last one before these events
-  abbrev pub is_clear : ℕ → Bool → List (MutatorEvent P) → Bool
-  is_clear n clear [] = clear
-  is_clear n clear (Push k x items ∷ ms) = is_clear k false ms
-  is_clear n clear (SawAck a items ∷ ms) = is_clear n (a == n) ms
-  is_clear n clear (mutator.Learn c ∷ ms) = is_clear n clear ms
-
-  -- the number of the last state acknowledged, n where none was
-  abbrev pub last_acked : ℕ → List (ObserverEvent P) → ℕ
-  last_acked n [] = n
-  last_acked n (SawNext k x items ∷ os) = last_acked n os
-  last_acked n (Ack k items ∷ os) = last_acked k os
-  last_acked n (observer.Learn c ∷ os) = last_acked n os
-
-  -- the items given back with it
-  abbrev pub last_given : List (Option P) → List (ObserverEvent P) → List (Option P)
-  last_given y [] = y
-  last_given y (SawNext k x items ∷ os) = last_given y os
-  last_given y (Ack k items ∷ os) = last_given items os
-  last_given y (observer.Learn c ∷ os) = last_given y os
-
-  -- how many states were acknowledged
-  abbrev pub acks_of : List (ObserverEvent P) → ℕ
-  acks_of [] = 0
-  acks_of (SawNext k x items ∷ os) = acks_of os
-  acks_of (Ack k items ∷ os) = suc (acks_of os)
-  acks_of (observer.Learn c ∷ os) = acks_of os
-
-  -- how many states were pushed
-  abbrev pub pushes_of : List (MutatorEvent P) → ℕ
-  pushes_of [] = 0
-  pushes_of (Push k x items ∷ ms) = suc (pushes_of ms)
-  pushes_of (SawAck a items ∷ ms) = pushes_of ms
-  pushes_of (mutator.Learn c ∷ ms) = pushes_of ms
+  abbrev pub is_ack : ObserverEvent P → Bool
+  is_ack (Ack k items) = true
+  is_ack _ = false
 
   -- Where the observer learnt of the events `told`, and the mutator pushed nothing after them, the next look finds the number of the last push, and where it shows a state it shows that one, with the items that it carried
   abbrev pub SeesTheLast : FastState → List (MutatorEvent P) → Type 0
   SeesTheLast first ms =
-      (told more : List (MutatorEvent P)) (os rest : List (ObserverEvent P)) (c n : ℕ) (x : Option FastState) (items : List (Option P)) → HasHistory first ms ((os ++ observer.Learn c ∷ []) ++ SawNext n x items ∷ rest) → ms ≡ told ++ more → length told ≤ c → pushes_of more ≡ 0
-      → (n ≡ last_number 0 ms) × IfSome x (λ s. (s ≡ last_state first ms) × (items ≡ last_items [] ms))
+      (told more : List (MutatorEvent P)) (os rest : List (ObserverEvent P)) (c n : ℕ) (x : Option FastState) (items : List (Option P)) → HasHistory first ms ((os ++ observer.Learn c ∷ []) ++ SawNext n x items ∷ rest) → ms ≡ told ++ more → length told ≤ c → list_any is_push more ≡ false
+      → (n ≡ (mutated first ms).pushed) × IfSome x (λ s. (s ≡ (mutated first ms).last) × (items ≡ (mutated first ms).items))
 
   -- Where the mutator learnt of the events `told`, and the observer acknowledged nothing after them, the next look at the acknowledgement finds the number of the last one, and brings the items given back with it where they are those of the last push and weren't brought before
   abbrev pub SeesTheAck : FastState → List (ObserverEvent P) → Type 0
   SeesTheAck first os =
-      (told more : List (ObserverEvent P)) (ms rest : List (MutatorEvent P)) (c a : ℕ) (items : List (Option P)) → HasHistory first ((ms ++ mutator.Learn c ∷ []) ++ SawAck a items ∷ rest) os → os ≡ told ++ more → length told ≤ c → acks_of more ≡ 0
-      → (a ≡ last_acked 0 os) × (items ≡ (if not (is_clear 0 true ms) && (a == last_number 0 ms) then last_given [] os else []))
+      (told more : List (ObserverEvent P)) (ms rest : List (MutatorEvent P)) (c a : ℕ) (items : List (Option P)) → HasHistory first ((ms ++ mutator.Learn c ∷ []) ++ SawAck a items ∷ rest) os → os ≡ told ++ more → length told ≤ c → list_any is_ack more ≡ false
+      → (a ≡ (observed os).acked) × (items ≡ (if not (mutated first ms).clear && (a == (mutated first ms).pushed) then (observed os).given else []))
 
   -- the states polled are a prefix of the states pushed, and at most one is missing
   abbrev pub PolledInOrder : FastState → List (MutatorEvent P) → List (ObserverEvent P) → Type 0

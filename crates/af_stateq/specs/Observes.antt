@@ -3,11 +3,11 @@ use Rattle.std.specs.Prelude.{◌≡◌, ℕ, ◌-◌, ◌<◌, ◌||◌, not, i
 use Rattle.af_base.specs.declared.state.FastState.{FastState}
 use Rattle.af_model.specs.declared.states.ObserverEvent.{ObserverEvent}
 use Rattle.af_model.specs.Cycles.{state_of}
-use Rattle.af_model.specs.StateQueue.{slots, carries, has, IsState, FitAt}
+use Rattle.af_model.specs.StateQueue.{slots, carries, has, IsState, FitAt, observed}
 use Rattle.af_stateq.specs.Shelved.{nothing}
 use Rattle.af_stateq.specs.Ends.{Polls}
 use Rattle.af_stateq.specs.Mutates.{at}
-use Rattle.af_stateq.specs.Laws.{polled_states, last_acked}
+use Rattle.af_stateq.specs.Laws.{polled_states}
 
 -- what it saw and acknowledged, the current state and the one before, and the items that it holds
 pub record Observes (P K : Type 0) : Type 0 where
@@ -18,7 +18,7 @@ pub record Observes (P K : Type 0) : Type 0 where
 
 -- the number is that of the last acknowledgement among these events, and the current and the previous state are the last two polled, whatever the first state was
 pub record AreTold {P : Type 0} (events : List (ObserverEvent P)) (n : ℕ) (x : FastState) (now before : Option FastState) : Type 0 where
-  pub acked : last_acked 0 events ≡ n
+  pub acked : (observed events).acked ≡ n
   pub counted : (first : FastState) → length (polled_states first events) ≡ n
   pub current : (first : FastState) → state_of (polled_states first events) n ≡ now
   pub previous : (first : FastState) → state_of (polled_states first events) (n - 1) ≡ before

@@ -14,14 +14,13 @@ use Rattle.af_model.specs.declared.plain_calls.QueueCall.{QueueCall}
 use Rattle.af_model.specs.declared.plain_calls.QueueCall.TheVariants as call
 use Rattle.af_model.specs.declared.plain_calls.QueueAnswer.{QueueAnswer}
 use Rattle.af_model.specs.declared.plain_calls.QueueAnswer.TheVariants as answer
-use Rattle.af_model.specs.StateQueue.{slots}
+use Rattle.af_model.specs.StateQueue.{slots, mutated, observed}
 use Rattle.af_model.specs.Draft.{attached, detached, commanded}
 use Rattle.af_model.specs.PlainQueue.{QueueState, place_at, is_placed, held_of, returned_of, is_allowed}
 use Rattle.af_stateq.specs.Ends.{Pushes, Polls}
 use Rattle.af_stateq.specs.Mutates.{Mutates, at, is_out}
 use Rattle.af_stateq.specs.Observes.{Observes}
 use Rattle.af_stateq.specs.Answers.{WasPushed, WasAcked, WasPolled}
-use Rattle.af_stateq.specs.Laws.{last_number, last_state, last_items, is_clear, last_acked, last_given}
 
 module _ {P : Type 0} where
   -- the item that is attached and not pushed yet
@@ -50,18 +49,18 @@ module _ {P : Type 0} where
 module _ {P K : Type 0} where
   -- the items of the last push, as long as its state is not polled
   abbrev pub items_going : Pushes P K → Polls P K → List (Option P)
-  items_going m o = if o.number == m.number then [] else last_items [] m.events
+  items_going m o = if o.number == m.number then [] else (mutated m.first m.events).items
 
   -- the items given back with the last acknowledgement, as long as it is not seen
   abbrev pub items_coming : Pushes P K → Polls P K → List (Option P)
-  items_coming m o = if m.clear || not (o.number == m.number) then [] else last_given [] o.events
+  items_coming m o = if m.clear || not (o.number == m.number) then [] else (observed o.events).given
 
   -- the numbers and states of the ends are those of their events, and the observer is at the last push or at the one before
   pub record AreInStep (m : Pushes P K) (o : Polls P K) : Type 0 where
-    pub pushed : last_number 0 m.events ≡ m.number
-    pub last : last_state m.first m.events ≡ m.last
-    pub clear : is_clear 0 true m.events ≡ m.clear
-    pub acked : last_acked 0 o.events ≡ o.number
+    pub pushed : (mutated m.first m.events).pushed ≡ m.number
+    pub last : (mutated m.first m.events).last ≡ m.last
+    pub clear : (mutated m.first m.events).clear ≡ m.clear
+    pub acked : (observed o.events).acked ≡ o.number
     pub level : (o.number ≤ m.number) × (m.number ≤ o.number + 1)
     pub seen : m.clear ≡ true → o.number ≡ m.number
 

@@ -15,8 +15,7 @@ use Rattle.af_model.specs.declared.states.MutatorEvent.TheVariants.{Push, SawAck
 use Rattle.af_model.specs.declared.states.MutatorEvent.TheVariants as mutator
 use Rattle.af_model.specs.declared.states.ObserverEvent.TheVariants.{SawNext, Ack}
 use Rattle.af_model.specs.declared.states.ObserverEvent.TheVariants as observer
-use Rattle.af_model.specs.Order.{after}
-use Rattle.af_model.specs.Held.{Held}
+use Rattle.af_model.specs.Parties.{AreHeld, Stands}
 pub use Rattle.af_model.specs.StateQueue.{cell, word}
 use Rattle.af_model.specs.StateQueue.{slots, AreOf, AllFit, FitAt, QueuePoint, start, legal, next, HasHistory}
 
@@ -88,33 +87,79 @@ pub data Phase : Type 0 where
   shown : Phase
   taken : Phase
 
-module _ {P K : Type 0} (fits : ℕ → P → Type 0) (m : Mutating P K) (o : Observing P K) (p : QueuePoint P) (homes : List (maybe.Option (Slot P))) where
-  abbrev pub InPhase : Phase → Type 0
-  InPhase quiet = (o.current ≡ m.pushed) × (o.due ≡ false) × (o.state ≡ p.last) × IsHome homes (cell (m.pushed + 2)) × (m.clear ≡ false → OnShelves homes p.given × AreOf p.before p.last p.given × AllFit fits p.before p.given)
-  InPhase shown = (m.pushed ≡ o.current + 1) × (o.due ≡ false) × (m.clear ≡ false) × (o.state ≡ p.before)
-      × ((x : Slot P) × (get_elem? homes (cell m.pushed) ≡ maybe.some (maybe.some x)) × (x.state ≡ p.last)) × OnShelves homes p.items × AreOf p.last p.before p.items × AllFit fits p.last p.items
-  InPhase taken = (m.pushed ≡ o.current + 1) × (o.due ≡ true) × (m.clear ≡ false) × (o.state ≡ p.before) × (o.next ≡ p.last)
+-- what the two parties know beside their events, and what their events leave that changes hands
+pub record Known (P K : Type 0) : Type 0 where
+  pub m_key : Option K
+  pub first : FastState
+  pub pushed : ℕ
+  pub last : FastState
+  pub before : FastState
+  pub clear : Bool
+  pub m_out : Bool
+  pub o_key : Option K
+  pub current : ℕ
+  pub state : FastState
+  pub due : Bool
+  pub next : FastState
+  pub o_out : Bool
+  pub told_last : FastState
+  pub told_before : FastState
+  pub items : List (Option P)
+  pub given : List (Option P)
 
+module _ {P K : Type 0} where
+  abbrev pub known_by : Mutating P K → Observing P K → QueuePoint P → Known P K
+  known_by m o p = record {
+    m_key = m.key;
+    first = m.first;
+    pushed = m.pushed;
+    last = m.last;
+    before = m.before;
+    clear = m.clear;
+    m_out = m.out;
+    o_key = o.key;
+    current = o.current;
+    state = o.state;
+    due = o.due;
+    next = o.next;
+    o_out = o.out;
+    told_last = p.mutator.last;
+    told_before = p.mutator.before;
+    items = p.mutator.items;
+    given = p.observer.given;
+  }
+
+module _ {P K : Type 0} (fits : ℕ → P → Type 0) (k : Known P K) (homes : List (maybe.Option (Slot P))) where
+  abbrev pub InPhase : Phase → Type 0
+  InPhase quiet = (k.current ≡ k.pushed) × (k.due ≡ false) × (k.state ≡ k.told_last) × IsHome homes (cell (k.pushed + 2)) × (k.clear ≡ false → OnShelves homes k.given × AreOf k.told_before k.told_last k.given × AllFit fits k.told_before k.given)
+  InPhase shown = (k.pushed ≡ k.current + 1) × (k.due ≡ false) × (k.clear ≡ false) × (k.state ≡ k.told_before)
+      × ((x : Slot P) × (get_elem? homes (cell k.pushed) ≡ maybe.some (maybe.some x)) × (x.state ≡ k.told_last)) × OnShelves homes k.items × AreOf k.told_last k.told_before k.items × AllFit fits k.told_last k.items
+  InPhase taken = (k.pushed ≡ k.current + 1) × (k.due ≡ true) × (k.clear ≡ false) × (k.state ≡ k.told_before) × (k.next ≡ k.told_last)
+
+  -- what lies at home
+  pub record AreLaid : Type 0 where
+    pub whole : length homes ≡ cells + slots
+    pub phase : Phase
+    pub in_phase : InPhase phase
+    pub m_home : k.m_out ≡ false → (k.pushed ≡ 0) × (k.clear ≡ true) × IsHome homes 0 × OnShelves homes nothing
+    pub o_home : k.o_out ≡ false → (k.current ≡ 0) × IsHome homes 3 × IsHome homes 2
+
+-- what the parties know is what their events leave
+pub record AreTied {P K : Type 0} (basis : Basis K) (k : Known P K) (m_count o_count : ℕ) (p : QueuePoint P) : Type 0 where
+  pub keys : (k.m_key ≡ Some basis.key) × (k.o_key ≡ Some basis.key) × (k.first ≡ basis.first)
+  pub counts : (p.mutator.count ≡ m_count) × (p.observer.count ≡ o_count)
+  pub numbers : (p.mutator.pushed ≡ k.pushed) × (p.observer.acked ≡ k.current) × (p.observer.due ≡ (if k.due then k.pushed else 0)) × (p.mutator.clear ≡ k.clear)
+  pub states : (k.last ≡ k.told_last) × (k.before ≡ k.told_before)
+
+-- the rule: each part is with one seat, the events stand in an order that leaves what the parties know, the words name the last state pushed and the last acknowledged, and the cells and shelves lie where they are by that
 pub record Kept {P K : Type 0} (fits : K → ℕ → P → Type 0) (basis : Basis K) (s : State (Slot P) (View P K)) : Type 0 where
   pub m : Mutating P K
   pub o : Observing P K
-  pub m_at : ℕ
-  pub o_at : ℕ
-  pub one_mutator : Held has_mutating mutating s.views m_at m
-  pub one_observer : Held has_observing observing s.views o_at o
-  pub keys : (m.key ≡ Some basis.key) × (o.key ≡ Some basis.key) × (m.first ≡ basis.first)
-  pub history : HasHistory basis.first m.events o.events
-  pub point : QueuePoint P
-  pub point_is : after legal next (start basis.first) history.order ≡ point
-  pub counts : (point.mutator ≡ length m.events) × (point.observer ≡ length o.events)
-  pub numbers : (point.pushed ≡ m.pushed) × (point.acked ≡ o.current) × (point.due ≡ (if o.due then m.pushed else 0)) × (point.clear ≡ m.clear)
-  pub states : (m.last ≡ point.last) × (m.before ≡ point.before)
+  pub seats : AreHeld has_mutating mutating has_observing observing s.views m o
+  pub stands : Stands legal next (start basis.first) m.events o.events
+  pub ties : AreTied basis (known_by m o stands.point) (length m.events) (length o.events) stands.point
   pub words : s.words ≡ word m.pushed ∷ word o.current ∷ []
-  pub whole : length s.homes ≡ cells + slots
-  pub phase : Phase
-  pub in_phase : InPhase (fits basis.key) m o point s.homes phase
-  pub m_home : m.out ≡ false → (m.pushed ≡ 0) × (m.clear ≡ true) × IsHome s.homes 0 × OnShelves s.homes nothing
-  pub o_home : o.out ≡ false → (o.current ≡ 0) × IsHome s.homes 3 × IsHome s.homes 2
+  pub laid : AreLaid (fits basis.key) (known_by m o stands.point) s.homes
 
 module _ {P : Type 0} where
   -- of the slots held all the shelves come first

@@ -11,15 +11,9 @@ mod make;
 mod mutator;
 mod observer;
 mod one_hand;
-#[cfg(test)]
-mod one_hand_tests;
 mod plays;
 mod rule;
 mod shelves;
-#[cfg(test)]
-mod tests;
-#[cfg(test)]
-mod threads;
 mod view;
 mod waits;
 
