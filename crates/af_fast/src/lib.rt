@@ -17,6 +17,8 @@ mod call_tests;
 #[cfg(test)]
 mod latest_tests;
 #[cfg(test)]
+mod link_tests;
+#[cfg(test)]
 mod meeting_tests;
 #[cfg(test)]
 mod plain_tests;

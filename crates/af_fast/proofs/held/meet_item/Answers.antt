@@ -24,15 +24,19 @@ returns g c =
     record {
       order = order_of c.args.observer.now c.args.streams.now c.args.slot c.args.track c.requires.order c.requires.names c.requires.slot.0 c.requires.track s was c.index-streams-track.result c.index-streams-track.is
           c.meet_all.new.server e.ready.1;
-      met = (s, was, record {
-        observer = ap (λ (t : ServerState). record c.args.observer.now { items = slice_set c.args.observer.now.items c.args.slot (Some t) }) e.server;
-        client = e.client;
-        hand = e.hand;
-        others = ((e.ready.0.0 ∙ sym of.0, e.ready.0.1), e.ready.2 ∙ sym of.0);
-        history = (λ lawful.
-            subst (λ (x : Made × ServerState). HasHistory x.0.shape.base c.meet_all.new.client.pass.part.events c.meet_all.new.client.pass.part.frames x.1.pass.part.events x.1.pass.part.frames c.meet_all.new.hand.part.events)
-            (λ i. (sym of.0 i, e.server i)) (e.history lawful));
-        unshut = (λ lawful. sym (ap (λ (t : ServerState). t.shut) e.server) ∙ e.unshut lawful);
-      });
+      met = (
+        s,
+        was,
+        record {
+          observer = ap (λ (t : ServerState). record c.args.observer.now { items = slice_set c.args.observer.now.items c.args.slot (Some t) }) e.server;
+          client = e.client;
+          hand = e.hand;
+          others = ((e.ready.0.0 ∙ sym of.0, e.ready.0.1), e.ready.2 ∙ sym of.0);
+          history = (λ lawful.
+              subst (λ (x : Made × ServerState). HasHistory x.0.shape.base c.meet_all.new.client.pass.part.events c.meet_all.new.client.pass.part.frames x.1.pass.part.events x.1.pass.part.frames c.meet_all.new.hand.part.events)
+              (λ i. (sym of.0 i, e.server i)) (e.history lawful));
+          unshut = (λ lawful. sym (ap (λ (t : ServerState). t.shut) e.server) ∙ e.unshut lawful);
+        },
+      );
       steps = e.steps;
     }

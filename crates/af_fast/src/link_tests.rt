@@ -1,16 +1,16 @@
-//! Each end on one thread, and both mixers' ends on two.
+//! The ends of the pipe and of the report on one thread, and both mixers' ends on two.
 ghost use Rattle.std.specs.Prelude.{◌≡◌, ◌<◌, ◌≤◌, IfOk, length};
 ghost use Rattle.af_link.specs.Linked.{AreLinked};
 ghost use Rattle.af_link.specs.PipeEnds.{in_made, out_made};
 ghost use Rattle.af_link.specs.Reports.{last_cycle};
 
-use crate::{
-    Links, PipeIn, PipeOut, Report, ReportReader, ReportWriter, StreamNames, first_report,
-    meet_all, meet_flag, meet_pipe, meet_report, meet_track, pipe, report, stream_names,
-};
 use af_base::{Frame, Memory, Steps};
 use af_cblk::Block;
 use af_client::{Client, Wrote};
+use af_link::{
+    Links, PipeIn, PipeOut, Report, ReportReader, ReportWriter, StreamNames, first_report,
+    meet_all, meet_flag, meet_pipe, meet_report, meet_track, pipe, report, stream_names,
+};
 use af_server::Server;
 use af_stateq::{Mutator, Observer, queue};
 use std::alloc::Global;
