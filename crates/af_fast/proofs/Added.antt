@@ -13,11 +13,12 @@ use Rattle.af_model.specs.Cycles.{Mixes, state_of, cycle_of, is_mixed, still_ent
 use Rattle.af_model.specs.Reports.{IsNextReport, report_at, slot_report}
 use Rattle.af_server.specs.Order.{ServerState}
 use Rattle.af_stateq.specs.Observes.{Observes, InOrder}
+use Rattle.af_stateq.specs.Shelved.{no_state}
 use Rattle.af_link.specs.declared.names.StreamNames.{StreamNames}
-use Rattle.af_fast.specs.Held.{stream_fits}
+use Rattle.af_fast.specs.Fits.{stream_fits}
 use Rattle.af_fast.specs.Known.{known}
 use Rattle.af_fast.specs.Mixer.{MixerState, IsInOrder, AreFew, adopted_states, is_over}
-use Rattle.af_fast.specs.Mixing.{Reports, notes, AddsCycle, Takes, Writes, MixesOnce}
+use Rattle.af_fast.specs.Mixing.{StoresReport, notes, AddsCycle, Takes, Writes, MixesOnce}
 use Rattle.af_fast.specs.Slots.{PlaysSlots, found}
 use Rattle.af_fast.proofs.HeldFacts.{some_same}
 use Rattle.af_fast.proofs.SlotsDone.{taken_few}
@@ -44,7 +45,7 @@ log_open m k goes =
     omega (arith, apart, k.room.entries)
 
 module _ (m n l : MixerState) (entry : CycleEntry) (k : IsInOrder m) (open_log : length m.log.entries < m.cycles) (runs : m.exited ≡ false) (played : IsPlayed m n)
-    (state : entry.state ≡ m.observer.past.number) (noted : l ≡ notes m.observer.current entry l.writer l.reports n) (r : Reports m.observer.current entry n l) (what : entry.cycle ≡ cycle_of m.cold m.observer.current) where
+    (state : entry.state ≡ m.observer.past.number) (noted : l ≡ notes m.observer.current entry l.writer l.reports n) (r : StoresReport m.observer.current entry n l) (what : entry.cycle ≡ cycle_of m.cold m.observer.current) where
   abbrev es : List CycleEntry
   es = m.log.entries
 
@@ -55,7 +56,7 @@ module _ (m n l : MixerState) (entry : CycleEntry) (k : IsInOrder m) (open_log :
   after = now m n l entry k open_log runs played state noted r
 
   current_is : state_of xs entry.state ≡ m.observer.current
-  current_is = ap (state_of xs) state ∙ k.follows.current
+  current_is = ap (state_of xs) state ∙ k.observer.told.current no_state
 
   next_report : IsNextReport m.frames xs es entry (known n.observer) m.reports r.report
   next_report = record {
@@ -63,7 +64,7 @@ module _ (m n l : MixerState) (entry : CycleEntry) (k : IsInOrder m) (open_log :
     whole = ap length r.slots_are ∙ r.whole;
     each = (λ i lt. ap (λ (rs : List SlotReport). report_at rs i) r.slots_are ∙ r.each i lt
         ∙ ap (λ (y : ℕ × Option FastState × Option FastState × SlotReport). slot_report y.0 y.1 y.2 entry (known n.observer i) i y.3)
-        (λ j. (ap (λ (y : MixerState). y.frames) played.same j, sym current_is j, (ap (λ (y : MixerState). y.last) played.same ∙ k.last) j, ap (λ (y : MixerState). report_at y.reports i) played.same j)));
+        (λ j. (ap (λ (y : MixerState). y.frames) played.same j, sym current_is j, (ap (λ (y : MixerState). y.last) played.same ∙ k.keeps.last_is) j, ap (λ (y : MixerState). report_at y.reports i) played.same j)));
   }
 
   -- with what the slots did
@@ -72,9 +73,10 @@ module _ (m n l : MixerState) (entry : CycleEntry) (k : IsInOrder m) (open_log :
   adds mixes still takes = subst (λ (y : MixerState). AddsCycle m y entry) (sym (is_now m n l entry k open_log runs played state noted r)) (record {
     state = state;
     legal = record {
-      follows = (omega (arith, state, k.follows.low), omega (arith, state, k.follows.high));
-      runs = sym k.exited ∙ runs;
-      what = what ∙ ap (λ (y : ℕ × Option FastState). cycle_of y.0 y.1) (λ i. (k.cold i, sym current_is i));
+      follows = (omega (arith, state, k.uses.low), omega (arith, state, k.uses.high));
+      pushed = omega (arith, state, k.observer.told.counted no_state);
+      runs = sym k.keeps.exited_is ∙ runs;
+      what = what ∙ ap (λ (y : ℕ × Option FastState). cycle_of y.0 y.1) (λ i. (k.keeps.cold_is i, sym current_is i));
       still = still;
       mixes = (λ x is mixed. mixes x (sym current_is ∙ is) mixed);
     };
@@ -123,13 +125,13 @@ Comes m l answer entry = IsInOrder l × (answer ≡ entry.cycle) × AddsCycle m 
 pub mix_step : (m n l : MixerState) (entry : CycleEntry) (x : FastState) (answer : Cycle) → IsInOrder m → is_over m ≡ false → m.observer.current ≡ Some x → answer ≡ cycle_of m.cold (Some x) → is_mixed answer ≡ true
     → n ≡ record m { adopted = false; observer = n.observer; pipe = n.pipe; log = n.log } → InOrder stream_fits n.observer → (n.log.entries ≡ m.log.entries) × (n.log.room ≡ m.log.room) × (m.log.frame_room ≤ n.log.frame_room)
     → PlaysSlots m.frames m.observer.past.number x m.observer n.observer m.pipe n.pipe m.log.frames n.log.frames entry
-    → l ≡ notes (Some x) entry l.writer l.reports n → Reports (Some x) entry n l → Comes m l answer entry
+    → l ≡ notes (Some x) entry l.writer l.reports n → StoresReport (Some x) entry n l → Comes m l answer entry
 mix_step m n l entry x answer k goes is answer_is mixed same order log p noted r =
     let open_log : length m.log.entries < m.cycles = log_open m k goes in
     let runs : m.exited ≡ false = still_runs m goes in
     let played : IsPlayed m n = record { same = same; observer = p.same; order = order; entries = log; few = omega (arith, p.total, taken_few m.frames entry slots p.within) } in
     let noted_so = subst (λ (y : Option FastState). l ≡ notes y entry l.writer l.reports n) (sym is) noted in
-    let reports = subst (λ (y : Option FastState). Reports y entry n l) (sym is) r in
+    let reports = subst (λ (y : Option FastState). StoresReport y entry n l) (sym is) r in
     let cycle_is : answer ≡ entry.cycle = mixed_is answer mixed ∙ sym (mixed_is entry.cycle p.mixed) in (
       noted_order m n l entry k open_log runs played p.state noted_so reports,
       cycle_is,
@@ -139,7 +141,7 @@ mix_step m n l entry x answer k goes is answer_is mixed same order log p noted r
 -- without one
 pub still_step : (m l : MixerState) (entry : CycleEntry) (answer : Cycle) → IsInOrder m → is_over m ≡ false → answer ≡ cycle_of m.cold m.observer.current → is_mixed answer ≡ false
     → entry ≡ still_entry m.observer.past.number answer
-    → l ≡ notes m.observer.current entry l.writer l.reports (record m { adopted = false }) → Reports m.observer.current entry (record m { adopted = false }) l → Comes m l answer entry
+    → l ≡ notes m.observer.current entry l.writer l.reports (record m { adopted = false }) → StoresReport m.observer.current entry (record m { adopted = false }) l → Comes m l answer entry
 still_step m l entry answer k goes answer_is dry is noted r =
     let n : MixerState = record m { adopted = false } in
     let open_log : length m.log.entries < m.cycles = log_open m k goes in
@@ -167,7 +169,7 @@ adds_so m m' out out' answer entry goes same adds writes =
 pub few_reports : (m : MixerState) → IsInOrder m → AreFew (2 ^ 31) m.reports
 few_reports m k i lt =
     let few = k.reports.few i lt in
-    (omega (arith, few, k.room.entries, k.room.cycles), omega (arith, few, k.room.entries, k.room.cycles), omega (arith, few, k.room.entries, k.room.cycles))
+    (omega (arith, few, k.room), omega (arith, few, k.room), omega (arith, few, k.room))
 
 -- the copy of what the observer lends is its current state
 pub current_copied : (o : Observes ServerState StreamNames) (lent : Option (Bor FastState)) (copied : Option FastState) → (o.past.number ≡ 0 → o.current ≡ None)
@@ -177,7 +179,7 @@ current_copied o (Some s) copied none lends same = same ∙ sym lends.2
 
 -- before the first state there is none
 pub none_current : (m : MixerState) → IsInOrder m → m.observer.past.number ≡ 0 → m.observer.current ≡ None
-none_current m k none = sym k.follows.current ∙ ap (state_of (adopted_states m)) none
+none_current m k none = sym (k.observer.told.current no_state) ∙ ap (state_of (adopted_states m)) none
 
 pub goes_on : (m : MixerState) → m.exited ≡ false → (length m.log.entries ≡ m.cycles → ⊥) → is_over m ≡ false
 goes_on m runs apart = ap (λ (x : Bool × Bool). x.0 || x.1) (λ i. (runs i, ne_eqb (length m.log.entries) m.cycles apart i))

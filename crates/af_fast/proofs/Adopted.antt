@@ -1,6 +1,7 @@
 -- A mixer that adopted a state is in order.
-use Rattle.std.proofs.Common.{◌≡◌, ℕ, ◌+◌, true, false, true≢false, List, [], ◌∷◌, ◌++◌, length, Option, Some, None, refl, sym, ap, subst, ◌∙◌, arith}
+use Rattle.std.proofs.Common.{◌≡◌, ℕ, ◌+◌, Bool, true, false, true≢false, List, [], ◌∷◌, ◌++◌, length, Option, Some, None, refl, sym, ap, subst, ◌∙◌, arith}
 use Rattle.std.proofs.lemmas.List.{length-append}
+use Rattle.af_base.specs.declared.log.CycleEntry.{CycleEntry}
 use Rattle.af_base.specs.declared.state.FastState.{FastState}
 use Rattle.af_model.specs.declared.states.ObserverEvent.{ObserverEvent}
 use Rattle.af_model.specs.declared.states.ObserverEvent.TheVariants.{SawNext, Ack}
@@ -15,8 +16,8 @@ use Rattle.af_stateq.specs.Laws.{polled_states}
 use Rattle.af_stateq.specs.Observes.{Observes, InOrder}
 use Rattle.af_stateq.specs.Shelved.{no_state}
 use Rattle.af_link.specs.declared.names.StreamNames.{StreamNames}
-use Rattle.af_fast.specs.Held.{stream_fits}
-use Rattle.af_fast.specs.Mixer.{MixerState, IsInOrder, adopted_states, is_over}
+use Rattle.af_fast.specs.Fits.{stream_fits}
+use Rattle.af_fast.specs.Mixer.{MixerState, UsesStates, KeepsEntries, CarriesNone, IsInOrder, adopted_states, is_over}
 
 -- a look that found nothing new
 polled-same : (y : FastState) (es : List (ObserverEvent ServerState)) (k : ℕ) → polled_states y (es ++ SawNext k None [] ∷ []) ≡ polled_states y es
@@ -35,65 +36,61 @@ polled-new y (SawNext m None items ∷ es) k n x came back = polled-new y es k n
 polled-new y (Ack m items ∷ es) k n x came back = ap (λ (l : List FastState). y ∷ l) (polled-new y es k n x came back)
 polled-new y (observer.Learn c ∷ es) k n x came back = polled-new y es k n x came back
 
+-- with another answer to whether a state waits for its mix
+pub with_turn : {n : ℕ} {es : List CycleEntry} {turn over : Bool} (turn' : Bool) → (turn' ≡ false → n ≡ last_used es) → UsesStates n es turn over → UsesStates n es turn' over
+with_turn turn' still k = record { used = k.used; low = k.low; high = k.high; still = still; ended = k.ended; few = k.few }
+
 -- a mixer whose observer has the same states
-same_states : (m : MixerState) (o : Observes ServerState StreamNames) → IsInOrder m → InOrder stream_fits o → o.past.number ≡ m.observer.past.number → o.current ≡ m.observer.current
+same_states : (m : MixerState) (o : Observes ServerState StreamNames) → IsInOrder m → InOrder stream_fits o → o.past.number ≡ m.observer.past.number → o.past.state ≡ m.observer.past.state
     → polled_states no_state o.past.events ≡ adopted_states m → IsInOrder (record m { observer = o; adopted = true })
-same_states m o k order number current states = record {
+same_states m o k order number state states = record {
   observer = order;
-  room = record { frames = k.room.frames; cycles = k.room.cycles; entries = k.room.entries; rest = k.room.rest };
-  follows = record {
-    counted = ap length states ∙ k.follows.counted ∙ sym number;
-    current = subst (λ (x : List FastState × ℕ × Option FastState). state_of x.0 x.1 ≡ x.2) (λ i. (sym states i, sym number i, sym current i)) k.follows.current;
-    used = k.follows.used;
-    low = omega (arith, k.follows.low, number);
-    high = omega (arith, k.follows.high, number);
-    still = (λ no. absurd (true≢false no));
-    over = (λ yes'. number ∙ k.follows.over yes');
-    few = k.follows.few;
-  };
-  exited = k.exited;
-  cold = k.cold ∙ ap (λ (xs : List FastState). cold_done xs m.log.entries) (sym states);
-  last = k.last ∙ ap (λ (xs : List FastState). state_of xs (last_used m.log.entries)) (sym states);
-  reports = record { number = k.reports.number; slots_are = k.reports.slots_are; whole = k.reports.whole; few = k.reports.few };
+  begins = subst (λ (x : ℕ × FastState). x.0 ≡ 0 → CarriesNone x.1) (λ i. (sym number i, sym state i)) k.begins;
+  room = k.room;
+  uses = with_turn true (λ no. absurd (true≢false no)) (subst (λ n. UsesStates n m.log.entries m.adopted (is_over m)) (sym number) k.uses);
+  keeps = subst (λ (xs : List FastState). KeepsEntries xs m.log.entries m.exited m.cold m.last) (sym states) k.keeps;
+  reports = k.reports;
 }
 
 -- a mixer whose observer has one state more
-next_state : (m : MixerState) (o : Observes ServerState StreamNames) (x : FastState) → IsInOrder m → is_over m ≡ false → m.adopted ≡ false → InOrder stream_fits o → o.past.number ≡ m.observer.past.number + 1 → o.current ≡ Some x
+next_state : (m : MixerState) (o : Observes ServerState StreamNames) (x : FastState) → IsInOrder m → is_over m ≡ false → m.adopted ≡ false → InOrder stream_fits o → o.past.number ≡ m.observer.past.number + 1
     → polled_states no_state o.past.events ≡ adopted_states m ++ x ∷ [] → IsInOrder (record m { observer = o; adopted = true })
-next_state m o x k goes turn order number current states =
+next_state m o x k goes turn order number states =
     let xs : List FastState = adopted_states m in
-    let still = k.follows.still turn in
-    let long : length xs ≡ last_used m.log.entries = k.follows.counted ∙ still in
+    let u = k.uses in
+    let still = u.still turn in
+    let long : length xs ≡ last_used m.log.entries = k.observer.told.counted no_state ∙ still in
     record {
       observer = order;
-      room = record { frames = k.room.frames; cycles = k.room.cycles; entries = k.room.entries; rest = k.room.rest };
-      follows = record {
-        counted = ap length states ∙ length-append xs (x ∷ []) ∙ ap (λ n. n + 1) k.follows.counted ∙ sym number;
-        current = subst (λ (y : List FastState × ℕ × Option FastState). state_of y.0 y.1 ≡ y.2) (λ i. (sym states i, (ap (λ n. n + 1) k.follows.counted ∙ sym number) i, sym current i)) (state_of-newest xs x);
-        used = k.follows.used;
+      begins = (λ none. absurd (omega (arith, number, none)));
+      room = k.room;
+      uses = record {
+        used = u.used;
         low = omega (arith, still, number);
         high = omega (arith, still, number);
         still = (λ no. absurd (true≢false no));
-        over = (λ yes'. absurd (true≢false (sym yes' ∙ goes)));
-        few = k.follows.few;
+        ended = (λ yes'. absurd (true≢false (sym yes' ∙ goes)));
+        few = u.few;
       };
-      exited = k.exited;
-      cold = k.cold ∙ sym (cold_done-before xs x m.log.entries (UseUpTo-more (last_used m.log.entries) (length xs) m.log.entries (omega (arith, long)) k.follows.used)) ∙ ap (λ (ys : List FastState). cold_done ys m.log.entries) (sym states);
-      last = k.last ∙ sym (state_of-before xs x (last_used m.log.entries) (omega (arith, long))) ∙ ap (λ (ys : List FastState). state_of ys (last_used m.log.entries)) (sym states);
-      reports = record { number = k.reports.number; slots_are = k.reports.slots_are; whole = k.reports.whole; few = k.reports.few };
+      keeps = record {
+        exited_is = k.keeps.exited_is;
+        cold_is = k.keeps.cold_is ∙ sym (cold_done-before xs x m.log.entries (UseUpTo-more (last_used m.log.entries) (length xs) m.log.entries (omega (arith, long)) u.used)) ∙ ap (λ (ys : List FastState). cold_done ys m.log.entries) (sym states);
+        last_is = k.keeps.last_is ∙ sym (state_of-before xs x (last_used m.log.entries) (omega (arith, long))) ∙ ap (λ (ys : List FastState). state_of ys (last_used m.log.entries)) (sym states);
+      };
+      reports = k.reports;
     }
 
 -- whatever the poll found
 pub polled_order : (m : MixerState) (o : Observes ServerState StreamNames) (poll : Poll) (s s' : ℕ) → IsInOrder m → is_over m ≡ false → m.adopted ≡ false → InOrder stream_fits o → WasPolled m.observer poll o s s'
     → IsInOrder (record m { observer = o; adopted = true })
 polled_order m o Nothing s s' k goes turn order (none, is, stepped) =
-    same_states m o k order (ap (λ (y : Observes ServerState StreamNames). y.past.number) is) (ap (λ (y : Observes ServerState StreamNames). y.current) is)
+    same_states m o k order (ap (λ (y : Observes ServerState StreamNames). y.past.number) is) (ap (λ (y : Observes ServerState StreamNames). y.past.state) is)
     (ap (λ (y : Observes ServerState StreamNames). polled_states no_state y.past.events) is ∙ polled-same no_state m.observer.past.events m.observer.past.number)
 polled_order m o Same s s' k goes turn order (some, is, stepped) =
-    same_states m o k order (ap (λ (y : Observes ServerState StreamNames). y.past.number) is) (ap (λ (y : Observes ServerState StreamNames). y.current) is)
+    same_states m o k order (ap (λ (y : Observes ServerState StreamNames). y.past.number) is) (ap (λ (y : Observes ServerState StreamNames). y.past.state) is)
     (ap (λ (y : Observes ServerState StreamNames). polled_states no_state y.past.events) is ∙ polled-same no_state m.observer.past.events m.observer.past.number)
 polled_order m o (New number) s s' k goes turn order (next, (x, took), stepped) =
-    next_state m o x k goes turn order (ap (λ (y : Observes ServerState StreamNames). y.past.number) took.2) (ap (λ (y : Observes ServerState StreamNames). y.current) took.2)
+    next_state m o x k goes turn order (ap (λ (y : Observes ServerState StreamNames). y.past.number) took.2)
     (ap (λ (y : Observes ServerState StreamNames). polled_states no_state y.past.events) took.2 ∙ polled-new no_state m.observer.past.events (m.observer.past.number + 1) (m.observer.past.number + 1) x took.0 took.1)
 
 -- it is over, and nothing is polled
@@ -102,12 +99,4 @@ over_order m k = same_states m m.observer k k.observer refl refl refl
 
 -- it is over, and nothing is mixed
 pub rest_order : (m : MixerState) → IsInOrder m → is_over m ≡ true → IsInOrder (record m { adopted = false })
-rest_order m k over = record {
-  observer = k.observer;
-  room = record { frames = k.room.frames; cycles = k.room.cycles; entries = k.room.entries; rest = k.room.rest };
-  follows = record { counted = k.follows.counted; current = k.follows.current; used = k.follows.used; low = k.follows.low; high = k.follows.high; still = (λ _. k.follows.over over); over = k.follows.over; few = k.follows.few };
-  exited = k.exited;
-  cold = k.cold;
-  last = k.last;
-  reports = record { number = k.reports.number; slots_are = k.reports.slots_are; whole = k.reports.whole; few = k.reports.few };
-}
+rest_order m k over = record { observer = k.observer; begins = k.begins; room = k.room; uses = with_turn false (λ _. k.uses.ended over) k.uses; keeps = k.keeps; reports = k.reports }

@@ -1,20 +1,26 @@
 -- The proxies that the observer holds, as one of them is played.
-use Rattle.std.proofs.Common.{◌≡◌, ℕ, ◌<◌, ◌⊎◌, inl, inr, List, length, length-set, Option, Some, None, is_some, unwrap_or, slice_set, sym, ap, subst, ◌∙◌, arith}
+use Rattle.std.proofs.Common.{◌≡◌, ℕ, ◌<◌, ◌⊎◌, inl, inr, List, length, length-set, Option, Some, None, is_some, unwrap_or, slice_set, slice_index_or, sym, ap, subst, ◌∙◌, arith}
 use Rattle.std.proofs.lemmas.Bool.{cases_eq}
-use Rattle.std.proofs.lemmas.List.{get_or-set_same, get_or-set_other}
-use Rattle.std.proofs.lemmas.Option.{slice_get_within}
+use Rattle.std.proofs.lemmas.List.{get_or-set_same, get_or-set_other, get_or-replicate}
+use Rattle.std.proofs.lemmas.Option.{slice_get_within, get_or_from_slice_get}
 use Rattle.af_base.specs.Log.{slots}
 use Rattle.af_model.specs.StateQueue.{slot_of, carries, has}
 use Rattle.af_cblk.specs.Sides.{Made, server_made}
-use Rattle.af_server.specs.Order.{ServerState}
+use Rattle.af_server.specs.Order.{ServerState, IsServerOf}
 use Rattle.af_stateq.specs.Mutates.{at}
 use Rattle.af_stateq.specs.Observes.{Observes, InOrder}
+use Rattle.af_stateq.specs.Shelved.{nothing}
 use Rattle.af_link.specs.Names.{IsStreamOf}
 use Rattle.af_link.specs.declared.names.StreamNames.{StreamNames}
-use Rattle.af_fast.specs.Held.{stream_fits, NamesBlocks}
+use Rattle.af_fast.specs.Fits.{stream_fits, NamesBlocks}
+use Rattle.af_fast.specs.Mixer.{CarriesNone}
 
 pub some_same : {X : Type 0} (x y : X) → Some x ≡ Some y → x ≡ y
 some_same x y e = ap (λ o. unwrap_or o x) e
+
+-- an observer that holds no items has a state that carries none
+pub begins_bare : (o : Observes ServerState StreamNames) → InOrder stream_fits o → o.items ≡ nothing → o.past.number ≡ 0 → CarriesNone o.past.state
+begins_bare o order empty none i lt = sym (order.held i lt) ∙ ap (λ (items : List (Option ServerState)). has items i) empty ∙ ap is_some (get_or-replicate slots i None None lt)
 
 module _ (o : Observes ServerState StreamNames) (blocks : List Made) (slot track : ℕ) (order : InOrder stream_fits o) (names : NamesBlocks o.past.key blocks) (inside : slot < slots)
     (same : track ≡ (slot_of o.past.state slot).track) (s : ServerState) (was : at o.items slot ≡ Some s) where
@@ -52,8 +58,20 @@ module _ (o : Observes ServerState StreamNames) (blocks : List Made) (slot track
 
     pub order_held : InOrder stream_fits (record o { items = items })
     order_held = record {
+      told = order.told;
       state = order.state;
       whole = length-set o.items slot (Some t) ∙ order.whole;
       held = (λ i lt. held_one i lt (cases_eq i slot));
       fit = (λ key k i p lt is. fit_one key k i p lt is (cases_eq i slot));
     }
+
+  -- the block of the track is the proxy's
+  module _ (b : Made) (is : b ≡ slice_index_or blocks track b) where
+    here_is : server_made s.pass ≡ b
+    here_is = sym (get_or_from_slice_get blocks track (server_made s.pass) b held_fits.made) ∙ sym is
+
+    pub held_of : IsServerOf b s
+    held_of = (here_is, held_fits.in_order)
+
+    pub order_of : (t : ServerState) → IsServerOf b t → InOrder stream_fits (record o { items = slice_set o.items slot (Some t) })
+    order_of t of = order_held t (record { made = held_fits.made ∙ ap (λ (m : Made). Some m) (here_is ∙ sym of.0); in_order = of.1 })

@@ -1,4 +1,3 @@
-mod Played
 mod HeldFacts
 mod SlotSteps
 mod SlotsDone
@@ -8,3 +7,5 @@ mod Noted
 mod Added
 mod Meeting
 mod Zips
+mod OneBlock
+mod Waiting

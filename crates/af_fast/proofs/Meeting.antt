@@ -1,14 +1,25 @@
--- A mixer whose ends of the report and of the pipe met those of the other side is in order.
-use Rattle.std.proofs.Common.{◌≡◌, ℕ, List, [], ◌∷◌, ◌++◌, refl, ap, ◌∙◌}
+-- A mixer whose ends met those of the other side, or one of whose proxies met its client, is in order.
+use Rattle.std.proofs.Common.{◌≡◌, ℕ, suc, List, [], ◌∷◌, ◌++◌, length, Option, Some, None, refl, sym, ap, subst, ◌∙◌}
 use Rattle.af_base.specs.declared.report.Report.{Report}
+use Rattle.af_base.specs.declared.report.SlotReport.{SlotReport}
+use Rattle.af_base.specs.declared.state.FastState.{FastState}
 use Rattle.af_model.specs.declared.newest.WriterEvent.{WriterEvent}
 use Rattle.af_model.specs.declared.newest.WriterEvent.TheVariants.{Store}
 use Rattle.af_model.specs.declared.newest.WriterEvent.TheVariants as writes
+use Rattle.af_model.specs.declared.states.ObserverEvent.{ObserverEvent}
+use Rattle.af_model.specs.declared.states.ObserverEvent.TheVariants.{SawNext, Ack}
+use Rattle.af_model.specs.declared.states.ObserverEvent.TheVariants as observes
 use Rattle.af_model.specs.Reports.{no_report}
-use Rattle.af_latest.specs.Laws.{last_of}
-use Rattle.af_link.specs.PipeEnds.{OutSide}
-use Rattle.af_link.specs.Reports.{WriterSide}
-use Rattle.af_fast.specs.Mixer.{MixerState, IsInOrder}
+use Rattle.af_latest.specs.Laws.{last_of, stores}
+use Rattle.af_server.specs.Order.{ServerState}
+use Rattle.af_stateq.specs.Laws.{polled_states}
+use Rattle.af_stateq.specs.Observes.{Observes, InOrder}
+use Rattle.af_stateq.specs.Shelved.{no_state}
+use Rattle.af_stateq.proofs.Told.{order_learns}
+use Rattle.af_link.specs.declared.names.StreamNames.{StreamNames}
+use Rattle.af_fast.specs.Fits.{stream_fits}
+use Rattle.af_fast.specs.Meets.{Others, mixer_met}
+use Rattle.af_fast.specs.Mixer.{MixerState, KeepsEntries, Reported, IsInOrder}
 
 -- what a writer learns stores nothing
 last_of-learn : (x : Report) (ws : List (WriterEvent Report)) (k : ℕ) → last_of x (ws ++ writes.Learn k ∷ []) ≡ last_of x ws
@@ -16,29 +27,37 @@ last_of-learn x [] k = refl
 last_of-learn x (Store y ∷ ws) k = last_of-learn y ws k
 last_of-learn x (writes.Learn c ∷ ws) k = last_of-learn x ws k
 
-pub met_order : (m : MixerState) (w : WriterSide) (p : OutSide) (k : ℕ) → IsInOrder m → w.events ≡ m.writer.events ++ writes.Learn k ∷ [] → IsInOrder (record m { writer = w; pipe = p })
-met_order m w p k order met =
-    let same : last_of no_report w.events ≡ last_of no_report m.writer.events = ap (last_of no_report) met ∙ last_of-learn no_report m.writer.events k in
+stores-learn : (ws : List (WriterEvent Report)) (k : ℕ) → stores (ws ++ writes.Learn k ∷ []) ≡ stores ws
+stores-learn [] k = refl
+stores-learn (Store y ∷ ws) k = ap (λ n. suc n) (stores-learn ws k)
+stores-learn (writes.Learn c ∷ ws) k = stores-learn ws k
+
+reported_met : (entries k : ℕ) (ws : List (WriterEvent Report)) (reports : List SlotReport) → Reported entries ws reports → Reported entries (ws ++ writes.Learn k ∷ []) reports
+reported_met entries k ws reports r =
+    let last = last_of-learn no_report ws k in
+    record { many = stores-learn ws k ∙ r.many; number = ap (λ (x : Report). x.cycle) last ∙ r.number; slots_are = ap (λ (x : Report). x.slots) last ∙ r.slots_are; whole = r.whole; few = r.few }
+
+-- what an observer learns is no state
+polled-learn : (y : FastState) (es : List (ObserverEvent ServerState)) (k : ℕ) → polled_states y (es ++ observes.Learn k ∷ []) ≡ polled_states y es
+polled-learn y [] k = refl
+polled-learn y (SawNext n (Some x) items ∷ es) k = polled-learn x es k
+polled-learn y (SawNext n None items ∷ es) k = polled-learn y es k
+polled-learn y (Ack n items ∷ es) k = ap (λ (l : List FastState). y ∷ l) (polled-learn y es k)
+polled-learn y (observes.Learn c ∷ es) k = polled-learn y es k
+
+-- all ends met
+pub met_order : (m : MixerState) (o : Others) → IsInOrder m → IsInOrder (mixer_met m o)
+met_order m o k =
+    let count : ℕ = length o.mutator.past.events in
     record {
-      observer = order.observer;
-      room = record { frames = order.room.frames; cycles = order.room.cycles; entries = order.room.entries; rest = order.room.rest };
-      follows = record {
-        counted = order.follows.counted;
-        current = order.follows.current;
-        used = order.follows.used;
-        low = order.follows.low;
-        high = order.follows.high;
-        still = order.follows.still;
-        over = order.follows.over;
-        few = order.follows.few;
-      };
-      exited = order.exited;
-      cold = order.cold;
-      last = order.last;
-      reports = record {
-        number = ap (λ (r : Report). r.cycle) same ∙ order.reports.number;
-        slots_are = ap (λ (r : Report). r.slots) same ∙ order.reports.slots_are;
-        whole = order.reports.whole;
-        few = order.reports.few;
-      };
+      observer = order_learns stream_fits m.observer (mixer_met m o).observer count k.observer refl;
+      begins = k.begins;
+      room = k.room;
+      uses = k.uses;
+      keeps = subst (λ (xs : List FastState). KeepsEntries xs m.log.entries m.exited m.cold m.last) (sym (polled-learn no_state m.observer.past.events count)) k.keeps;
+      reports = reported_met (length m.log.entries) (length o.reader.events) m.writer.events m.reports k.reports;
     }
+
+-- the items that the observer holds changed
+pub items_order : (m : MixerState) (items : List (Option ServerState)) → IsInOrder m → InOrder stream_fits (record m.observer { items = items }) → IsInOrder (record m { observer = record m.observer { items = items } })
+items_order m items k order = record { observer = order; begins = k.begins; room = k.room; uses = k.uses; keeps = k.keeps; reports = k.reports }

@@ -11,21 +11,30 @@ use Rattle.af_base.specs.Log.{slots, entry_slot}
 use Rattle.af_model.specs.declared.newest.WriterEvent.{WriterEvent}
 use Rattle.af_model.specs.declared.newest.WriterEvent.TheVariants.{Store}
 use Rattle.af_model.specs.declared.newest.WriterEvent.TheVariants as writes
-use Rattle.af_model.specs.Cycles.{state_of, last_used, has_exit, is_exit, is_cold, cold_of, cold_done}
+use Rattle.af_model.specs.Cycles.{state_of, last_used, has_exit, is_exit, is_cold, cold_of, cold_done, UseUpTo}
 use Rattle.af_model.specs.Reports.{Known, no_slot, no_report, report_at, one_if, is_full, is_partial, is_empty, counted_look, carried, slot_report}
 use Rattle.af_model.specs.StateQueue.{carries, slot_of}
 use Rattle.af_model.proofs.UsedStates.{last_used-push, has_exit-push, cold_done-push, UseUpTo-push, UseUpTo-more}
-use Rattle.af_latest.specs.Laws.{last_of}
-use Rattle.af_stateq.specs.Observes.{InOrder}
-use Rattle.af_fast.specs.Held.{stream_fits}
+use Rattle.af_latest.specs.Laws.{last_of, stores}
+use Rattle.af_server.specs.Order.{ServerState}
+use Rattle.af_stateq.specs.Laws.{polled_states}
+use Rattle.af_stateq.specs.Observes.{Observes, InOrder}
+use Rattle.af_stateq.specs.Shelved.{no_state}
+use Rattle.af_link.specs.declared.names.StreamNames.{StreamNames}
+use Rattle.af_fast.specs.Fits.{stream_fits}
 use Rattle.af_fast.specs.Known.{known}
-use Rattle.af_fast.specs.Mixer.{MixerState, IsInOrder, adopted_states}
-use Rattle.af_fast.specs.Mixing.{Reports, notes}
+use Rattle.af_fast.specs.Mixer.{MixerState, UsesStates, Reported, CarriesNone, IsInOrder, adopted_states, is_over}
+use Rattle.af_fast.specs.Mixing.{StoresReport, notes}
 
 last_of-push : (x : Report) (ws : List (WriterEvent Report)) (r : Report) → last_of x (ws ++ Store r ∷ []) ≡ r
 last_of-push x [] r = refl
 last_of-push x (Store y ∷ ws) r = last_of-push y ws r
 last_of-push x (writes.Learn c ∷ ws) r = last_of-push x ws r
+
+stores-push : (ws : List (WriterEvent Report)) (r : Report) → stores (ws ++ Store r ∷ []) ≡ stores ws + 1
+stores-push [] r = refl
+stores-push (Store y ∷ ws) r = let e = stores-push ws r in omega (arith, e)
+stores-push (writes.Learn c ∷ ws) r = stores-push ws r
 
 one_few : (b : Bool) → one_if b ≤ 1
 one_few true = omega arith
@@ -63,7 +72,7 @@ pub record IsPlayed (m n : MixerState) : Type 0 where
   pub few : length n.log.frames ≤ length m.log.frames + slots * m.frames
 
 module _ (m n l : MixerState) (entry : CycleEntry) (k : IsInOrder m) (open_log : length m.log.entries < m.cycles) (runs : m.exited ≡ false) (played : IsPlayed m n)
-    (state : entry.state ≡ m.observer.past.number) (noted : l ≡ notes m.observer.current entry l.writer l.reports n) (r : Reports m.observer.current entry n l) where
+    (state : entry.state ≡ m.observer.past.number) (noted : l ≡ notes m.observer.current entry l.writer l.reports n) (r : StoresReport m.observer.current entry n l) where
   abbrev es : List CycleEntry
   es = m.log.entries
 
@@ -91,13 +100,13 @@ module _ (m n l : MixerState) (entry : CycleEntry) (k : IsInOrder m) (open_log :
   number_is = ap (λ y. y.past.number) played.observer
 
   states_are : adopted_states now ≡ xs
-  states_are = ap (λ y. Rattle.af_stateq.specs.Laws.polled_states Rattle.af_stateq.specs.Shelved.no_state y.past.events) played.observer
+  states_are = ap (λ y. polled_states no_state y.past.events) played.observer
 
   used_is : last_used (es ++ entry ∷ []) ≡ m.observer.past.number
   used_is = last_used-push es entry ∙ state
 
   current_is : state_of xs (last_used (es ++ entry ∷ [])) ≡ m.observer.current
-  current_is = ap (state_of xs) used_is ∙ k.follows.current
+  current_is = ap (state_of xs) used_is ∙ k.observer.told.current no_state
 
   one_longer : length (es ++ entry ∷ []) ≡ length es + 1
   one_longer = length-append es (entry ∷ [])
@@ -108,41 +117,52 @@ module _ (m n l : MixerState) (entry : CycleEntry) (k : IsInOrder m) (open_log :
   frames_are : n.frames ≡ m.frames
   frames_are = ap (λ (y : MixerState). y.frames) played.same
 
+  uses_now : UsesStates n.observer.past.number (es ++ entry ∷ []) false (is_over now)
+  uses_now = record {
+    used = subst (λ a. UseUpTo a (es ++ entry ∷ [])) (sym used_is)
+        (UseUpTo-push m.observer.past.number es entry (UseUpTo-more (last_used es) m.observer.past.number es k.uses.low k.uses.used) (omega (arith, state)));
+    low = omega (arith, used_is, number_is);
+    high = omega (arith, used_is, number_is);
+    still = (λ _. number_is ∙ sym used_is);
+    ended = (λ _. number_is ∙ sym used_is);
+    few = omega (arith, used_is, one_longer, k.uses.high, k.uses.few);
+  }
+
+  reported_now : Reported (length (es ++ entry ∷ [])) l.writer.events l.reports
+  reported_now =
+      let before : n.writer.events ≡ m.writer.events = ap (λ (y : MixerState). y.writer.events) played.same in
+      let stored : l.writer.events ≡ m.writer.events ++ Store r.report ∷ [] = r.stored ∙ ap (λ (ws : List (WriterEvent Report)). ws ++ Store r.report ∷ []) before in
+      let last : last_of no_report l.writer.events ≡ r.report = ap (last_of no_report) stored ∙ last_of-push no_report m.writer.events r.report in
+      record {
+        many = ap stores stored ∙ stores-push m.writer.events r.report ∙ ap (λ c. c + 1) k.reports.many ∙ sym one_longer;
+        number = ap (λ (y : Report). y.cycle) last ∙ r.number ∙ ap (λ (e : List CycleEntry). length e + 1) played.entries.0 ∙ sym one_longer;
+        slots_are = ap (λ (y : Report). y.slots) last ∙ r.slots_are;
+        whole = r.whole;
+        few = (λ i lt.
+            let before = k.reports.few i lt in
+            let reports_same = ap (λ (y : MixerState). report_at y.reports i) played.same in
+            let bound : length es + 1 + 1 ≡ length (es ++ entry ∷ []) + 1 = omega (arith, one_longer) in
+            subst (λ (y : ℕ × SlotReport). IsFew y.0 y.1) (λ j. (bound j, sym (r.each i lt) j))
+            (slot_few n.frames (length es + 1) m.observer.current n.last entry (known n.observer i) i (report_at n.reports i) (omega arith) (subst (IsFew (length es + 1)) (sym reports_same) before)));
+      }
+
   now_in_order : IsInOrder now
   now_in_order = record {
     observer = played.order;
+    begins = subst (λ (o : Observes ServerState StreamNames). o.past.number ≡ 0 → CarriesNone o.past.state) (sym played.observer) k.begins;
     room = record {
-      frames = k.room.frames;
-      cycles = k.room.cycles;
+      sized = k.room.sized;
       entries = (omega (arith, one_longer), played.entries.1 ∙ k.room.entries.1);
       rest = (let longer = ap (λ a. (m.cycles - a) * m.frames) one_longer in omega (arith, k.room.rest, less_to_come, longer, played.few, played.entries.2));
     };
-    follows = record {
-      counted = ap length states_are ∙ k.follows.counted ∙ sym number_is;
-      current = ap (λ (y : List FastState). state_of y n.observer.past.number) states_are ∙ ap (state_of xs) number_is ∙ k.follows.current ∙ sym (ap (λ y. y.current) played.observer);
-      used = subst (λ a. Rattle.af_model.specs.Cycles.UseUpTo a (es ++ entry ∷ [])) (sym used_is)
-          (UseUpTo-push m.observer.past.number es entry (UseUpTo-more (last_used es) m.observer.past.number es k.follows.low k.follows.used) (omega (arith, state)));
-      low = omega (arith, used_is, number_is);
-      high = omega (arith, used_is, number_is);
-      still = (λ _. number_is ∙ sym used_is);
-      over = (λ _. number_is ∙ sym used_is);
-      few = omega (arith, used_is, one_longer, k.follows.high, k.follows.few);
+    uses = uses_now;
+    keeps = record {
+      exited_is = sym (has_exit-push es entry ∙ ap (λ b. b || is_exit entry.cycle) (sym k.keeps.exited_is ∙ runs));
+      cold_is = sym (ap (λ (y : List FastState). cold_done y (es ++ entry ∷ [])) states_are ∙ cold_done-push xs es entry
+          ∙ ap (λ (y : Option FastState × ℕ). if is_cold entry.cycle then cold_of y.0 else y.1) (λ i. ((ap (state_of xs) state ∙ k.observer.told.current no_state) i, sym k.keeps.cold_is i)));
+      last_is = sym (ap (λ (y : List FastState). state_of y (last_used (es ++ entry ∷ []))) states_are ∙ current_is);
     };
-    exited = sym (has_exit-push es entry ∙ ap (λ b. b || is_exit entry.cycle) (sym k.exited ∙ runs));
-    cold = sym (ap (λ (y : List FastState). cold_done y (es ++ entry ∷ [])) states_are ∙ cold_done-push xs es entry
-        ∙ ap (λ (y : Option FastState × ℕ). if is_cold entry.cycle then cold_of y.0 else y.1) (λ i. ((ap (state_of xs) state ∙ k.follows.current) i, sym k.cold i)));
-    last = sym (ap (λ (y : List FastState). state_of y (last_used (es ++ entry ∷ []))) states_are ∙ current_is);
-    reports = record {
-      number = ap (λ (ws : List (WriterEvent Report)). (last_of no_report ws).cycle) r.stored ∙ ap (λ (y : Report). y.cycle) (last_of-push no_report n.writer.events r.report) ∙ r.number ∙ ap (λ (e : List CycleEntry). length e + 1) played.entries.0 ∙ sym one_longer;
-      slots_are = ap (λ (ws : List (WriterEvent Report)). (last_of no_report ws).slots) r.stored ∙ ap (λ (y : Report). y.slots) (last_of-push no_report n.writer.events r.report) ∙ r.slots_are;
-      whole = r.whole;
-      few = (λ i lt.
-          let before = k.reports.few i lt in
-          let reports_same = ap (λ (y : MixerState). report_at y.reports i) played.same in
-          let bound : length es + 1 + 1 ≡ length (es ++ entry ∷ []) + 1 = omega (arith, one_longer) in
-          subst (λ (y : ℕ × SlotReport). IsFew y.0 y.1) (λ j. (bound j, sym (r.each i lt) j))
-          (slot_few n.frames (length es + 1) m.observer.current n.last entry (known n.observer i) i (report_at n.reports i) (omega arith) (subst (IsFew (length es + 1)) (sym reports_same) before)));
-    };
+    reports = reported_now;
   }
 
   pub noted_order : IsInOrder l

@@ -1,5 +1,5 @@
 -- How the slots of a mix are played, one after the other.
-use Rattle.std.proofs.Common.{◌≡◌, ℕ, zero, suc, ◌+◌, ◌≤◌, ◌<◌, ◌==◌, ◌⊎◌, inl, inr, Bool, true, false, true≢false, ne_eqb, if◌then◌else◌, List, ◌++◌, length, length-set, map, Option, Some, None, slice_set, refl, sym, ap, subst, ◌∙◌, append_assoc, arith}
+use Rattle.std.proofs.Common.{◌≡◌, ℕ, zero, suc, ◌+◌, ◌≤◌, ◌<◌, ◌==◌, ◌⊎◌, inl, inr, Bool, true, false, true≢false, ne_eqb, if◌then◌else◌, List, ◌++◌, length, length-set, length-take-le, map, take, Option, Some, None, slice_set, refl, sym, ap, subst, ◌∙◌, append_assoc, arith}
 use Rattle.std.proofs.lemmas.Bool.{cases_eq}
 use Rattle.std.proofs.lemmas.List.{get_or-set_same, get_or-set_other, length-append}
 use Rattle.af_base.specs.declared.frame.Frame.{Frame}
@@ -65,6 +65,12 @@ module _ (asked : ℕ) (x : FastState) (place : ℕ) (o : Observes ServerState S
     abbrev new_items : List (Option ServerState)
     new_items = slice_set o'.items i (Some q.plays.new)
 
+    abbrev added : List Frame
+    added = take (count_seen e.seen) q.buffer
+
+    as_many : length added ≡ count_seen e.seen
+    as_many = length-take-le (count_seen e.seen) q.buffer (omega (arith, q.long, q.plays.plays.within))
+
     abbrev filled : CycleEntry
     filled = with_slot entry' i e
 
@@ -86,16 +92,16 @@ module _ (asked : ℕ) (x : FastState) (place : ℕ) (o : Observes ServerState S
     end : length frames ≡ place + taken_before filled i
     end = p.total ∙ ap (λ n. place + n) (sym (taken_kept entry' i i e (omega arith)))
 
-    long_frames : length (frames ++ q.added) ≡ length frames + count_seen e.seen
-    long_frames = length-append frames q.added ∙ ap (λ n. length frames + n) q.as_many
+    long_frames : length (frames ++ added) ≡ length frames + count_seen e.seen
+    long_frames = length-append frames added ∙ ap (λ n. length frames + n) as_many
 
-    played_before : (j : ℕ) → 0 < j → j < i → carries x j ≡ true → SlotPlayed asked (at o.items j) (at new_items j) (frames ++ q.added) (entry_slot filled j)
+    played_before : (j : ℕ) → 0 < j → j < i → carries x j ≡ true → SlotPlayed asked (at o.items j) (at new_items j) (frames ++ added) (entry_slot filled j)
     played_before j some less on' =
         let old = p.tracks j some less on' in
         let same = slot_there j (not_same j less) in
         let item = item_there j (not_same j less) in
-        let stay = taken_stay frames q.added (entry_slot entry' j) (p.inside j less) in
-        subst (λ (s : SlotEntry). SlotPlayed asked (at o.items j) (at new_items j) (frames ++ q.added) s) (sym same) (record {
+        let stay = taken_stay frames added (entry_slot entry' j) (p.inside j less) in
+        subst (λ (s : SlotEntry). SlotPlayed asked (at o.items j) (at new_items j) (frames ++ added) s) (sym same) (record {
           old = old.old;
           new = old.new;
           was = old.was;
@@ -104,37 +110,37 @@ module _ (asked : ℕ) (x : FastState) (place : ℕ) (o : Observes ServerState S
           frames_are = old.frames_are ∙ ap (λ (fs : List Frame). old.old.pass.part.frames ++ map packed_word fs) (sym stay);
         })
 
-    played_here : SlotPlayed asked (at o.items i) (at new_items i) (frames ++ q.added) (entry_slot filled i)
-    played_here = subst (λ (s : SlotEntry). SlotPlayed asked (at o.items i) (at new_items i) (frames ++ q.added) s) (sym slot_here) (record {
+    played_here : SlotPlayed asked (at o.items i) (at new_items i) (frames ++ added) (entry_slot filled i)
+    played_here = subst (λ (s : SlotEntry). SlotPlayed asked (at o.items i) (at new_items i) (frames ++ added) s) (sym slot_here) (record {
       old = q.plays.old;
       new = q.plays.new;
       was = sym (p.rest i (omega arith) lt).0 ∙ q.plays.was;
       is = item_here;
-      plays = q.plays.plays;
-      frames_are = q.plays.frames ∙ ap (λ (fs : List Frame). q.plays.old.pass.part.frames ++ map packed_word fs) (sym (taken_added frames q.added e q.as_many q.place));
+      plays = q.plays.plays.slot;
+      frames_are = q.plays.plays.frames ∙ ap (λ (fs : List Frame). q.plays.old.pass.part.frames ++ map packed_word fs) (sym (taken_added frames added e as_many q.plays.plays.place_is));
     })
 
-    step : Played (record o' { items = new_items }) (frames ++ q.added) filled (suc i)
+    step : Played (record o' { items = new_items }) (frames ++ added) filled (suc i)
     step = record {
       whole = length-set entry'.slots i e ∙ p.whole;
       others = ap (λ (y : CycleEntry). record y { slots = slice_set entry'.slots i e }) p.others;
       same = ap (λ (y : Observes ServerState StreamNames). record y { items = new_items }) p.same;
       submix = (slot_there 0 (λ same. omega (arith, same)) ∙ p.submix.0, item_there 0 (λ same. omega (arith, same)) ∙ p.submix.1);
-      grown = p.grown ++ q.added;
-      grown_is = ap (λ (fs : List Frame). fs ++ q.added) p.grown_is ∙ append_assoc first p.grown q.added;
+      grown = p.grown ++ added;
+      grown_is = ap (λ (fs : List Frame). fs ++ added) p.grown_is ∙ append_assoc first p.grown added;
       total = long_frames ∙ (let here = ap (λ (s : SlotEntry). count_seen s.seen) slot_here in omega (arith, end, here));
       placed = up_to (λ j. (entry_slot filled j).first ≡ place_of (place + taken_before filled j) (entry_slot filled j).seen) i
           (λ j less. subst (λ (s : SlotEntry × ℕ). s.0.first ≡ place_of (place + s.1) s.0.seen) (λ k. (sym (slot_there j (not_same j less)) k, sym (taken_kept entry' i j e (omega arith)) k)) (p.placed j less))
-          (subst (λ (s : SlotEntry × ℕ). s.0.first ≡ place_of s.1 s.0.seen) (λ k. (sym slot_here k, end k)) q.place);
-      inside = up_to (λ j. (entry_slot filled j).first + count_seen (entry_slot filled j).seen ≤ length (frames ++ q.added)) i
-          (λ j less. subst (λ (s : SlotEntry). s.first + count_seen s.seen ≤ length (frames ++ q.added)) (sym (slot_there j (not_same j less))) (omega (arith, p.inside j less, long_frames)))
-          (subst (λ (s : SlotEntry). s.first + count_seen s.seen ≤ length (frames ++ q.added)) (sym slot_here) (omega (arith, q.place, place_within (length frames) e.seen, long_frames)));
+          (subst (λ (s : SlotEntry × ℕ). s.0.first ≡ place_of s.1 s.0.seen) (λ k. (sym slot_here k, end k)) q.plays.plays.place_is);
+      inside = up_to (λ j. (entry_slot filled j).first + count_seen (entry_slot filled j).seen ≤ length (frames ++ added)) i
+          (λ j less. subst (λ (s : SlotEntry). s.first + count_seen s.seen ≤ length (frames ++ added)) (sym (slot_there j (not_same j less))) (omega (arith, p.inside j less, long_frames)))
+          (subst (λ (s : SlotEntry). s.first + count_seen s.seen ≤ length (frames ++ added)) (sym slot_here) (omega (arith, q.plays.plays.place_is, place_within (length frames) e.seen, long_frames)));
       within = up_to (λ j. count_seen (entry_slot filled j).seen ≤ asked) i
           (λ j less. subst (λ (s : SlotEntry). count_seen s.seen ≤ asked) (sym (slot_there j (not_same j less))) (p.within j less))
-          (subst (λ (s : SlotEntry). count_seen s.seen ≤ asked) (sym slot_here) q.within);
+          (subst (λ (s : SlotEntry). count_seen s.seen ≤ asked) (sym slot_here) q.plays.plays.within);
       tracks = (λ j some less on'. elim (below i j less) [
         | inl before ↦ played_before j some before on'
-        | inr same ↦ subst (λ k. SlotPlayed asked (at o.items k) (at new_items k) (frames ++ q.added) (entry_slot filled k)) (sym same) played_here
+        | inr same ↦ subst (λ k. SlotPlayed asked (at o.items k) (at new_items k) (frames ++ added) (entry_slot filled k)) (sym same) played_here
       ]);
       quiet = (λ j some less no. elim (below i j less) [
         | inl before ↦ (item_there j (not_same j before) ∙ (p.quiet j some before no).0, slot_there j (not_same j before) ∙ (p.quiet j some before no).1)

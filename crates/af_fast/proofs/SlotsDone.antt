@@ -1,5 +1,5 @@
 -- How the slots of a mix begin with the pipe, and what they come to.
-use Rattle.std.proofs.Common.{◌≡◌, ℕ, zero, suc, ◌+◌, ◌*◌, ◌≤◌, ◌<◌, true, false, true≢false, List, [], ◌++◌, length, length-set, map, Option, slice_index_or, refl, sym, ap, subst, ◌∙◌, append_assoc, append-nil, arith}
+use Rattle.std.proofs.Common.{◌≡◌, ℕ, zero, suc, ◌+◌, ◌*◌, ◌≤◌, ◌<◌, true, false, true≢false, List, [], ◌++◌, length, length-set, length-take-le, map, take, Option, slice_index_or, refl, sym, ap, subst, ◌∙◌, append_assoc, append-nil, arith}
 use Rattle.std.proofs.lemmas.List.{length-append, get_or-replicate}
 use Rattle.std.proofs.Math.Nat.{add-zero, suc-mul, mul-suc, mul_comm, mul-le-mul_left}
 use Rattle.af_base.specs.declared.frame.Frame.{Frame}
@@ -30,6 +30,12 @@ taken_few asked entry (suc i) few =
 
 module _ (asked number : ℕ) (x : FastState) (o : Observes ServerState StreamNames) (p p' : OutSide) (frames first : List Frame) (marked : CycleEntry) (e : SlotEntry)
     (m : IsMarked number x marked) (q : LogsPipe asked p p' frames first e) where
+  abbrev added : List Frame
+  added = take (count_seen e.seen) q.buffer
+
+  as_many : length added ≡ count_seen e.seen
+  as_many = length-take-le (count_seen e.seen) q.buffer (omega (arith, q.long, q.plays.within))
+
   abbrev begun : CycleEntry
   begun = with_slot marked 0 e
 
@@ -40,7 +46,7 @@ module _ (asked number : ℕ) (x : FastState) (o : Observes ServerState StreamNa
   slot_zero = slot_filled marked 0 e (omega (arith, long))
 
   long_first : length first ≡ length frames + count_seen e.seen
-  long_first = ap length q.grown ∙ length-append frames q.added ∙ ap (λ n. length frames + n) q.as_many
+  long_first = ap length q.grown ∙ length-append frames added ∙ ap (λ n. length frames + n) as_many
 
   none_yet : (j : ℕ) → 1 ≤ j → j < slots → entry_slot begun j ≡ absent
   none_yet j some lt = slot_kept marked 0 j e (λ same. omega (arith, same)) ∙ ap (λ (l : List SlotEntry). slice_index_or l j absent) m.absent_all ∙ get_or-replicate slots j absent absent lt
@@ -60,10 +66,10 @@ module _ (asked number : ℕ) (x : FastState) (o : Observes ServerState StreamNa
     grown_is = sym (append-nil first);
     total = (let here = ap (λ (s : SlotEntry). count_seen s.seen) slot_zero in omega (arith, long_first, here));
     placed = only_zero (λ j. (entry_slot begun j).first ≡ place_of (length frames + taken_before begun j) (entry_slot begun j).seen)
-        (subst (λ (s : SlotEntry × ℕ). s.0.first ≡ place_of s.1 s.0.seen) (λ k. (sym slot_zero k, sym (add-zero (length frames)) k)) q.place);
+        (subst (λ (s : SlotEntry × ℕ). s.0.first ≡ place_of s.1 s.0.seen) (λ k. (sym slot_zero k, sym (add-zero (length frames)) k)) q.plays.place_is);
     inside = only_zero (λ j. (entry_slot begun j).first + count_seen (entry_slot begun j).seen ≤ length first)
-        (subst (λ (s : SlotEntry). s.first + count_seen s.seen ≤ length first) (sym slot_zero) (omega (arith, q.place, place_within (length frames) e.seen, long_first)));
-    within = only_zero (λ j. count_seen (entry_slot begun j).seen ≤ asked) (subst (λ (s : SlotEntry). count_seen s.seen ≤ asked) (sym slot_zero) q.within);
+        (subst (λ (s : SlotEntry). s.first + count_seen s.seen ≤ length first) (sym slot_zero) (omega (arith, q.plays.place_is, place_within (length frames) e.seen, long_first)));
+    within = only_zero (λ j. count_seen (entry_slot begun j).seen ≤ asked) (subst (λ (s : SlotEntry). count_seen s.seen ≤ asked) (sym slot_zero) q.plays.within);
     tracks = (λ j some lt. absurd (omega arith));
     quiet = (λ j some lt. absurd (omega arith));
     rest = (λ j some lt. (refl, none_yet j some lt));
@@ -78,20 +84,20 @@ module _ (asked number : ℕ) (x : FastState) (o : Observes ServerState StreamNa
     zero_is : entry_slot entry 0 ≡ e
     zero_is = d.submix.0 ∙ slot_zero
 
-    all_grown : final ≡ frames ++ (q.added ++ d.grown)
-    all_grown = d.grown_is ∙ ap (λ (fs : List Frame). fs ++ d.grown) q.grown ∙ append_assoc frames q.added d.grown
+    all_grown : final ≡ frames ++ (added ++ d.grown)
+    all_grown = d.grown_is ∙ ap (λ (fs : List Frame). fs ++ d.grown) q.grown ∙ append_assoc frames added d.grown
 
-    piped_are : frames_taken final e ≡ q.added
+    piped_are : frames_taken final e ≡ added
     piped_are =
         ap (λ (fs : List Frame). frames_taken fs e) d.grown_is
-        ∙ taken_stay first d.grown e (omega (arith, q.place, place_within (length frames) e.seen, long_first))
+        ∙ taken_stay first d.grown e (omega (arith, q.plays.place_is, place_within (length frames) e.seen, long_first))
         ∙ ap (λ (fs : List Frame). frames_taken fs e) q.grown
-        ∙ taken_added frames q.added e q.as_many q.place
+        ∙ taken_added frames added e as_many q.plays.place_is
 
     mixes_so : Mixes asked x (length frames) (found o p) (found o' p') entry
     mixes_so = record {
       whole = (d.whole, ap (λ (y : CycleEntry). length y.scales) d.others ∙ m.whole);
-      submix = subst (λ (s : SlotEntry). SubmixSlot asked p.pass.part.events p'.pass.part.events s) (sym zero_is) q.plays;
+      submix = subst (λ (s : SlotEntry). SubmixSlot asked p.pass.part.events p'.pass.part.events s) (sym zero_is) q.plays.submix;
       tracks = (λ i lt on.
           let played = d.tracks i (not_zero i on) lt on in
           subst (λ (b : Option ServerState × Option ServerState). TrackSlot asked (listed_at b.0) (listed_at b.1).events (entry_slot entry i)) (λ k. (sym played.was k, sym played.is k)) played.plays);
@@ -111,10 +117,10 @@ module _ (asked number : ℕ) (x : FastState) (o : Observes ServerState StreamNa
       mixed = ap (λ (y : CycleEntry). is_mixed y.cycle) d.others ∙ m.mixed;
       mixes = mixes_so;
       same = d.same;
-      grown = (q.added ++ d.grown, all_grown);
+      grown = (added ++ d.grown, all_grown);
       total = d.total;
       within = d.within;
-      piped = q.took ∙ ap (λ (fs : List Frame). p.pass.part.frames ++ map packed_word fs) (sym (ap (frames_taken final) zero_is ∙ piped_are));
+      piped = q.plays.took ∙ ap (λ (fs : List Frame). p.pass.part.frames ++ map packed_word fs) (sym (ap (frames_taken final) zero_is ∙ piped_are));
       tracks = (λ i lt on. d.tracks i (not_zero i on) lt on);
       others = others_so;
     }

@@ -13,7 +13,7 @@ use Rattle.af_link.specs.contracts.ends.PipeOut.{the_row as pipe_row}
 use Rattle.af_link.specs.PipeEnds.{OutSide}
 use Rattle.af_link.specs.Reports.{WriterSide}
 use Rattle.af_fast.specs.contracts.mixer.FastMixer.{the_row}
-use Rattle.af_fast.specs.Held.{stream_fits}
+use Rattle.af_fast.specs.Fits.{stream_fits}
 use Rattle.af_fast.specs.Mixer.{MixerState}
 
 -- its observer is the last value written through r

@@ -1,7 +1,8 @@
 pub mod Slots
-pub mod Held
+pub mod Fits
 pub mod Mixer
 pub mod Known
 pub mod Mixing
 pub mod Lends
 pub mod Ready
+pub mod Meets

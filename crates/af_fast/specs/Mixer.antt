@@ -1,21 +1,25 @@
 -- What contracts see of a fast mixer, and when it is in order.
 use Rattle.std.specs.Prelude.{◌≡◌, ℕ, ◌+◌, ◌-◌, ◌*◌, ◌^◌, ◌≤◌, ◌<◌, ◌==◌, ◌||◌, Bool, true, false, List, [], length, replicate, Option, None}
+use Rattle.af_base.specs.declared.log.CycleEntry.{CycleEntry}
+use Rattle.af_base.specs.declared.report.Report.{Report}
 use Rattle.af_base.specs.declared.report.SlotReport.{SlotReport}
 use Rattle.af_base.specs.declared.state.FastState.{FastState}
 use Rattle.af_base.specs.Log.{slots, Logged}
 use Rattle.af_model.specs.Cycles.{state_of, last_used, has_exit, cold_done, UseUpTo}
 use Rattle.af_model.specs.Reports.{no_slot, no_report, report_at}
-use Rattle.af_latest.specs.Laws.{last_of}
+use Rattle.af_model.specs.StateQueue.{carries}
+use Rattle.af_model.specs.declared.newest.WriterEvent.{WriterEvent}
+use Rattle.af_latest.specs.Laws.{last_of, stores}
 use Rattle.af_server.specs.Order.{ServerState}
 use Rattle.af_stateq.specs.Laws.{polled_states}
 use Rattle.af_stateq.specs.Observes.{Observes, InOrder}
-use Rattle.af_stateq.specs.Shelved.{no_state}
+use Rattle.af_stateq.specs.Shelved.{no_state, nothing}
 use Rattle.af_link.specs.PipeEnds.{OutSide, out_made}
 use Rattle.af_link.specs.Reports.{WriterSide}
 use Rattle.af_link.specs.Linked.{AreLinked}
 use Rattle.af_link.specs.declared.links.Links.{Links}
 use Rattle.af_link.specs.declared.names.StreamNames.{StreamNames}
-use Rattle.af_fast.specs.Held.{stream_fits}
+use Rattle.af_fast.specs.Fits.{stream_fits}
 
 -- the observer, the ends of the report and of the pipe, the log, the frames of a cycle, the entries of the whole log, whether a state was adopted that no mix has used yet, whether Exit was answered, the cold generation performed last, the state that the last entry used, and the last report of each slot
 pub record MixerState : Type 0 where
@@ -40,43 +44,50 @@ abbrev pub is_over : MixerState → Bool
 is_over m = m.exited || (length m.log.entries == m.cycles)
 
 -- the sizes that it was made with, and room for all entries and frames that are still to come
-pub record HasRoom (m : MixerState) : Type 0 where
-  pub frames : (1 ≤ m.frames) × (m.frames ≤ 2 ^ 21)
-  pub cycles : m.cycles ≤ 100000
-  pub entries : (length m.log.entries ≤ m.cycles) × (m.log.room ≡ m.cycles)
-  pub rest : length m.log.frames + slots * ((m.cycles - length m.log.entries) * m.frames) ≤ m.log.frame_room
+pub record HasRoom (frames cycles : ℕ) (log : Logged) : Type 0 where
+  pub sized : (1 ≤ frames) × (frames ≤ 2 ^ 21) × (cycles ≤ 100000)
+  pub entries : (length log.entries ≤ cycles) × (log.room ≡ cycles)
+  pub rest : length log.frames + slots * ((cycles - length log.entries) * frames) ≤ log.frame_room
 
--- the state adopted is that of the last entry or the next one, and the latter only where a mix is still to use it
-pub record Follows (m : MixerState) : Type 0 where
-  pub counted : length (adopted_states m) ≡ m.observer.past.number
-  pub current : state_of (adopted_states m) m.observer.past.number ≡ m.observer.current
-  pub used : UseUpTo (last_used m.log.entries) m.log.entries
-  pub low : last_used m.log.entries ≤ m.observer.past.number
-  pub high : m.observer.past.number ≤ last_used m.log.entries + 1
-  pub still : m.adopted ≡ false → m.observer.past.number ≡ last_used m.log.entries
-  pub over : is_over m ≡ true → m.observer.past.number ≡ last_used m.log.entries
-  pub few : last_used m.log.entries ≤ length m.log.entries
+-- The number of the state adopted is that of the state of the last entry or the next one, and the latter only where a mix is still to use it
+pub record UsesStates (number : ℕ) (entries : List CycleEntry) (adopted over : Bool) : Type 0 where
+  pub used : UseUpTo (last_used entries) entries
+  pub low : last_used entries ≤ number
+  pub high : number ≤ last_used entries + 1
+  pub still : adopted ≡ false → number ≡ last_used entries
+  pub ended : over ≡ true → number ≡ last_used entries
+  pub few : last_used entries ≤ length entries
+
+-- whether Exit was answered, the cold generation performed last, and the state that the last entry used
+pub record KeepsEntries (states : List FastState) (entries : List CycleEntry) (exited : Bool) (cold : ℕ) (last : Option FastState) : Type 0 where
+  pub exited_is : exited ≡ has_exit entries
+  pub cold_is : cold ≡ cold_done states entries
+  pub last_is : last ≡ state_of states (last_used entries)
 
 -- the counts of the reports are below a bound
 abbrev pub AreFew : ℕ → List SlotReport → Type 0
 AreFew bound reports = (i : ℕ) → i < slots → ((report_at reports i).fulls < bound) × ((report_at reports i).partials < bound) × ((report_at reports i).empties < bound)
 
--- the last report stored is that of the last entry, and its counts are those of entries
-pub record Reported (m : MixerState) : Type 0 where
-  pub number : (last_of no_report m.writer.events).cycle ≡ length m.log.entries
-  pub slots_are : (last_of no_report m.writer.events).slots ≡ m.reports
-  pub whole : length m.reports ≡ slots
-  pub few : AreFew (length m.log.entries + 1) m.reports
+-- as many reports were stored as there are entries. The last is that of the last entry, and its counts are those of entries
+pub record Reported (entries : ℕ) (events : List (WriterEvent Report)) (reports : List SlotReport) : Type 0 where
+  pub many : stores events ≡ entries
+  pub number : (last_of no_report events).cycle ≡ entries
+  pub slots_are : (last_of no_report events).slots ≡ reports
+  pub whole : length reports ≡ slots
+  pub few : AreFew (entries + 1) reports
+
+-- no slot has an item
+abbrev pub CarriesNone : FastState → Type 0
+CarriesNone x = (i : ℕ) → i < slots → carries x i ≡ false
 
 -- the kept values are those that the lists of its parts give, and each item that the observer holds fits the track of its slot
 pub record IsInOrder (m : MixerState) : Type 0 where
   pub observer : InOrder stream_fits m.observer
-  pub room : HasRoom m
-  pub follows : Follows m
-  pub exited : m.exited ≡ has_exit m.log.entries
-  pub cold : m.cold ≡ cold_done (adopted_states m) m.log.entries
-  pub last : m.last ≡ state_of (adopted_states m) (last_used m.log.entries)
-  pub reports : Reported m
+  pub begins : m.observer.past.number ≡ 0 → CarriesNone m.observer.past.state
+  pub room : HasRoom m.frames m.cycles m.log
+  pub uses : UsesStates m.observer.past.number m.log.entries m.adopted (is_over m)
+  pub keeps : KeepsEntries (adopted_states m) m.log.entries m.exited m.cold m.last
+  pub reports : Reported (length m.log.entries) m.writer.events m.reports
 
 -- its ends were made together with these links
 abbrev pub IsLinked : Links → MixerState → Type 0
@@ -84,7 +95,7 @@ IsLinked links m = AreLinked links m.observer.past.key m.observer.past.queue m.w
 
 -- nothing was done on the three ends
 pub record IsUnused (observer : Observes ServerState StreamNames) (writer : WriterSide) (pipe : OutSide) : Type 0 where
-  pub observed : (observer.past.number ≡ 0) × (observer.past.events ≡ []) × (observer.current ≡ None)
+  pub observed : (observer.past.number ≡ 0) × (observer.past.events ≡ []) × (observer.current ≡ None) × (observer.items ≡ nothing)
   pub stored : writer.events ≡ []
   pub taken : pipe.pass.part.events ≡ []
 

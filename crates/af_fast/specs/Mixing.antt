@@ -67,7 +67,7 @@ notes state entry writer reports m = record m {
 }
 
 -- the report after an entry under a state is stored
-pub record Reports (state : Option FastState) (entry : CycleEntry) (m m' : MixerState) : Type 0 where
+pub record StoresReport (state : Option FastState) (entry : CycleEntry) (m m' : MixerState) : Type 0 where
   pub report : Report
   pub stored : m'.writer.events ≡ m.writer.events ++ Store report ∷ []
   pub number : report.cycle ≡ length m.log.entries + 1

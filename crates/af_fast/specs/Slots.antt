@@ -1,25 +1,21 @@
 -- What a cycle does with the servers of its slots.
-use Rattle.std.specs.Prelude.{◌≡◌, ℕ, ◌+◌, ◌<◌, ◌≤◌, ◌++◌, true, false, List, [], length, map, Option, Some, None, replicate, slice_set, slice_index_or}
-use Rattle.af_base.specs.declared.event.ServerEvent.{ServerEvent}
+use Rattle.std.specs.Prelude.{◌≡◌, ℕ, ◌+◌, ◌<◌, ◌≤◌, ◌++◌, true, false, List, [], length, map, take, Option, Some, None, replicate, slice_set, slice_index_or}
 use Rattle.af_base.specs.declared.frame.Frame.{Frame}
 use Rattle.af_base.specs.declared.log.CycleEntry.{CycleEntry}
 use Rattle.af_base.specs.declared.log.SlotEntry.{SlotEntry}
 use Rattle.af_base.specs.declared.state.FastState.{FastState}
-use Rattle.af_base.specs.Log.{slots, absent, entry_slot, count_seen, frames_taken}
+use Rattle.af_base.specs.Log.{slots, Logged, absent, entry_slot, count_seen, frames_taken}
 use Rattle.af_base.specs.Sample.{packed_word}
 use Rattle.af_model.specs.Cycles.{Listed, TrackSlot, SubmixSlot, Found, Mixes, place_of, taken_before, is_mixed, mix_scale, mono_marks}
 use Rattle.af_model.specs.StateQueue.{carries}
 use Rattle.af_server.specs.Order.{ServerState}
+use Rattle.af_server.specs.Slot.{listed, Plays}
 use Rattle.af_stateq.specs.Mutates.{at}
 use Rattle.af_stateq.specs.Observes.{Observes}
 use Rattle.af_link.specs.PipeEnds.{OutSide}
 use Rattle.af_link.specs.declared.names.StreamNames.{StreamNames}
 
--- a server with its list, as a cycle finds it
-abbrev pub listed : ServerState → Listed
-listed s = record { size = s.pass.part.shape.frames; base = s.pass.part.shape.base; events = s.pass.part.events }
-
--- the same where a slot has a server
+-- a server with its list, as a cycle finds it, where a slot has one
 abbrev pub listed_at : Option ServerState → Listed
 listed_at None = record { size = 0; base = 0; events = [] }
 listed_at (Some s) = listed s
@@ -28,38 +24,38 @@ listed_at (Some s) = listed s
 abbrev pub found : Observes ServerState StreamNames → OutSide → Found
 found o p = record { pipe = p.pass.part.events; servers = (λ i. listed_at (at o.items i)) }
 
--- the server has done these events more, and taken these frames
-pub record Follows (s : ServerState) (events : List ServerEvent) (frames : List Frame) (t : ServerState) : Type 0 where
-  pub did : t.pass.part.events ≡ s.pass.part.events ++ events
-  pub took : t.pass.part.frames ≡ s.pass.part.frames ++ map packed_word frames
+-- the entries of a log stay, and it has no less room
+abbrev pub SameEntries : Logged → Logged → Type 0
+SameEntries l l' = (l'.entries ≡ l.entries) × (l'.room ≡ l.room) × (l.frame_room ≤ l'.frame_room)
 
--- The proxy of a slot was played: its list grew by the slot's events, and its frames by those that were added. Nothing else of the observer has changed
-pub record PlaysSlot (asked slot : ℕ) (o o' : Observes ServerState StreamNames) (added : List Frame) (entry : SlotEntry) : Type 0 where
+-- The proxy of a slot was played, and nothing else of the observer has changed
+pub record PlaysSlot (asked place slot : ℕ) (o o' : Observes ServerState StreamNames) (buffer : List Frame) (entry : SlotEntry) : Type 0 where
   pub old : ServerState
   pub new : ServerState
   pub was : at o.items slot ≡ Some old
   pub is : o' ≡ record o { items = slice_set o.items slot (Some new) }
-  pub plays : TrackSlot asked (listed old) new.pass.part.events entry
-  pub frames : new.pass.part.frames ≡ old.pass.part.frames ++ map packed_word added
+  pub plays : Plays asked place old buffer entry new
 
--- the same with the frames in the log, which had so many before
+-- the same with the frames that it showed in the log
 pub record LogsSlot (asked slot : ℕ) (o o' : Observes ServerState StreamNames) (frames frames' : List Frame) (entry : SlotEntry) : Type 0 where
-  pub added : List Frame
-  pub grown : frames' ≡ frames ++ added
-  pub as_many : length added ≡ count_seen entry.seen
-  pub place : entry.first ≡ place_of (length frames) entry.seen
-  pub within : count_seen entry.seen ≤ asked
-  pub plays : PlaysSlot asked slot o o' added entry
+  pub buffer : List Frame
+  pub long : length buffer ≡ asked
+  pub grown : frames' ≡ frames ++ take (count_seen entry.seen) buffer
+  pub plays : PlaysSlot asked (length frames) slot o o' buffer entry
 
--- the frames that the pipe showed were taken, and added to the log
-pub record LogsPipe (asked : ℕ) (p p' : OutSide) (frames frames' : List Frame) (entry : SlotEntry) : Type 0 where
-  pub added : List Frame
-  pub grown : frames' ≡ frames ++ added
-  pub as_many : length added ≡ count_seen entry.seen
-  pub place : entry.first ≡ place_of (length frames) entry.seen
+-- the frames that the pipe showed were taken to the front of the buffer
+pub record PlaysPipe (asked place : ℕ) (p p' : OutSide) (buffer : List Frame) (entry : SlotEntry) : Type 0 where
+  pub submix : SubmixSlot asked p.pass.part.events p'.pass.part.events entry
+  pub took : p'.pass.part.frames ≡ p.pass.part.frames ++ map packed_word (take (count_seen entry.seen) buffer)
   pub within : count_seen entry.seen ≤ asked
-  pub plays : SubmixSlot asked p.pass.part.events p'.pass.part.events entry
-  pub took : p'.pass.part.frames ≡ p.pass.part.frames ++ map packed_word added
+  pub place_is : entry.first ≡ place_of place entry.seen
+
+-- the same with the frames in the log
+pub record LogsPipe (asked : ℕ) (p p' : OutSide) (frames frames' : List Frame) (entry : SlotEntry) : Type 0 where
+  pub buffer : List Frame
+  pub long : length buffer ≡ asked
+  pub grown : frames' ≡ frames ++ take (count_seen entry.seen) buffer
+  pub plays : PlaysPipe asked (length frames) p p' buffer entry
 
 -- one proxy, before and after a cycle, by what its slot shows and the frames of the log
 pub record SlotPlayed (asked : ℕ) (before after : Option ServerState) (frames : List Frame) (entry : SlotEntry) : Type 0 where

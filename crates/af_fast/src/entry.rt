@@ -7,10 +7,10 @@ ghost use Rattle.af_base.specs.declared.state.FastState.{FastState};
 ghost use Rattle.af_stateq.specs.Observes.{InOrder};
 ghost use Rattle.af_link.specs.PipeEnds.{out_made};
 ghost use Rattle.af_link.specs.Reports.{last_cycle};
-ghost use Rattle.af_fast.specs.Held.{stream_fits, NamesBlocks};
+ghost use Rattle.af_fast.specs.Fits.{stream_fits, NamesBlocks};
 ghost use Rattle.af_fast.specs.Mixer.{AreFew};
-ghost use Rattle.af_fast.specs.Mixing.{Reports, notes};
-ghost use Rattle.af_fast.specs.Slots.{PlaysSlots};
+ghost use Rattle.af_fast.specs.Mixing.{StoresReport, notes};
+ghost use Rattle.af_fast.specs.Slots.{PlaysSlots, SameEntries};
 
 use crate::mixer::FastMixer;
 use crate::report::reports_after;
@@ -51,7 +51,7 @@ impl FastMixer {
         ensures order { InOrder stream_fits self.new.observer }
         ensures made { out_made self.new.pipe ≡ links.now.pipe.now }
         ensures same { self.new ≡ (record self.old { observer = self.new.observer; pipe = self.new.pipe; log = self.new.log }) }
-        ensures log { (self.new.log.entries ≡ self.old.log.entries) × (self.new.log.room ≡ self.old.log.room) × (self.old.log.frame_room ≤ self.new.log.frame_room) }
+        ensures log { SameEntries self.old.log self.new.log }
         ensures plays { PlaysSlots self.old.frames self.old.observer.past.number state.now self.old.observer self.new.observer self.old.pipe self.new.pipe self.old.log.frames self.new.log.frames result }
         ensures mixes { out.new ≡ mix (takes_of self.new.log.frames result) (length out.old) }
         ensures steps { steps.new ≤ steps.old + (self.old.frames + 3) + (slots - 1) * (self.old.frames + 7) }
@@ -85,7 +85,7 @@ impl FastMixer {
         requires later { last_cycle self.old.writer.events ≡ length self.old.log.entries }
         requires few { AreFew (2 ^ 31) self.old.reports }
         ensures notes { self.new ≡ notes state entry.now self.new.writer self.new.reports self.old }
-        ensures reports { Reports state entry.now self.old self.new }
+        ensures reports { StoresReport state entry.now self.old self.new }
         ensures cell { self.new.writer.cell ≡ self.old.writer.cell }
         ensures steps { steps.new ≡ steps.old + 1 }
     {

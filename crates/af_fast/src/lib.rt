@@ -4,22 +4,20 @@
 mod cycle;
 mod entry;
 mod held;
+mod meetings;
 mod mixer;
 mod report;
-mod slot;
 mod slots;
 mod submix;
 
 pub use mixer::FastMixer;
 
 #[cfg(test)]
-mod exit_tests;
-#[cfg(test)]
-mod flush_tests;
-#[cfg(test)]
-mod generation_tests;
+mod call_tests;
 #[cfg(test)]
 mod latest_tests;
+#[cfg(test)]
+mod link_tests;
 #[cfg(test)]
 mod meeting_tests;
 #[cfg(test)]
@@ -32,6 +30,8 @@ mod queue_tests;
 mod queue_threads;
 #[cfg(test)]
 mod run_tests;
+#[cfg(test)]
+mod table_tests;
 #[cfg(test)]
 mod tests;
 #[cfg(test)]

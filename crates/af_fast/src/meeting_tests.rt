@@ -1,46 +1,25 @@
-//! Meetings of the ends that a mixer lends.
-ghost use Rattle.std.specs.Prelude.{◌≡◌, ◌<◌, ◌++◌, [], ◌∷◌, length};
-ghost use Rattle.af_base.specs.declared.event.ServerEvent.TheVariants as takes;
-ghost use Rattle.af_cblk.specs.Parts.{server_did};
+//! Meetings of the ends that a mixer lends, and of a proxy that it holds.
+ghost use Rattle.std.specs.Prelude.{◌≡◌, ◌<◌, [], ◌∷◌};
+ghost use Rattle.af_cblk.specs.Sides.{hand_made};
 ghost use Rattle.af_link.specs.PipeEnds.{in_made};
-ghost use Rattle.af_model.specs.declared.newest.WriterEvent.TheVariants as writes;
 ghost use Rattle.af_fast.specs.Mixer.{IsInOrder, IsLinked};
+ghost use Rattle.af_client.specs.Order.{IsClientOf};
 ghost use Rattle.af_fast.specs.Ready.{IsReady};
 
 use crate::FastMixer;
-use crate::tests::{Ends, SILENCE, Turned, WRITTEN, begin, push_command, turn};
-use af_base::{Command, Frame, Memory, Steps};
+use crate::tests::{Ends, attach, begin, push_command, turn};
+use af_base::{Command, Memory, Steps};
+use af_cblk::{Block, FlagHand};
+use af_client::Client;
 use af_link::{Links, PipeIn, ReportReader, meet_pipe, meet_report};
+use af_server::Server;
 use std::alloc::Global;
 use std::marker::Brand;
 use std::sync::ledger::{Blank, Ledger};
 use std::test::*;
 
-// The ends of the report and of the pipe, lent at once, meet those of the other side. The mixer is as before but for the two meetings, and still in order.
-fn meet_both<L: Ledger>(
-    mixer: &mut FastMixer,
-    links: &Links<'_>,
-    reader: &mut ReportReader,
-    from: &mut PipeIn,
-    steps: &mut Steps<L>,
-)
-    requires linked { IsLinked links.now mixer.old }
-    requires order { IsInOrder mixer.old }
-    requires reader { reader.old.cell ≡ links.now.report.now }
-    requires from { in_made from.old ≡ links.now.pipe.now }
-    ensures mixer { mixer.new ≡ (record mixer.old { writer = record mixer.old.writer { events = mixer.old.writer.events ++ writes.Learn (length reader.old.events) ∷ [] }; pipe = record mixer.old.pipe { pass = record mixer.old.pipe.pass { part = server_did mixer.old.pipe.pass.part (takes.Learn (length from.old.pass.part.events)) } } }) }
-    ensures linked { IsLinked links.now mixer.new }
-    ensures order { IsInOrder mixer.new }
-    ensures reader { reader.new.cell ≡ links.now.report.now }
-    ensures from { in_made from.new ≡ links.now.pipe.now }
-{
-    let (writer, pipe) = mixer.pair();
-    meet_report(links.report, writer, reader, steps);
-    meet_pipe(links.pipe, from, pipe, steps);
-}
-
-// The last meeting, by two references: no proof goes on with the mixer after it.
-fn meet_last<L: Ledger>(
+// The ends meet by the two references that the mixer lends.
+fn meet_lent<L: Ledger>(
     mixer: &mut FastMixer,
     links: &Links<'_>,
     reader: &mut ReportReader,
@@ -56,65 +35,62 @@ fn meet_last<L: Ledger>(
     meet_pipe(links.pipe, from, pipe, steps);
 }
 
-// Puts the three frames where there is room.
-fn fill<L: Ledger>(from: &mut PipeIn, links: &Links<'_>, steps: &mut Steps<L>)
-    requires from { in_made from.old ≡ links.now.pipe.now }
-    ensures from { in_made from.new ≡ links.now.pipe.now }
+// The proxy of the only track is in slot 1, and meets its client there. Slot 2 has none.
+fn meets_held<L: Ledger>(
+    mixer: &mut FastMixer,
+    links: &Links<'_>,
+    block: &Block,
+    client: &mut Client,
+    hand: &mut FlagHand,
+    steps: &mut Steps<L>,
+) -> bool
+    requires order { IsInOrder mixer.old × IsLinked links.now mixer.old }
+    requires one { links.now.streams.now ≡ block.now ∷ [] }
+    requires block { IsClientOf block.now client.old × (hand_made hand.old ≡ block.now) }
+    ensures linked { IsLinked links.now mixer.new }
 {
-    if from.room(links.pipe, steps) < 3 {
-        return;
+    if mixer.meet_held(links, 2, client, hand, steps) {
+        return false;
     }
-    from.put(links.pipe, &WRITTEN, steps);
+    mixer.meet_held(links, 1, client, hand, steps)
 }
 
-// Puts frames, makes a cycle, and lets both ends meet.
-fn passes<L: Ledger>(ends: &mut Ends, links: &Links<'_>, steps: &mut Steps<L>) -> Turned
-    requires ready { IsReady links.now 4 ends.old.mutator ends.old.mixer ends.old.reader }
-    requires from { in_made ends.old.pipe ≡ links.now.pipe.now }
-    ensures ready { IsReady links.now 4 ends.new.mutator ends.new.mixer ends.new.reader }
-    ensures from { in_made ends.new.pipe ≡ links.now.pipe.now }
-{
-    fill(&mut ends.pipe, links, steps);
-    let turned = turn(ends, links, steps);
-    let Ends {
-        mixer,
-        reader,
-        pipe,
-        ..
-    } = ends;
-    meet_both(mixer, links, reader, pipe, steps);
-    turned
-}
-
-// Whether a cycle heard the three frames, and the report was that of so many cycles.
-fn heard(turned: &Turned, cycles: u64) -> bool {
-    let out: [Frame; 4] = [WRITTEN[0], WRITTEN[1], WRITTEN[2], SILENCE];
-    turned.out == out && turned.report.cycle == cycles
-}
-
-// Two cycles with a meeting after each, and a last meeting.
+// A proxy whose hand was split off is mixed and meets its client, and then the ends that the mixer lends meet.
 fn meets<L: Ledger>(alloc: Global, blank: Blank) -> Result<bool, Memory>
     requires name { blank.name ≡ L.name }
     requires parts { (blank.parts ≡ L.parts) × (0 < blank.parts) }
 {
     let mut steps = Steps::<L>::start(blank);
-    let (shared, mut ends) = begin(alloc, &[], 2, 4)?;
-    let links = shared.links(&[]);
+    let (block, client, server) = Block::make(alloc, 8, 0)?;
+    let mut client = Client::with(client, &block);
+    let mut server = Server::with(server, &block);
+    let mut hand = server.hand(&block, &mut steps);
+    let streams = [block];
+    let (shared, mut ends) = begin(alloc, &streams, 2, 4)?;
+    let links = shared.links(&streams);
+    attach(&mut ends.mutator, &links, 1, false, 0x1000, 0, server);
     push_command(&mut ends.mutator, &links, Command::MixWrite, &mut steps);
-    let first = passes(&mut ends, &links, &mut steps);
-    let second = passes(&mut ends, &links, &mut steps);
+    turn(&mut ends, &links, &mut steps);
     let Ends {
         mut mixer,
         mut reader,
         mut pipe,
         ..
     } = ends;
-    meet_last(&mut mixer, &links, &mut reader, &mut pipe, &mut steps);
-    Ok(heard(&first, 1) && heard(&second, 2))
+    let held = meets_held(
+        &mut mixer,
+        &links,
+        &streams[0],
+        &mut client,
+        &mut hand,
+        &mut steps,
+    );
+    meet_lent(&mut mixer, &links, &mut reader, &mut pipe, &mut steps);
+    Ok(held && mixer.observer().number() == 1)
 }
 
 #[test]
-fn both_ends_meet_between_cycles(rt: HostRuntime) {
+fn a_held_proxy_and_lent_ends_meet(rt: HostRuntime) {
     let found = meets::<Brand>(rt.alloc(), Blank::new(1));
     assert!(rt; found == Ok(true));
 }

@@ -3,7 +3,7 @@ ghost use Rattle.std.specs.Prelude.{◌≡◌, ◌*◌, ◌≤◌, ◌^◌, IfOk
 ghost use Rattle.std.specs.Borrow.{sem};
 ghost use Rattle.af_fast.specs.Lends.{lends_ends, lends_observer, lends_pair};
 ghost use Rattle.af_stateq.specs.Observes.{InOrder};
-ghost use Rattle.af_fast.specs.Held.{stream_fits};
+ghost use Rattle.af_fast.specs.Fits.{stream_fits};
 ghost use Rattle.af_fast.specs.Mixer.{IsInOrder, IsUnused, made_of};
 
 use af_base::{FastLog, FastState, Frame, Memory, SLOTS, SlotReport};

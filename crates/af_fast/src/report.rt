@@ -5,7 +5,7 @@ ghost use Rattle.af_model.specs.Reports.{no_slot, report_at, carried, counted_lo
 ghost use Rattle.af_base.specs.declared.state.FastState.{FastState};
 ghost use Rattle.af_model.specs.StateQueue.{carries};
 ghost use Rattle.af_stateq.specs.Observes.{InOrder};
-ghost use Rattle.af_fast.specs.Held.{stream_fits};
+ghost use Rattle.af_fast.specs.Fits.{stream_fits};
 ghost use Rattle.af_fast.specs.Known.{known, known_of};
 
 use af_base::{CycleEntry, FastState, SLOTS, Seen, SlotReport};

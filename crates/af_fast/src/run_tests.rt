@@ -4,7 +4,7 @@ ghost use Rattle.af_cblk.specs.Sides.{client_made, server_made};
 ghost use Rattle.af_client.specs.Order.{IsInOrder as IsClientInOrder};
 ghost use Rattle.af_link.specs.PipeEnds.{in_made};
 ghost use Rattle.af_server.specs.Order.{IsInOrder as IsServerInOrder};
-ghost use Rattle.af_fast.specs.Held.{NamesBlocks};
+ghost use Rattle.af_fast.specs.Fits.{NamesBlocks};
 ghost use Rattle.af_fast.specs.Ready.{IsReady, IsLine, AreClientsOf, AreStreamsOf};
 
 use crate::plain_tests::{FRAMES, PlainTrack};

@@ -5,12 +5,11 @@ ghost use Rattle.af_model.specs.Cycles.{is_mono, mix_scale, mono_marks, still_en
 ghost use Rattle.af_base.specs.declared.log.SlotEntry.{SlotEntry};
 ghost use Rattle.af_model.specs.StateQueue.{carries};
 ghost use Rattle.af_stateq.specs.Observes.{InOrder};
-ghost use Rattle.af_fast.specs.Held.{stream_fits, NamesBlocks};
+ghost use Rattle.af_fast.specs.Fits.{stream_fits, NamesBlocks};
 ghost use Rattle.af_link.specs.PipeEnds.{out_made};
-ghost use Rattle.af_fast.specs.Slots.{IsMarked, LogsPipe, LogsSlot, PlaysSlots};
+ghost use Rattle.af_fast.specs.Slots.{IsMarked, LogsPipe, LogsSlot, PlaysSlots, SameEntries};
 
 use crate::held::log_held;
-use crate::slot::count_of;
 use crate::submix::play_pipe;
 use af_base::{Cycle, CycleEntry, FastLog, FastState, Frame, SLOTS, Seen, SlotEntry, Steps};
 use af_cblk::Block;
@@ -97,15 +96,13 @@ fn log_pipe<L: Ledger>(
     requires few { length buffer.old < 2 ^ 32 }
     requires room { length log.old.frames + length buffer.old ≤ log.old.frame_room }
     ensures made { out_made pipe.new ≡ block.now }
-    ensures length { length buffer.new ≡ length buffer.old }
     ensures logs { LogsPipe (length buffer.old) pipe.old pipe.new log.old.frames log.new.frames result }
-    ensures entries { (log.new.entries ≡ log.old.entries) × (log.new.room ≡ log.old.room) }
-    ensures room { log.old.frame_room ≤ log.new.frame_room }
+    ensures log { SameEntries log.old log.new }
     ensures steps { steps.new ≤ steps.old + length buffer.old + 3 }
 {
     let place = log.frames().len();
     let entry = play_pipe(pipe, block, place, buffer, steps);
-    log.push_frames(&buffer[..count_of(entry.seen)]);
+    log.push_frames(&buffer[..entry.seen.count() as usize]);
     entry
 }
 
@@ -124,17 +121,14 @@ fn play_slot<L: Ledger>(
     requires state { state.now ≡ observer.old.past.state }
     requires order { InOrder stream_fits observer.old }
     requires names { NamesBlocks observer.old.past.key streams.now }
-    requires some { 1 ≤ length buffer.old }
-    requires few { length buffer.old < 2 ^ 32 }
+    requires buffer { (1 ≤ length buffer.old) × (length buffer.old < 2 ^ 32) }
     requires room { length log.old.frames + length buffer.old ≤ log.old.frame_room }
     ensures order { InOrder stream_fits observer.new }
-    ensures length { length buffer.new ≡ length buffer.old }
     ensures plays { carries state.now slot ≡ true → (slot_entry : SlotEntry)
         × LogsSlot (length buffer.old) slot observer.old observer.new log.old.frames log.new.frames slot_entry
         × (entry.new ≡ record entry.old { slots = slice_set entry.old.slots slot slot_entry }) }
     ensures rests { carries state.now slot ≡ false → (observer.new ≡ observer.old) × (log.new.frames ≡ log.old.frames) × (entry.new ≡ entry.old) }
-    ensures entries { (log.new.entries ≡ log.old.entries) × (log.new.room ≡ log.old.room) }
-    ensures room { log.old.frame_room ≤ log.new.frame_room }
+    ensures log { SameEntries log.old log.new }
     ensures steps { steps.new ≤ steps.old + length buffer.old + 7 }
 {
     if !carries_item(state, slot) {
@@ -158,14 +152,11 @@ pub(crate) fn play_slots<L: Ledger>(
     requires order { InOrder stream_fits observer.old }
     requires names { NamesBlocks observer.old.past.key links.now.streams.now }
     requires made { out_made pipe.old ≡ links.now.pipe.now }
-    requires some { 1 ≤ length buffer.old }
-    requires few { length buffer.old < 2 ^ 32 }
+    requires buffer { (1 ≤ length buffer.old) × (length buffer.old < 2 ^ 32) }
     requires room { length log.old.frames + slots * length buffer.old ≤ log.old.frame_room }
     ensures order { InOrder stream_fits observer.new }
     ensures made { out_made pipe.new ≡ links.now.pipe.now }
-    ensures length { length buffer.new ≡ length buffer.old }
-    ensures entries { (log.new.entries ≡ log.old.entries) × (log.new.room ≡ log.old.room) }
-    ensures room { log.old.frame_room ≤ log.new.frame_room }
+    ensures log { SameEntries log.old log.new }
     ensures plays { PlaysSlots (length buffer.old) observer.old.past.number state.now observer.old observer.new pipe.old pipe.new log.old.frames log.new.frames result }
     ensures steps { steps.new ≤ steps.old + (length buffer.old + 3) + (slots - 1) * (length buffer.old + 7) }
 {

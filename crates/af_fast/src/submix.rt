@@ -1,14 +1,13 @@
 //! What a cycle does with the pipe, which is slot 0.
-ghost use Rattle.std.specs.Prelude.{◌≡◌, ◌+◌, ◌<◌, ◌≤◌, ◌^◌, ◌++◌, length, map, take};
-ghost use Rattle.af_base.specs.Log.{count_seen};
-ghost use Rattle.af_base.specs.Sample.{packed_word};
-ghost use Rattle.af_model.specs.Cycles.{SubmixSlot, place_of, shown};
+ghost use Rattle.std.specs.Prelude.{◌≡◌, ◌+◌, ◌<◌, ◌≤◌, ◌^◌, length};
+ghost use Rattle.af_model.specs.Cycles.{shown};
 ghost use Rattle.af_link.specs.PipeEnds.{out_made};
+ghost use Rattle.af_fast.specs.Slots.{PlaysPipe};
 
-use crate::slot::place_of;
 use af_base::{Frame, Seen, SlotEntry, Steps};
 use af_cblk::Block;
 use af_link::PipeOut;
+use af_server::place_of;
 use std::sync::ledger::Ledger;
 
 /// A gain of 1 on both sides.
@@ -38,11 +37,7 @@ pub(crate) fn play_pipe<L: Ledger>(
     requires made { out_made pipe.old ≡ block.now }
     requires few { length buffer.old < 2 ^ 32 }
     ensures made { out_made pipe.new ≡ block.now }
-    ensures length { length buffer.new ≡ length buffer.old }
-    ensures slot { SubmixSlot (length buffer.old) pipe.old.pass.part.events pipe.new.pass.part.events result }
-    ensures frames { pipe.new.pass.part.frames ≡ pipe.old.pass.part.frames ++ map packed_word (take (count_seen result.seen) buffer.new) }
-    ensures within { count_seen result.seen ≤ length buffer.old }
-    ensures place { result.first ≡ place_of place result.seen }
+    ensures plays { PlaysPipe (length buffer.old) place pipe.old pipe.new buffer.new result }
     ensures steps { steps.new ≤ steps.old + length buffer.old + 3 }
 {
     let count = pipe.look(block, buffer.len() as u32, steps);

@@ -1,4 +1,4 @@
-//! The cycles of a mixer, call by call, on one thread.
+//! What the tests of a mixer share: its ends, the calls on them, and what they may tell.
 ghost use Rattle.std.specs.Prelude.{◌≡◌, ◌+◌, ◌*◌, ◌^◌, ◌<◌, ◌≤◌, true, false, IfOk};
 ghost use Rattle.af_base.specs.Log.{slots};
 ghost use Rattle.af_cblk.specs.Sides.{client_made};
@@ -6,7 +6,7 @@ ghost use Rattle.af_client.specs.Order.{IsInOrder as IsClientInOrder};
 ghost use Rattle.af_link.specs.Linked.{AreLinked};
 ghost use Rattle.af_link.specs.Names.{IsStreamOf};
 ghost use Rattle.af_link.specs.PipeEnds.{in_made, out_made};
-ghost use Rattle.af_fast.specs.Held.{NamesBlocks};
+ghost use Rattle.af_fast.specs.Fits.{NamesBlocks};
 ghost use Rattle.af_fast.specs.Mixer.{IsInOrder, IsLinked};
 ghost use Rattle.af_fast.specs.Ready.{IsReady};
 
@@ -215,10 +215,6 @@ pub(crate) fn turn<L: Ledger>(ends: &mut Ends, links: &Links<'_>, steps: &mut St
     Turned { cycle, out, report }
 }
 
-pub(crate) fn frame(left: i16, right: i16) -> Frame {
-    Frame { left, right }
-}
-
 pub(crate) const SILENCE: Frame = Frame { left: 0, right: 0 };
 
 pub(crate) const ABSENT: SlotEntry = SlotEntry {
@@ -286,82 +282,6 @@ pub(crate) fn reported(cycle: u64, consumed: u64, partials: u32, empties: u32) -
     report
 }
 
-pub(crate) const WRITTEN: [Frame; 3] = [
-    Frame { left: 1, right: 1 },
-    Frame { left: 2, right: 2 },
-    Frame { left: 3, right: 3 },
-];
-
 pub(crate) fn outcome(cycle: Cycle, out: [Frame; 4], report: Report) -> Turned {
     Turned { cycle, out, report }
-}
-
-// The turns of the worked run.
-fn worked_turns() -> [Turned; 6] {
-    let mut first = first_report();
-    first.cycle = 1;
-    let heard = [WRITTEN[0], WRITTEN[1], WRITTEN[2], SILENCE];
-    let spent = Cycle::Spent { cycles: 5 };
-    [
-        outcome(Cycle::Idle, [BEFORE; 4], first),
-        outcome(Cycle::Mixed, heard, reported(2, 3, 1, 0)),
-        outcome(Cycle::Mixed, [SILENCE; 4], reported(3, 3, 1, 1)),
-        outcome(Cycle::Cold, [BEFORE; 4], reported(4, 3, 1, 1)),
-        outcome(Cycle::Idle, [BEFORE; 4], reported(5, 3, 1, 1)),
-        outcome(spent, [BEFORE; 4], reported(5, 3, 1, 1)),
-    ]
-}
-
-// The entries of the same.
-fn worked_entries() -> [CycleEntry; 5] {
-    [
-        still(0, Cycle::Idle),
-        mixed_one(1, at_unity(3, Seen::Frames { count: 3 }, 0)),
-        mixed_one(1, at_unity(3, Seen::Empty, 0)),
-        still(2, Cycle::Cold),
-        still(2, Cycle::Idle),
-    ]
-}
-
-// Idles, mixes the three frames that were written, mixes none, and goes cold.
-fn works<L: Ledger>(mut ends: Ends, links: &Links<'_>, server: Server, steps: &mut Steps<L>) -> bool
-    requires ready { IsReady links.now 4 ends.mutator ends.mixer ends.reader }
-    requires none { ends.mutator.past.number ≡ 0 }
-    requires stream { IsStreamOf links.now.streams.now 0 server }
-{
-    let idle = turn(&mut ends, links, steps);
-    attach(&mut ends.mutator, links, 1, false, 0x1000, 0, server);
-    let first = push_command(&mut ends.mutator, links, Command::MixWrite, steps);
-    let mixed = turn(&mut ends, links, steps);
-    let empty = turn(&mut ends, links, steps);
-    let second = push_command(&mut ends.mutator, links, Command::ColdIdle, steps);
-    let cold = turn(&mut ends, links, steps);
-    let again = turn(&mut ends, links, steps);
-    let spent = turn(&mut ends, links, steps);
-    let turns = [idle, mixed, empty, cold, again, spent] == worked_turns();
-    let pushes = [first, second] == [Push::Pushed { number: 1 }, Push::Pushed { number: 2 }];
-    turns && pushes && log_is(ends.mixer.log(), &worked_entries(), &WRITTEN)
-}
-
-// The same on a new block, of which the flags are cleared in the end: UNDERRUN was set.
-fn works_in<L: Ledger>(alloc: Global, blank: Blank) -> Result<bool, Memory>
-    requires name { blank.name ≡ L.name }
-    requires parts { (blank.parts ≡ L.parts) × (0 < blank.parts) }
-{
-    let mut steps = Steps::<L>::start(blank);
-    let (block, client, server) = Block::make(alloc, 8, 0)?;
-    let mut client = Client::with(client, &block);
-    let server = Server::with(server, &block);
-    client.write(&block, &WRITTEN, &mut steps);
-    let streams = [block];
-    let (shared, ends) = begin(alloc, &streams, 5, 4)?;
-    let right = works(ends, &shared.links(&streams), server, &mut steps);
-    let flags = client.clear_disabled(&streams[0], &mut steps);
-    Ok(right && flags == 1)
-}
-
-#[test]
-fn a_stream_is_mixed_between_idle_cycles(rt: HostRuntime) {
-    let found = works_in::<Brand>(rt.alloc(), Blank::new(1));
-    assert!(rt; found == Ok(true));
 }

@@ -17,6 +17,3 @@ pub use names::{StreamNames, stream_names};
 pub use reports::{
     ReportCell, ReportReader, ReportWriter, first_report, meet_report, no_slot, report,
 };
-
-#[cfg(test)]
-mod tests;

@@ -6,9 +6,9 @@ ghost use Rattle.af_base.specs.declared.event.ServerEvent.TheVariants as server_
 ghost use Rattle.af_model.specs.History.{is_lawful, HasHistory};
 ghost use Rattle.af_cblk.specs.Parts.{client_met, server_did, hand_met};
 ghost use Rattle.af_cblk.specs.Rule.{StartsWith};
-ghost use Rattle.af_cblk.specs.Sides.{client_made, server_made, hand_made};
-ghost use Rattle.af_client.specs.Order.{IsInOrder as IsClientInOrder};
-ghost use Rattle.af_server.specs.Order.{IsInOrder as IsServerInOrder};
+ghost use Rattle.af_cblk.specs.Sides.{client_made, hand_made};
+ghost use Rattle.af_client.specs.Order.{IsClientOf};
+ghost use Rattle.af_server.specs.Order.{IsServerOf};
 
 use af_base::Steps;
 use af_cblk::{Block, FlagHand};
@@ -25,10 +25,8 @@ pub fn meet_track<L: Ledger>(
     block: &Block,
     steps: &mut Steps<L>,
 )
-    requires made { (client_made client.old.pass ≡ block.now) × (server_made server.old.pass ≡ block.now) }
-    requires order { IsClientInOrder client.old × IsServerInOrder server.old }
-    ensures made { (client_made client.new.pass ≡ block.now) × (server_made server.new.pass ≡ block.now) }
-    ensures order { IsClientInOrder client.new × IsServerInOrder server.new }
+    requires ready { IsClientOf block.now client.old × IsServerOf block.now server.old }
+    ensures ready { IsClientOf block.now client.new × IsServerOf block.now server.new }
     ensures client { client.new ≡ (record client.old { pass = record client.old.pass { part = client_met client.old.pass.part server.old.pass.part.events } }) }
     ensures server { server.new ≡ (record server.old { pass = record server.old.pass { part = server_did server.old.pass.part (server_event.Learn (length client.old.pass.part.events)) } }) }
     ensures history { is_lawful client.old.pass.part.events ≡ true
@@ -71,10 +69,8 @@ pub fn meet_all<L: Ledger>(
     block: &Block,
     steps: &mut Steps<L>,
 )
-    requires made { (client_made client.old.pass ≡ block.now) × (server_made server.old.pass ≡ block.now) × (hand_made hand.old ≡ block.now) }
-    requires order { IsClientInOrder client.old × IsServerInOrder server.old }
-    ensures made { (client_made client.new.pass ≡ block.now) × (server_made server.new.pass ≡ block.now) × (hand_made hand.new ≡ block.now) }
-    ensures order { IsClientInOrder client.new × IsServerInOrder server.new }
+    requires ready { IsClientOf block.now client.old × IsServerOf block.now server.old × (hand_made hand.old ≡ block.now) }
+    ensures ready { IsClientOf block.now client.new × IsServerOf block.now server.new × (hand_made hand.new ≡ block.now) }
     ensures client { client.new ≡ (record client.old { pass = record client.old.pass { part = client_met client.old.pass.part server.old.pass.part.events } }) }
     ensures server { server.new ≡ (record server.old { pass = record server.old.pass { part = server_did server.old.pass.part (server_event.Learn (length client.old.pass.part.events)); has_hand = false } }) }
     ensures hand { hand.new.part ≡ hand_met hand.old.part (length client.old.pass.part.events + 1) }

@@ -1,39 +1,16 @@
 //! Putting frames into a pipe.
 ghost use Rattle.std.specs.Prelude.{◌≡◌, ◌+◌, ◌-◌, ◌≤◌, map, length};
 ghost use Rattle.af_base.specs.Sample.{packed_word};
-ghost use Rattle.af_model.specs.Point.{wrapped};
 ghost use Rattle.af_model.specs.PipeHistory.{releases_of};
-ghost use Rattle.af_cblk.specs.Parts.{released, room as block_room, client_saw_front};
-ghost use Rattle.af_cblk.specs.Sides.{client_made};
-ghost use Rattle.af_client.specs.Calls.{Stored, SameBut, PutOn};
+ghost use Rattle.af_cblk.specs.Parts.{client_saw_front};
+ghost use Rattle.af_client.specs.Calls.{PutOn};
 ghost use Rattle.af_link.specs.PipeEnds.{in_made, room_of, HasPut};
 
 use crate::ends::PipeIn;
 use af_base::{Frame, Steps};
-use af_cblk::{Block, ClientPass};
+use af_cblk::Block;
+use af_client::store_frames;
 use std::sync::ledger::Ledger;
-
-// Stores these frames in the cells of the next positions.
-fn store_frames<L: Ledger>(
-    block: &Block,
-    pass: &mut ClientPass,
-    rear: u32,
-    frames: &[Frame],
-    steps: &mut Steps<L>,
-)
-    requires made { client_made pass.old ≡ block.now }
-    requires rear { rear ≡ wrapped (released pass.old.part) }
-    requires room { length frames.now ≤ block_room pass.old.part }
-    requires few { length frames.now ≤ 65536 }
-    ensures made { client_made pass.new ≡ block.now }
-    ensures same { SameBut pass.old.part pass.new.part }
-    ensures stored { Stored pass.new.part (map packed_word frames.now) (length frames.now) }
-    ensures steps { steps.new ≡ steps.old + length frames.now }
-{
-    for (i, frame) in frames.iter().enumerate() {
-        block.store_cell(pass, rear.wrapping_add(i as u32), frame.pack(), steps);
-    }
-}
 
 impl PipeIn {
     /// The free frames by the front that this call sees: the pipe's size without the frames put and not taken there. It appends SawFront. One step.

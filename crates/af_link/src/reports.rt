@@ -122,7 +122,7 @@ impl ReportReader {
 
 /// Each end learns that the other's list so far stands in the history before its own next event. It appends Learn to each list, in five steps.
 ///
-/// Whatever the order in which their steps came, the two ends' lists have a history, in which no load shows an earlier cycle than one before it, or than what was learnt before it.
+/// Whatever the order in which their steps came, the two ends' lists have a history, with these Learns, in which no load shows an earlier cycle than one before it, or than what was learnt before it.
 pub fn meet_report<L: Ledger>(
     cell: &ReportCell,
     writer: &mut ReportWriter,
@@ -131,8 +131,8 @@ pub fn meet_report<L: Ledger>(
 )
     requires together { (writer.old.cell ≡ cell.now) × (reader.old.cell ≡ cell.now) }
     ensures together { (writer.new.cell ≡ writer.old.cell) × (reader.new.cell ≡ reader.old.cell) }
-    ensures history { HasHistory no_report writer.old.events reader.old.events }
-    ensures never_older { CyclesNeverFall writer.old.events 0 reader.old.events }
+    ensures history { HasHistory no_report writer.new.events reader.new.events }
+    ensures never_older { CyclesNeverFall writer.new.events 0 reader.new.events }
     ensures writer { writer.new.events ≡ writer.old.events ++ writes.Learn (length reader.old.events) ∷ [] }
     ensures reader { reader.new.events ≡ reader.old.events ++ reads.Learn (length writer.old.events) ∷ [] }
     ensures steps { steps.new ≡ steps.old + 5 }

@@ -1,3 +1,4 @@
 pub mod Order
 pub mod Looks
 pub mod Relay
+pub mod Slot

@@ -4,11 +4,13 @@
 mod look;
 mod meet;
 mod server;
+mod slot;
 mod take;
 mod words;
 
 pub use look::Look;
 pub use server::Server;
+pub use slot::place_of;
 pub use take::load_frames;
 
 #[cfg(test)]

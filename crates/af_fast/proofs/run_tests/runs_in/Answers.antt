@@ -2,7 +2,7 @@ use Rattle.std.proofs.Common.{Option, sym, ap, subst, ◌∙◌}
 use Rattle.af_server.specs.Order.{ServerState}
 use Rattle.af_stateq.specs.Ends.{Pushes}
 use Rattle.af_link.specs.declared.names.StreamNames.{StreamNames}
-use Rattle.af_fast.specs.Held.{NamesBlocks}
+use Rattle.af_fast.specs.Fits.{NamesBlocks}
 use Rattle.af_fast.proofs.run_tests.runs_in.Goals as goal
 
 pub run-requires-clause-ready : goal.run-requires-clause-ready

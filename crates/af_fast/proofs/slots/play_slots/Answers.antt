@@ -15,9 +15,7 @@ loop-slot-init g c = record {
   low = omega arith;
   played = begins (length c.args.buffer.now) c.number.result c.args.state.now c.args.observer.now c.args.pipe.now c.log_pipe.new.pipe c.args.log.now.frames c.log_pipe.new.log.frames c.marked_entry-entry.result c.log_pipe.result c.marked_entry-entry.ensures c.log_pipe.ensures.logs;
   order = c.requires.order;
-  length_is = c.log_pipe.ensures.length;
-  entries = c.log_pipe.ensures.entries;
-  room = c.log_pipe.ensures.room;
+  log_is = c.log_pipe.ensures.log;
   stepped = omega (arith, c.log_pipe.ensures.steps);
 }
 
@@ -26,7 +24,7 @@ play_slot-requires-clause-room g c =
     let p = c.loop-slot.invariant.played in
     let fits = room_for (length c.args.buffer.now) (length c.args.log.now.frames) (taken_before c.loop-slot.entry c.loop-slot.slot) c.loop-slot.slot c.args.log.now.frame_room
     (taken_few (length c.args.buffer.now) c.loop-slot.entry c.loop-slot.slot p.within) (omega arith) c.requires.room in
-    omega (arith, fits, p.total, c.loop-slot.invariant.length_is, c.loop-slot.invariant.room)
+    omega (arith, fits, p.total, c.loop-slot.auto.buffer, c.loop-slot.invariant.log_is)
 
 pub loop-slot-preserved : goal.loop-slot-preserved
 loop-slot-preserved g c =
@@ -39,13 +37,15 @@ loop-slot-preserved g c =
       played = subst (λ (n : ℕ). PlayedTo asked c.args.state.now (length c.args.log.now.frames) c.args.observer.now c.play_slot.new.observer c.log_pipe.new.log.frames c.play_slot.new.log.frames begun c.play_slot.new.entry n) (omega arith) (
           slot_step asked c.args.state.now (length c.args.log.now.frames) c.args.observer.now c.log_pipe.new.log.frames begun c.loop-slot.observer c.play_slot.new.observer c.loop-slot.log.frames c.play_slot.new.log.frames c.loop-slot.entry c.play_slot.new.entry i
           c.loop-slot.invariant.played (omega arith) (omega arith) c.loop-slot.invariant.order.whole
-          (subst (λ (n : ℕ). carries c.args.state.now i ≡ true → (e : SlotEntry) × LogsSlot n i c.loop-slot.observer c.play_slot.new.observer c.loop-slot.log.frames c.play_slot.new.log.frames e × (c.play_slot.new.entry ≡ with_slot c.loop-slot.entry i e)) c.loop-slot.invariant.length_is c.play_slot.ensures.plays)
+          (subst (λ (n : ℕ). carries c.args.state.now i ≡ true → (e : SlotEntry) × LogsSlot n i c.loop-slot.observer c.play_slot.new.observer c.loop-slot.log.frames c.play_slot.new.log.frames e × (c.play_slot.new.entry ≡ with_slot c.loop-slot.entry i e)) (c.loop-slot.auto.buffer ∙ c.log_pipe.auto.buffer) c.play_slot.ensures.plays)
           c.play_slot.ensures.rests (carries c.args.state.now i) refl);
       order = c.play_slot.ensures.order;
-      length_is = c.play_slot.ensures.length ∙ c.loop-slot.invariant.length_is;
-      entries = (c.play_slot.ensures.entries.0 ∙ c.loop-slot.invariant.entries.0, c.play_slot.ensures.entries.1 ∙ c.loop-slot.invariant.entries.1);
-      room = omega (arith, c.play_slot.ensures.room, c.loop-slot.invariant.room);
-      stepped = omega (arith, more, c.play_slot.ensures.steps, c.loop-slot.invariant.stepped, c.loop-slot.invariant.length_is);
+      log_is = (
+        c.play_slot.ensures.log.0 ∙ c.loop-slot.invariant.log_is.0,
+        c.play_slot.ensures.log.1 ∙ c.loop-slot.invariant.log_is.1,
+        omega (arith, c.play_slot.ensures.log, c.loop-slot.invariant.log_is),
+      );
+      stepped = omega (arith, more, c.play_slot.ensures.steps, c.loop-slot.invariant.stepped, c.loop-slot.auto.buffer);
     }
 
 pub returns-clause-plays : goal.returns-clause-plays

@@ -1,4 +1,4 @@
-use Rattle.af_fast.specs.Ready.{IsClientOf}
+use Rattle.af_client.specs.Order.{IsClientOf}
 use Rattle.af_fast.proofs.thread_tests.write_in.Given as goal
 
 abbrev pub invariant-loop : goal.invariant-loop

@@ -1,6 +1,6 @@
 use Rattle.std.proofs.Common.{◌∙◌, sym, arith}
 use Rattle.std.proofs.lemmas.Slice.Zip.{AllZip-long}
-use Rattle.af_fast.specs.Ready.{IsClientOf}
+use Rattle.af_client.specs.Order.{IsClientOf}
 use Rattle.af_fast.proofs.Zips.{zip_at, zip_set}
 use Rattle.af_fast.proofs.turn_tests.clients_turn.Goals as goal
 

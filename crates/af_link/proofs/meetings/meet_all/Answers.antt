@@ -1,4 +1,4 @@
-use Rattle.std.proofs.Common.{◌≡◌, ℕ, length, ap, ◌∙◌}
+use Rattle.std.proofs.Common.{rules, ◌≡◌, ℕ, length, ap, ◌∙◌}
 use Rattle.af_base.specs.declared.event.ServerEvent.TheVariants as server
 use Rattle.af_cblk.specs.Parts.{client_met, server_did}
 use Rattle.af_cblk.specs.Sides.{ClientSide, ServerSide}
@@ -6,8 +6,8 @@ use Rattle.af_client.proofs.Kept.{met_keeps}
 use Rattle.af_server.proofs.Kept.{met_keeps as server_met}
 use Rattle.af_link.proofs.meetings.meet_all.Goals as goal
 
-pub returns-clause-order : goal.returns-clause-order
-returns-clause-order g c =
+pub returns-clause-ready : goal.returns-clause-ready
+returns-clause-ready g c =
     let old = c.args.client.now in
     let their = c.args.server.now in
     let theirs = their.pass.part.events in
@@ -17,5 +17,5 @@ returns-clause-order g c =
     c.meet_all.ensures.client ∙ ap (λ (x : ClientSide × ServerSide). client_met x.0.part x.1.part.events) (λ i. (values.0 i, values.1 i)) in
     let server : c.meet_all.new.server.part ≡ server_did their.pass.part (server.Learn count) =
     c.meet_all.ensures.server ∙ ap (λ (x : ClientSide × ServerSide). server_did x.1.part (server.Learn (length x.0.part.events))) (λ i. (values.0 i, values.1 i)) in
-    let kept = server_met their.pass.part c.meet_all.new.server.part their.flush their.front their.shown their.consumed their.shut count c.requires.order.1 server in
-    (met_keeps old.pass.part c.meet_all.new.client.part old.rear old.flushes old.released old.shut theirs c.requires.order.0 client, kept)
+    let kept = server_met their.pass.part c.meet_all.new.server.part their.flush their.front their.shown their.consumed their.shut count c.requires.ready.1.1 server in
+    ((search (rules), met_keeps old.pass.part c.meet_all.new.client.part old.rear old.flushes old.released old.shut theirs c.requires.ready.0.1 client), (search (rules), kept), search (rules))

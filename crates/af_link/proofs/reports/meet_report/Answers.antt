@@ -1,7 +1,7 @@
 use Rattle.std.proofs.Common.{List, length, sym, ◌∙◌, subst}
 use Rattle.af_model.specs.declared.newest.WriterEvent.{WriterEvent}
 use Rattle.af_base.specs.declared.report.Report.{Report}
-use Rattle.af_link.specs.Reports.{no_report, Rises, CyclesNeverFall, WriterSide, ReaderSide}
+use Rattle.af_link.specs.Reports.{no_report, Rises, CyclesNeverFall}
 use Rattle.af_link.proofs.Cycles.{rises_met, cycles_never_fall}
 use Rattle.af_link.proofs.reports.meet_report.Goals as goal
 
@@ -15,7 +15,4 @@ invariant_of-writer g c =
 
 pub returns-clause-never_older : goal.returns-clause-never_older
 returns-clause-never_older g c =
-    let k = c.writer.invariant in
-    let h = c.meet_latest.ensures.history no_report k.first in
-    subst (λ (x : WriterSide × ReaderSide). CyclesNeverFall x.0.events 0 x.1.events) (λ i. (c.writer.view_is i, c.reader.view_is i))
-    (cycles_never_fall c.writer.inside.writer.events c.reader.inside.reader.events k.rises h)
+    cycles_never_fall c.meet_latest.new.writer.events c.meet_latest.new.reader.events (invariant_of-writer g c).rises (c.meet_latest.ensures.history no_report c.writer.invariant.first)

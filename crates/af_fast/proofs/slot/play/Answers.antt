@@ -1,9 +1,0 @@
-use Rattle.std.proofs.Common.{rules, length, take}
-use Rattle.af_base.specs.Log.{count_seen}
-use Rattle.af_fast.proofs.Played.{played_by}
-use Rattle.af_fast.proofs.slot.play.Goals as goal
-
-pub returns-clause-slot : goal.returns-clause-slot
-returns-clause-slot g c =
-    played_by (length c.args.buffer.now) c.place_of.result c.args.server.now c.gains-gains.new.self c.look-look.new.self c.follow.new.server c.gains-gains.result c.look-look.result c.is_some-was_shut.result
-    (take (count_seen c.look-look.result.seen) c.follow.new.buffer) c.requires.order c.gains-gains.ensures.saw (search (rules)) c.look-look.ensures.looks c.follow.ensures.list

@@ -1,0 +1,262 @@
+//! What cycles answer, write, log and report, by tables of steps.
+use crate::table_tests::{Row, SIX, Step, Told, plays};
+use crate::tests::{BEFORE, SILENCE, Turned, at_unity, mixed_one, outcome, reported, still};
+use af_base::{Command, Cycle, Frame, Push, Report, Seen, SlotEntry, SlotReport};
+use af_link::first_report;
+use std::test::*;
+
+// The first three frames, and then silence.
+const HEARD: [Frame; 4] = [
+    Frame { left: 1, right: 1 },
+    Frame { left: 2, right: 2 },
+    Frame { left: 3, right: 3 },
+    SILENCE,
+];
+
+// Attaches a track.
+fn attaches(slot: u32, track: u32) -> Row {
+    (Step::Attach { slot, track }, Told::Is { so: true })
+}
+
+// Whether something is so.
+fn is(step: Step, so: bool) -> Row {
+    (step, Told::Is { so })
+}
+
+// Pushes the state of this number.
+fn pushes(command: Command, number: u64) -> Row {
+    let push = Push::Pushed { number };
+    (Step::Push { command }, Told::Pushed { push })
+}
+
+// A step that tells nothing.
+fn done(step: Step) -> Row {
+    (step, Told::Done)
+}
+
+// Clears the flags of a track.
+fn clears(track: usize, word: u32) -> Row {
+    (Step::Clear { track }, Told::Word { word })
+}
+
+// A cycle.
+fn turns(turned: Turned) -> Row {
+    (Step::Cycle, Told::Turned { turned })
+}
+
+// A cycle that mixes.
+fn mixes(out: [Frame; 4], report: Report) -> Row {
+    turns(outcome(Cycle::Mixed, out, report))
+}
+
+// A cycle that writes nothing.
+fn rests(cycle: Cycle, report: Report) -> Row {
+    turns(outcome(cycle, [BEFORE; 4], report))
+}
+
+// The report of a cycle before any item.
+fn empty_report(cycle: u64) -> Report {
+    let mut report = first_report();
+    report.cycle = cycle;
+    report
+}
+
+#[test]
+fn a_stream_is_mixed_between_idle_cycles(rt: HostRuntime) {
+    let spent = Cycle::Spent { cycles: 5 };
+    let rows = [
+        done(Step::Write { track: 0, count: 3 }),
+        rests(Cycle::Idle, empty_report(1)),
+        attaches(1, 0),
+        pushes(Command::MixWrite, 1),
+        mixes(HEARD, reported(2, 3, 1, 0)),
+        mixes([SILENCE; 4], reported(3, 3, 1, 1)),
+        pushes(Command::ColdIdle, 2),
+        rests(Cycle::Cold, reported(4, 3, 1, 1)),
+        rests(Cycle::Idle, reported(5, 3, 1, 1)),
+        rests(spent, reported(5, 3, 1, 1)),
+        clears(0, 1),
+    ];
+    let entries = [
+        still(0, Cycle::Idle),
+        mixed_one(1, at_unity(3, Seen::Frames { count: 3 }, 0)),
+        mixed_one(1, at_unity(3, Seen::Empty, 0)),
+        still(2, Cycle::Cold),
+        still(2, Cycle::Idle),
+    ];
+    let found = plays(rt.alloc(), 5, &rows, &entries, &SIX[..3]);
+    assert!(rt; found == Ok((rows.len(), true)));
+}
+
+#[test]
+fn an_exit_is_answered_again_without_an_entry(rt: HostRuntime) {
+    let exit = rests(Cycle::Exit, reported(1, 0, 0, 0));
+    let rows = [
+        attaches(1, 0),
+        pushes(Command::Exit, 1),
+        exit,
+        pushes(Command::MixWrite, 2),
+        exit,
+        exit,
+        is(Step::Ack, false),
+    ];
+    let entries = [still(1, Cycle::Exit)];
+    assert!(rt; plays(rt.alloc(), 3, &rows, &entries, &[]) == Ok((rows.len(), true)));
+    assert!(rt; plays(rt.alloc(), 1, &rows, &entries, &[]) == Ok((rows.len(), true)));
+}
+
+#[test]
+fn a_full_log_is_answered_without_an_entry(rt: HostRuntime) {
+    let report = reported(1, 3, 1, 0);
+    let spent = rests(Cycle::Spent { cycles: 1 }, report);
+    let rows = [
+        done(Step::Write { track: 0, count: 3 }),
+        attaches(1, 0),
+        pushes(Command::MixWrite, 1),
+        mixes(HEARD, report),
+        pushes(Command::Exit, 2),
+        spent,
+        spent,
+        is(Step::Ack, false),
+    ];
+    let entries = [mixed_one(1, at_unity(3, Seen::Frames { count: 3 }, 0))];
+    assert!(rt; plays(rt.alloc(), 1, &rows, &entries, &SIX[..3]) == Ok((rows.len(), true)));
+}
+
+// A slot that saw the flush, at unity.
+fn saw(rear: u32, seen: Seen) -> SlotEntry {
+    SlotEntry {
+        gains: 0x1000_1000,
+        flush: 1,
+        rear,
+        seen,
+        first: 0,
+    }
+}
+
+// A cycle that mixed nothing, with the report of a track of which three frames were discarded.
+fn silent(cycle: u64, shut: bool, empties: u32) -> Row {
+    let mut report = reported(cycle, 3, 0, empties);
+    report.slots[1].flush_seen = 1;
+    report.slots[1].shut = shut;
+    mixes([SILENCE; 4], report)
+}
+
+#[test]
+fn a_flush_is_no_underrun(rt: HostRuntime) {
+    let rows = [
+        done(Step::Write { track: 0, count: 3 }),
+        attaches(1, 0),
+        pushes(Command::MixWrite, 1),
+        done(Step::Flush { track: 0 }),
+        silent(1, false, 0),
+        clears(0, 0),
+        silent(2, false, 1),
+        clears(0, 1),
+        done(Step::Poke { track: 0 }),
+        silent(3, true, 1),
+        clears(0, 5),
+        silent(4, true, 1),
+    ];
+    let shut = Seen::Shut {
+        front: 3,
+        rear: 100,
+    };
+    let entries = [
+        mixed_one(1, saw(3, Seen::Flushed { dropped: 3 })),
+        mixed_one(1, saw(3, Seen::Empty)),
+        mixed_one(1, saw(100, shut)),
+        mixed_one(1, saw(100, shut)),
+    ];
+    assert!(rt; plays(rt.alloc(), 4, &rows, &entries, &[]) == Ok((rows.len(), true)));
+}
+
+// A cycle with what it reports of slots 1 and 2.
+fn pair(cycle: u64, out: [Frame; 4], first: SlotReport, second: SlotReport) -> Row {
+    let mut report = empty_report(cycle);
+    report.slots[1] = first;
+    report.slots[2] = second;
+    mixes(out, report)
+}
+
+// What is reported of a slot after looks at a lawful track without flushes.
+fn counted(generation: u32, consumed: u64, looks: [u32; 3]) -> SlotReport {
+    let [fulls, partials, empties] = looks;
+    SlotReport {
+        consumed,
+        shut: false,
+        generation,
+        flush_seen: 0,
+        fulls,
+        partials,
+        empties,
+    }
+}
+
+// The first track is mixed in slot 1 and detached. The second finds slot 1 taken and gets slot 2, but its push is too early: once the mixer has seen the detached slot it goes on, and the proxy comes back. The third gets slot 1, with a new generation.
+#[test]
+fn a_new_generation_counts_from_nothing(rt: HostRuntime) {
+    let none = counted(0, 0, [0, 0, 0]);
+    let kept = counted(1, 6, [1, 1, 1]);
+    let quiet = [SILENCE; 4];
+    let busy = Push::Busy {
+        seen: 1,
+        expected: 2,
+    };
+    let command = Command::MixWrite;
+    let rows = [
+        done(Step::Write { track: 0, count: 6 }),
+        done(Step::Write { track: 2, count: 2 }),
+        attaches(1, 0),
+        pushes(command, 1),
+        pair(
+            1,
+            [SIX[0], SIX[1], SIX[2], SIX[3]],
+            counted(1, 4, [1, 0, 0]),
+            none,
+        ),
+        pair(
+            2,
+            [SIX[4], SIX[5], SILENCE, SILENCE],
+            counted(1, 6, [1, 1, 0]),
+            none,
+        ),
+        pair(3, quiet, kept, none),
+        is(Step::Detach { slot: 1 }, true),
+        pushes(command, 2),
+        is(Step::Attach { slot: 1, track: 1 }, false),
+        attaches(2, 1),
+        (Step::Push { command }, Told::Pushed { push: busy }),
+        is(Step::TakeBack { slot: 1 }, false),
+        pair(4, quiet, kept, none),
+        pushes(command, 3),
+        is(Step::TakeBack { slot: 1 }, true),
+        pair(5, quiet, kept, counted(1, 0, [0, 0, 1])),
+        attaches(1, 2),
+        pushes(command, 4),
+        pair(
+            6,
+            [SIX[0], SIX[1], SILENCE, SILENCE],
+            counted(2, 2, [0, 1, 0]),
+            counted(1, 0, [0, 0, 2]),
+        ),
+        pair(7, quiet, counted(2, 2, [0, 1, 1]), counted(1, 0, [0, 0, 3])),
+    ];
+    assert!(rt; plays(rt.alloc(), 10, &rows, &[], &[]) == Ok((rows.len(), true)));
+}
+
+#[test]
+fn all_ends_meet_between_cycles(rt: HostRuntime) {
+    let rows = [
+        pushes(Command::MixWrite, 1),
+        done(Step::Meet),
+        done(Step::Put { count: 3 }),
+        mixes(HEARD, empty_report(1)),
+        done(Step::Meet),
+        done(Step::Put { count: 3 }),
+        mixes(HEARD, empty_report(2)),
+        done(Step::Meet),
+        is(Step::Ack, true),
+    ];
+    assert!(rt; plays(rt.alloc(), 2, &rows, &[], &[]) == Ok((rows.len(), true)));
+}
