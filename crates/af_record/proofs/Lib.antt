@@ -1,0 +1,4 @@
+pub mod Puts
+pub mod Histories
+pub mod Rears
+pub mod OneRead

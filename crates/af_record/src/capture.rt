@@ -1,0 +1,65 @@
+//! Supplying frames.
+ghost use Rattle.std.specs.Prelude.{◌≡◌, ℕ, ◌+◌, ◌*◌, ◌^◌, ◌++◌, ◌<◌, ◌≤◌, List, [], ◌∷◌, map, take, length};
+ghost use Rattle.af_base.specs.Sample.{packed_word};
+ghost use Rattle.af_record.specs.Supplies.{Supply, supply_of};
+ghost use Rattle.af_record.specs.Ends.{capture_made, CameBy, room_seen};
+
+use crate::ends::Capture;
+use crate::putting::put_all;
+use af_base::{Frame, Steps};
+use af_cblk::Block;
+use std::sync::ledger::Ledger;
+
+/// How many of a supply's frames were put, and how many were lost.
+#[derive(Clone, Copy, Debug, PartialEq, Eq)]
+pub struct Supplied {
+    pub put: u32,
+    pub lost: u32,
+}
+
+impl Capture {
+    /// Supplies these frames, 1 to 1024. It looks for room and puts as many frames as there is room for, until all are put or it sees the block full. The rest is lost.
+    ///
+    /// Some are lost exactly where the last front that it saw showed no room: the frames put before that look, and not taken by that front, filled the block.
+    pub fn supply<L: Ledger>(
+        &mut self,
+        block: &Block,
+        frames: &[Frame],
+        steps: &mut Steps<L>,
+    ) -> Supplied
+        requires made { capture_made self.old ≡ block.now }
+        requires frames { (1 ≤ length frames.now) × (length frames.now ≤ 1024) }
+        requires few { self.old.supplied < 2 ^ 62 }
+        ensures made { capture_made self.new ≡ block.now }
+        ensures sum { result.put + result.lost ≡ length frames.now }
+        ensures full { (1 ≤ result.lost → room_seen self.new.pass.part ≡ 0) × (room_seen self.new.pass.part ≡ 0 → 1 ≤ result.lost) }
+        ensures put { self.new.pass.part.frames ≡ self.old.pass.part.frames ++ map packed_word (take result.put frames.now) }
+        ensures counts { (self.new.supplied ≡ self.old.supplied + length frames.now) × (self.new.overrun ≡ self.old.overrun + result.lost) }
+        ensures history { (supplies : List Supply) → CameBy supplies self.old → CameBy (supplies ++ supply_of frames.now result.put ∷ []) self.new }
+        ensures steps { steps.new ≤ steps.old + 4 * length frames.now }
+    {
+        let put = put_all(block, &mut self.puts, frames, steps);
+        let lost = frames.len() - put;
+        self.supplied += frames.len() as u64;
+        self.lost += lost as u64;
+        Supplied {
+            put: put as u32,
+            lost: lost as u32,
+        }
+    }
+
+    /// How many frames were supplied.
+    pub fn supplied(&self) -> u64
+        ensures { result ≡ self.now.supplied }
+    {
+        self.supplied
+    }
+
+    /// How many of them were lost.
+    pub fn overrun(&self) -> u64
+        ensures value { result ≡ self.now.overrun }
+        ensures rest { self.now.supplied ≡ length self.now.pass.part.frames + result }
+    {
+        self.lost
+    }
+}

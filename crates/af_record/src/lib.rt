@@ -1,0 +1,10 @@
+//! Recording: one end supplies frames to a block and never waits, the other reads them. What finds no room is lost and counted.
+#![tactic(auto)]
+
+mod capture;
+mod ends;
+mod listener;
+mod putting;
+
+pub use capture::Supplied;
+pub use ends::{Capture, Listener, make, meet_record};
