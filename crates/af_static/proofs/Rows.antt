@@ -1,5 +1,5 @@
 -- A row of frames is so many steps, and what is heard of it.
-use Rattle.std.proofs.Common.{◌≡◌, ℕ, zero, suc, ◌+◌, ◌-◌, ◌*◌, ◌<◌, ◌≤◌, ◌⊎◌, inl, inr, ℤ, pos, ◌+ℤ◌, ◌*ℤ◌, Bool, true, false, not, ◌&&◌, ◌==◌, nat_lt, if◌then◌else◌, List, [], ◌∷◌, ◌++◌, length, take, drop, refl, sym, ap, ◌∙◌, arith, length-append}
+use Rattle.std.proofs.Common.{◌≡◌, ℕ, zero, suc, ◌+◌, ◌-◌, ◌*◌, ◌<◌, ◌≤◌, inl, inr, ℤ, pos, ◌+ℤ◌, ◌*ℤ◌, Bool, false, not, ◌&&◌, ◌==◌, if◌then◌else◌, List, [], ◌∷◌, ◌++◌, length, take, drop, refl, sym, ap, ◌∙◌, arith, length-append}
 use Rattle.std.proofs.lemmas.Bool.{lt-ltb, le-ltb, cases_lt}
 use Rattle.std.proofs.lemmas.Bool.Decides.{nat_tests}
 use Rattle.std.proofs.lemmas.Int.{ints}
@@ -10,7 +10,7 @@ use Rattle.af_base.specs.declared.frame.Frame.{Frame}
 use Rattle.af_base.specs.Gain.{gain_used, left_half, right_half}
 use Rattle.af_base.specs.Mix.{frame_at, silence, mixed_frame, mixed_sample, right_sample}
 use Rattle.af_static.specs.declared.head.Head.{Head}
-use Rattle.af_static.specs.Loops.{IsRow, jumped, moved, spent, step, frames_of, after, take_at, output}
+use Rattle.af_static.specs.Loops.{IsRow, jumped, moved, spent, frames_of, after, take_at, output}
 use Rattle.af_static.specs.Played.{IsPlayedTo, IsSilentFrom, IsDone}
 
 -- ## Steps
@@ -147,11 +147,11 @@ row_placed at run gains row old heard behind inside is =
     record {
       before = λ k below. (let left : k < length (take at old) = omega arith in get_or_append_left (take at old) (heard ++ behind) silence k left ∙ get_or-take at old k silence below);
       here = λ k below. (let left : k < length heard = omega arith in
-      ap (λ (m : ℕ). frame_at (take at old ++ (heard ++ behind)) (m + k)) (sym size)
-      ∙ get_or-append-add (take at old) (heard ++ behind) k silence
-      ∙ get_or_append_left heard behind silence k left
-      ∙ ap (λ (fs : List Frame). frame_at fs k) is
-      ∙ get_or-map-range_with_len (mixed_frame (take_at gains row ∷ [])) 0 run k k silence below (omega arith));
+          ap (λ (m : ℕ). frame_at (take at old ++ (heard ++ behind)) (m + k)) (sym size)
+          ∙ get_or-append-add (take at old) (heard ++ behind) k silence
+          ∙ get_or_append_left heard behind silence k left
+          ∙ ap (λ (fs : List Frame). frame_at fs k) is
+          ∙ get_or-map-range_with_len (mixed_frame (take_at gains row ∷ [])) 0 run k k silence below (omega arith));
     }
 
 row_played : (at run : ℕ) (frames : List Frame) (gains : ℕ × ℕ) (first h : Head) (places : ℕ) (old new : List Frame) → 0 < run → at + run ≤ places → IsRow (length frames) h run → IsRowAt at run gains (take run (drop h.position frames)) old new
@@ -167,7 +167,7 @@ row_played at run frames gains first h places old new some fits row heard was =
     record {
       inside = fits;
       mixed = λ k below. elim (cases_lt k at) [
-          inl before ↦ heard.before k before ∙ was.mixed k before
+        | inl before ↦ heard.before k before ∙ was.mixed k before
         | inr behind ↦
             let place : k ≡ at + (k - at) = omega arith in
             let short : k - at < run = omega arith in
@@ -220,7 +220,7 @@ done_by at frames gains first h places old new none stay ended same silent was =
     record {
       out = fill_by_all (mixed_frame (take_at gains all ∷ [])) new places silence same
           (λ k inside. elim (cases_lt k at) [
-              inl before ↦ silent.before k before ∙ was.mixed k before
+            | inl before ↦ silent.before k before ∙ was.mixed k before
             | inr behind ↦
                 let place : at + (k - at) ≡ k = omega arith in
                 silent.behind k behind (omega arith)
@@ -236,7 +236,7 @@ done_by at frames gains first h places old new none stay ended same silent was =
 pub done : (at : ℕ) (frames : List Frame) (gains : ℕ × ℕ) (first h : Head) (places : ℕ) (old new : List Frame) → (at < places → length frames ≤ h.position) → length new ≡ places → IsSilentFrom at old new → IsPlayedTo at frames gains first places h old → IsDone at frames gains first h places new
 done at frames gains first h places old new ended same silent was =
     elim (cases_lt at places) [
-        inl less ↦ done_by at frames gains first h places old new (none_left frames h (places - at) (ended less)) (stays (length frames) h (places - at) (ended less)) ended same silent was
+      | inl less ↦ done_by at frames gains first h places old new (none_left frames h (places - at) (ended less)) (stays (length frames) h (places - at) (ended less)) ended same silent was
       | inr full ↦
           let nothing : places - at ≡ 0 = omega arith in
           done_by at frames gains first h places old new (ap (frames_of frames h) nothing) (ap (after (length frames) h) nothing) ended same silent was

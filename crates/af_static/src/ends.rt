@@ -174,7 +174,14 @@ impl Player {
         ensures most { result ≤ length out.old }
     {
         let valid = self.setting.is_valid(self.size);
-        roll(&shared.buffer, valid, &mut self.head, gains, &mut self.sums, out)
+        roll(
+            &shared.buffer,
+            valid,
+            &mut self.head,
+            gains,
+            &mut self.sums,
+            out,
+        )
     }
 
     /// Plays the next frames of the buffer to 1 to 1024 places, by the newest setting: it loads once and appends Load with it.

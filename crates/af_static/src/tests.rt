@@ -106,7 +106,11 @@ pub(crate) fn counted(alloc: Global, count: i16) -> Result<Vec<Frame>, Memory> {
 }
 
 // One call at unity.
-pub(crate) fn call<L: Ledger>(shared: &Shared, player: &mut Player, steps: &mut Steps<L>) -> ([Frame; 8], u64)
+pub(crate) fn call<L: Ledger>(
+    shared: &Shared,
+    player: &mut Player,
+    steps: &mut Steps<L>,
+) -> ([Frame; 8], u64)
     requires { IsPlayerOf shared.now player.old }
     ensures { IsPlayerOf shared.now player.new }
 {

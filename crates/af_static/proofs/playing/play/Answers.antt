@@ -1,4 +1,4 @@
-use Rattle.std.proofs.Common.{◌≡◌, ◌<◌, ℕ, length, subst, sym, arith}
+use Rattle.std.proofs.Common.{◌≡◌, ◌<◌, ℕ, length, subst, arith}
 use Rattle.af_static.specs.Loops.{after, frames_of, output}
 use Rattle.af_static.proofs.Rows.{begins}
 use Rattle.af_static.proofs.playing.play.Goals as goal

@@ -1,4 +1,4 @@
-use Rattle.std.proofs.Common.{◌≤◌, ◌-◌, length}
+use Rattle.std.proofs.Common.{◌-◌, length}
 use Rattle.af_static.specs.Loops.{IsSound}
 use Rattle.af_static.specs.Played.{IsPlayedTo}
 use Rattle.af_static.proofs.playing.play.Given as goal
