@@ -1,0 +1,4 @@
+pub mod Loops
+pub mod Ends
+pub mod Numbers
+pub mod Played

@@ -1,0 +1,182 @@
+//! The player beside a plain model that goes frame by frame, on one thread and on two.
+ghost use Rattle.std.specs.Prelude.{◌≡◌, ◌<◌};
+ghost use Rattle.af_static.specs.Ends.{IsPlayerOf};
+
+use crate::{Player, Shared, make};
+use af_base::{Frame, Gains, Memory, Steps};
+use std::alloc::Global;
+use std::marker::Brand;
+use std::sync::ledger::{Blank, Ledger};
+use std::test::Fail;
+
+pub(crate) type Numbers = (u32, u32, u32);
+
+const MOST: u32 = u32::MAX;
+
+const SILENCE: Frame = Frame { left: 0, right: 0 };
+
+// Starts, ends and counts: loops that are too short, the shortest and whole ones, none, some and endless jumps, and ends before starts and outside.
+const SETTINGS: [Numbers; 14] = [
+    (2, 17, 1),
+    (2, 18, 1),
+    (2, 18, 2),
+    (0, 20, 1),
+    (0, 20, MOST),
+    (4, 20, 2),
+    (1, 17, MOST),
+    (2, 18, 0),
+    (20, 0, 0),
+    (21, 22, 0),
+    (18, 2, 1),
+    (5, 21, 1),
+    (0, MOST, 1),
+    (MOST, MOST, MOST),
+];
+
+// The model.
+#[derive(Clone, Copy)]
+pub(crate) struct Plain {
+    position: usize,
+    start: usize,
+    end: usize,
+    left: u32,
+    shut: bool,
+}
+
+pub(crate) const NEW: Plain = Plain {
+    position: 0,
+    start: 0,
+    end: 0,
+    left: 0,
+    shut: false,
+};
+
+impl Plain {
+    pub(crate) fn adopt(&mut self, size: usize, (start, end, count): Numbers) {
+        let (start, end) = (start as usize, end as usize);
+        if count == 0 {
+            self.shut = self.shut || start > size;
+            self.position = start;
+        } else {
+            let fits = start < end && end <= size && end - start >= 16;
+            self.shut = self.shut || !fits;
+            if self.position < start || self.position >= end {
+                self.position = start;
+            }
+        }
+        (self.start, self.end, self.left) = (start, end, count);
+    }
+
+    fn next(&mut self, frames: &[Frame]) -> Option<Frame> {
+        if self.shut || self.position >= frames.len() {
+            return None;
+        }
+        let frame = frames[self.position];
+        self.position += 1;
+        if self.left > 0 && self.position == self.end {
+            self.position = self.start;
+            if self.left != MOST {
+                self.left -= 1;
+            }
+        }
+        Some(frame)
+    }
+
+    // Whether the places hold the frames that come next, and then silence.
+    pub(crate) fn plays(&mut self, frames: &[Frame], out: &[Frame]) -> bool {
+        let mut right = true;
+        for found in out {
+            let wanted = self.next(frames).unwrap_or(SILENCE);
+            right = right && *found == wanted;
+        }
+        right
+    }
+}
+
+// So many frames, of which the first is 1 on both sides.
+pub(crate) fn counted(alloc: Global, count: i16) -> Result<Vec<Frame>, Memory> {
+    let mut frames = Vec::new(alloc);
+    for number in 1..=count {
+        frames.push(Frame {
+            left: number,
+            right: number,
+        })?;
+    }
+    Ok(frames)
+}
+
+// One call at unity.
+pub(crate) fn call<L: Ledger>(
+    shared: &Shared,
+    player: &mut Player,
+    steps: &mut Steps<L>,
+) -> ([Frame; 8], u64)
+    requires { IsPlayerOf shared.now player.old }
+    ensures { IsPlayerOf shared.now player.new }
+{
+    let mut out = [SILENCE; 8];
+    let unrolled = player.mix_next(shared, Gains::clamped(0x1000_1000), &mut out, steps);
+    (out, unrolled.number)
+}
+
+// Whether five calls play as the model does.
+fn plays<L: Ledger>(
+    shared: &Shared,
+    player: &mut Player,
+    plain: &mut Plain,
+    frames: &[Frame],
+    steps: &mut Steps<L>,
+) -> bool
+    requires { IsPlayerOf shared.now player.old }
+    ensures { IsPlayerOf shared.now player.new }
+{
+    let mut right = true;
+    for _ in 0..5 {
+        let (out, _) = call(shared, player, steps);
+        right = plain.plays(frames, &out) && right;
+    }
+    right
+}
+
+// Whether one setting and then another is played as the model does.
+fn both_play<L: Ledger>(
+    alloc: Global,
+    blank: Blank,
+    first: Numbers,
+    second: Numbers,
+) -> Result<bool, Memory>
+    requires ledger { (blank.name ≡ L.name) × (blank.parts ≡ L.parts) × (0 < blank.parts) }
+{
+    let frames = counted(alloc, 20)?;
+    if frames.len() != 20 {
+        return Ok(false);
+    }
+    let mut steps = Steps::<L>::start(blank);
+    let (shared, mut setter, mut player) = make(alloc, &frames)?;
+    let mut plain = NEW;
+    setter.set(&shared, first.0, first.1, first.2, &mut steps);
+    plain.adopt(20, first);
+    let before = plays(&shared, &mut player, &mut plain, &frames, &mut steps);
+    setter.set(&shared, second.0, second.1, second.2, &mut steps);
+    if !plain.shut {
+        plain.adopt(20, second);
+    }
+    let after = plays(&shared, &mut player, &mut plain, &frames, &mut steps);
+    Ok(before && after)
+}
+
+fn all_play(alloc: Global, first: Numbers) -> Result<bool, Memory> {
+    let mut right = true;
+    for second in SETTINGS {
+        right = both_play::<Brand>(alloc, Blank::new(1), first, second)? && right;
+    }
+    Ok(right)
+}
+
+#[test]
+fn each_setting_after_each_plays_as_the_model(rt: HostRuntime) -> Result<(), Fail> {
+    for first in SETTINGS {
+        assert!(rt; all_play(rt.alloc(), first)?, "after {first:?}");
+    }
+    Ok(())
+}
