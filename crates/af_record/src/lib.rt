@@ -8,3 +8,6 @@ mod putting;
 
 pub use capture::Supplied;
 pub use ends::{Capture, Listener, make, meet_record};
+
+#[cfg(test)]
+mod tests;
