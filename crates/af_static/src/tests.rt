@@ -2,7 +2,7 @@
 ghost use Rattle.std.specs.Prelude.{◌≡◌, ◌<◌};
 ghost use Rattle.af_static.specs.Ends.{IsPlayerOf};
 
-use crate::{Player, Shared, make};
+use crate::{Player, Shared, Unrolled, make};
 use af_base::{Frame, Gains, Memory, Steps};
 use std::alloc::Global;
 use std::marker::Brand;
@@ -110,13 +110,13 @@ pub(crate) fn call<L: Ledger>(
     shared: &Shared,
     player: &mut Player,
     steps: &mut Steps<L>,
-) -> ([Frame; 8], u64)
+) -> ([Frame; 8], Unrolled)
     requires { IsPlayerOf shared.now player.old }
     ensures { IsPlayerOf shared.now player.new }
 {
     let mut out = [SILENCE; 8];
     let unrolled = player.mix_next(shared, Gains::clamped(0x1000_1000), &mut out, steps);
-    (out, unrolled.number)
+    (out, unrolled)
 }
 
 // Whether five calls play as the model does.
@@ -178,5 +178,87 @@ fn each_setting_after_each_plays_as_the_model(rt: HostRuntime) -> Result<(), Fai
     for first in SETTINGS {
         assert!(rt; all_play(rt.alloc(), first)?, "after {first:?}");
     }
+    Ok(())
+}
+
+// The left samples.
+fn lefts(out: &[Frame; 8]) -> [i16; 8] {
+    let mut samples = [0; 8];
+    for i in 0..8 {
+        samples[i] = out[i].left;
+    }
+    samples
+}
+
+// What five calls play of the frames 1 to 20 under one setting, and what they answer.
+fn five_calls<L: Ledger>(
+    alloc: Global,
+    blank: Blank,
+    setting: Numbers,
+) -> Result<([[i16; 8]; 5], [Unrolled; 5]), Memory>
+    requires ledger { (blank.name ≡ L.name) × (blank.parts ≡ L.parts) × (0 < blank.parts) }
+{
+    let none = Unrolled {
+        number: 0,
+        filled: 0,
+        shut: None,
+    };
+    let (mut samples, mut answers) = ([[0; 8]; 5], [none; 5]);
+    let frames = counted(alloc, 20)?;
+    if frames.len() != 20 {
+        return Err(Memory);
+    }
+    let mut steps = Steps::<L>::start(blank);
+    let (shared, mut setter, mut player) = make(alloc, &frames)?;
+    setter.set(&shared, setting.0, setting.1, setting.2, &mut steps);
+    for i in 0..5 {
+        let (out, unrolled) = call(&shared, &mut player, &mut steps);
+        samples[i] = lefts(&out);
+        answers[i] = unrolled;
+    }
+    Ok((samples, answers))
+}
+
+fn five_of(alloc: Global, setting: Numbers) -> Result<([[i16; 8]; 5], [Unrolled; 5]), Memory> {
+    five_calls::<Brand>(alloc, Blank::new(1), setting)
+}
+
+#[test]
+fn a_loop_is_played_twice_and_then_the_rest(rt: HostRuntime) -> Result<(), Fail> {
+    let (samples, answers) = five_of(rt.alloc(), (2, 18, 1))?;
+    assert_eq!(rt; samples[0], [3, 4, 5, 6, 7, 8, 9, 10]);
+    assert_eq!(rt; samples[1], [11, 12, 13, 14, 15, 16, 17, 18]);
+    assert_eq!(rt; samples[2], samples[0]);
+    assert_eq!(rt; samples[3], samples[1]);
+    assert_eq!(rt; samples[4], [19, 20, 0, 0, 0, 0, 0, 0]);
+    assert_eq!(rt;
+        answers[3],
+        Unrolled {
+            number: 1,
+            filled: 8,
+            shut: None
+        }
+    );
+    assert_eq!(rt;
+        answers[4],
+        Unrolled {
+            number: 1,
+            filled: 2,
+            shut: None
+        }
+    );
+    Ok(())
+}
+
+#[test]
+fn a_loop_of_fifteen_frames_shuts_the_player(rt: HostRuntime) -> Result<(), Fail> {
+    let (samples, answers) = five_of(rt.alloc(), (2, 17, 1))?;
+    let shut = Unrolled {
+        number: 1,
+        filled: 0,
+        shut: Some((2, 17, 1)),
+    };
+    assert_eq!(rt; samples, [[0; 8]; 5]);
+    assert_eq!(rt; answers, [shut; 5]);
     Ok(())
 }

@@ -59,9 +59,9 @@ fn play_in<L: Ledger>(blank: Blank, shared: &Shared, mut player: Player, frames:
     let mut last = 0;
     let mut right = true;
     for _ in 0..1_000_000u32 {
-        let (out, number) = call(shared, &mut player, &mut steps);
-        right = follows(&mut plain, frames, last, number, &out) && right;
-        last = number;
+        let (out, unrolled) = call(shared, &mut player, &mut steps);
+        right = follows(&mut plain, frames, last, unrolled.number, &out) && right;
+        last = unrolled.number;
         if last >= 1000 {
             break;
         }
