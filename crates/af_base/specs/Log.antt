@@ -8,11 +8,12 @@ use Rattle.af_base.specs.declared.seen.Seen.TheVariants.{Frames, Absent}
 use Rattle.af_base.specs.declared.log.SlotEntry.{SlotEntry}
 use Rattle.af_base.specs.declared.log.Cycle.TheVariants.{Idle}
 use Rattle.af_base.specs.declared.log.CycleEntry.{CycleEntry}
+use Rattle.af_base.specs.declared.state.TheConstants.{SLOTS}
 use Rattle.af_base.specs.Mix.{Take}
 
 -- the number of slots
 abbrev pub slots : ℕ
-slots = 8
+slots = SLOTS
 
 -- the entries, the frames that they took, and for how many entries and frames there is room in all
 pub record Logged : Type 0 where

@@ -1,6 +1,6 @@
 //! The log of a fast mixer: what each cycle read, saw and took.
 ghost use Rattle.std.specs.Prelude.{◌≡◌, ◌+◌, ◌*◌, ◌<◌, ◌≤◌, ◌^◌, [], ◌∷◌, ◌++◌, length, IfOk, MatchOption};
-ghost use Rattle.af_base.specs.Log.{entry_at};
+ghost use Rattle.af_base.specs.Log.{slots, entry_at};
 
 use crate::seen::Seen;
 use crate::state::SLOTS;
@@ -69,11 +69,11 @@ impl Model for FastLog {
 }
 
 impl FastLog {
-    /// An empty log with room for `cycles` entries, at most 100,000, and the frames of eight slots at `frames` frames a cycle. Memory is its only refusal.
+    /// An empty log with room for `cycles` entries, at most 100,000, and the frames of all slots at `frames` frames a cycle. Memory is its only refusal.
     pub fn with_room(alloc: Global, cycles: usize, frames: usize) -> Result<FastLog, Memory>
         requires cycles { cycles ≤ 100000 }
         requires frames { cycles * frames ≤ 2 ^ 21 }
-        ensures { IfOk result (λ l. l ≡ record { entries = []; frames = []; room = cycles; frame_room = 8 * (cycles * frames) }) }
+        ensures { IfOk result (λ l. l ≡ record { entries = []; frames = []; room = cycles; frame_room = slots * (cycles * frames) }) }
     {
         let entries = Vec::with_capacity(alloc, cycles)?;
         let frames = Vec::with_capacity(alloc, SLOTS * (cycles * frames))?;

@@ -1,7 +1,7 @@
 //! What the fast mixer is told by a state (AOSP's FastMixerState), and what a push of one answers.
 
 /// The number of slots of a state. Slot 0 is the normal mixer's submix.
-pub const SLOTS: usize = 8;
+pub const SLOTS: usize = 32;
 
 /// What the fast mixer is to do.
 #[derive(Clone, Copy, Debug, PartialEq, Eq)]
@@ -53,7 +53,7 @@ pub struct FastTrack {
 /// A state of the fast mixer.
 #[derive(Clone, Copy, Debug, PartialEq, Eq)]
 pub struct FastState {
-    pub slots: [FastTrack; 8],
+    pub slots: [FastTrack; SLOTS],
     /// Bit i is set exactly where slot i is active. Bit 0 is always set.
     pub mask: u32,
     /// Rises with each attach and each detach.

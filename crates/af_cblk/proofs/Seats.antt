@@ -10,7 +10,7 @@ use Rattle.af_cblk.specs.declared.view.ClientPart.{ClientPart}
 use Rattle.af_cblk.specs.declared.view.ServerPart.{ServerPart}
 use Rattle.af_cblk.specs.declared.view.HandPart.{HandPart}
 use Rattle.af_cblk.specs.declared.view.View.{View}
-use Rattle.af_cblk.specs.Rule.{Stands, Parties, Sits, Holds, nobody, without_client, client_alone, with_client, without_hand, hand_alone, with_hand}
+use Rattle.af_cblk.specs.Rule.{Stands, Parties, Sits, Holds, nobody, without_client, client_alone, and_client, without_hand, hand_alone, and_hand}
 
 -- what the rule says of the words, where the client has not poked
 abbrev pub Lawfully : Shape → List ℕ → ClientPart → ServerPart → HandPart → Type 0
@@ -190,8 +190,8 @@ seat_joins k id v other w both moves t h at apart there =
       stands = subst (λ (x : ClientPart × ServerPart × HandPart). Lawfully k t.words x.0 x.1 x.2) (λ n. (sym m.1 n, sym m.2 n, sym m.3 n)) h.stands;
     }
 
-pub client_comes : (k : Shape) (id : ℕ) (v : View) (other : ℕ) (w : View) → w.is_client ≡ true → Joins (Holds k) id v other w (with_client v w) nobody
-client_comes k id v other w is = seat_joins k id v other w (with_client v w) (λ a mine theirs.
+pub client_comes : (k : Shape) (id : ℕ) (v : View) (other : ℕ) (w : View) → w.is_client ≡ true → Joins (Holds k) id v other w (and_client v w) nobody
+client_comes k id v other w is = seat_joins k id v other w (and_client v w) (λ a mine theirs.
     let seat = theirs.client is in (
       record a { client_seat = id },
       refl,
@@ -201,8 +201,8 @@ client_comes k id v other w is = seat_joins k id v other w (with_client v w) (λ
       (λ by u _ not s. record { client = (λ x. absurd (not ((s.client x).0 ∙ sym seat.0))); server = s.server; hand = s.hand }),
     ))
 
-pub hand_comes : (k : Shape) (id : ℕ) (v : View) (other : ℕ) (w : View) → w.is_hand ≡ true → Joins (Holds k) id v other w (with_hand v w) nobody
-hand_comes k id v other w is = seat_joins k id v other w (with_hand v w) (λ a mine theirs.
+pub hand_comes : (k : Shape) (id : ℕ) (v : View) (other : ℕ) (w : View) → w.is_hand ≡ true → Joins (Holds k) id v other w (and_hand v w) nobody
+hand_comes k id v other w is = seat_joins k id v other w (and_hand v w) (λ a mine theirs.
     let seat = theirs.hand is in (
       record a { hand_seat = id },
       refl,

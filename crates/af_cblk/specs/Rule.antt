@@ -147,8 +147,8 @@ abbrev pub hand_alone : View → View
 hand_alone v = record v { is_client = false; is_server = false }
 
 -- the view with one part of another
-abbrev pub with_client : View → View → View
-with_client v w = record v { is_client = true; client = w.client }
+abbrev pub and_client : View → View → View
+and_client v w = record v { is_client = true; client = w.client }
 
-abbrev pub with_hand : View → View → View
-with_hand v w = record v { is_hand = true; hand = w.hand }
+abbrev pub and_hand : View → View → View
+and_hand v w = record v { is_hand = true; hand = w.hand }

@@ -6,7 +6,7 @@ ghost use Rattle.af_base.specs.declared.event.HandEvent.{HandEvent};
 ghost use Rattle.af_base.specs.declared.event.ServerEvent.{ServerEvent};
 ghost use Rattle.af_model.specs.History.{is_lawful, HasHistory};
 ghost use Rattle.af_cblk.specs.Parts.{hand_met};
-ghost use Rattle.af_cblk.specs.Rule.{StartsWith, with_client, client_alone, without_client, with_hand, hand_alone, without_hand};
+ghost use Rattle.af_cblk.specs.Rule.{StartsWith, and_client, client_alone, without_client, and_hand, hand_alone, without_hand};
 ghost use Rattle.af_cblk.specs.Plays.{Meeting, both_met};
 ghost use Rattle.af_cblk.specs.Unshut.{NeitherShut};
 
@@ -30,7 +30,7 @@ impl Block {
         requires to { to.old.table_id ≡ self.now.id }
         requires has { from.old.me.0.is_client ≡ true }
         ensures table { to.new.table_id ≡ self.now.id }
-        ensures both { to.new.me ≡ (with_client to.old.me.0 from.old.me.0, to.old.me.1) }
+        ensures both { to.new.me ≡ (and_client to.old.me.0 from.old.me.0, to.old.me.1) }
         ensures steps { steps.new ≡ steps.old + 2 }
     {
         let moved = self.table.shared.split_seat::<ClientMoves>(from);
@@ -68,7 +68,7 @@ impl Block {
         requires to { to.old.table_id ≡ self.now.id }
         requires has { from.old.me.0.is_hand ≡ true }
         ensures table { to.new.table_id ≡ self.now.id }
-        ensures both { to.new.me ≡ (with_hand to.old.me.0 from.old.me.0, to.old.me.1) }
+        ensures both { to.new.me ≡ (and_hand to.old.me.0 from.old.me.0, to.old.me.1) }
         ensures steps { steps.new ≡ steps.old + 2 }
     {
         let moved = self.table.shared.split_seat::<HandMoves>(from);

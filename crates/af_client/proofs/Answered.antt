@@ -3,7 +3,7 @@ use Rattle.std.proofs.Common.{◌≡◌, ℕ, ◌-◌, ◌%◌, ◌<◌, ◌≤�
 use Rattle.af_base.specs.declared.event.ClientCall.TheVariants as call
 use Rattle.af_model.specs.Room.{ahead}
 use Rattle.af_cblk.specs.Shape.{IsShape}
-use Rattle.af_client.specs.Order.{ClientState, IsInOrder, kept_of}
+use Rattle.af_client.specs.Order.{ClientState, IsInOrder, client_kept_of}
 use Rattle.af_client.specs.Calls.{Answers}
 use Rattle.af_client.proofs.Opened.{shut_outside, before_end}
 
@@ -17,7 +17,7 @@ puts_some c asked front count shape a =
     let e = a.2 in
     let some = a.1 in
     let room = a.0.1 in
-    let end : 1 ≤ c.pass.part.shape.cells - (kept_of c.pass.part).position % c.pass.part.shape.cells = before_end c.pass.part.shape (kept_of c.pass.part).position shape in
+    let end : 1 ≤ c.pass.part.shape.cells - (client_kept_of c.pass.part).position % c.pass.part.shape.cells = before_end c.pass.part.shape (client_kept_of c.pass.part).position shape in
     omega arith
 
 -- the words of a corrupt answer, which shut the proxy, do not fit the block

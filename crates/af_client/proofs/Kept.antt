@@ -17,7 +17,7 @@ use Rattle.af_base.specs.declared.event.ServerEvent.{ServerEvent}
 use Rattle.af_cblk.specs.Rule.{new_client}
 use Rattle.af_cblk.specs.Sides.{ClientSide}
 use Rattle.af_cblk.proofs.Passes.{flushes-append}
-use Rattle.af_client.specs.Order.{ClientState, Keeps, kept_of, IsInOrder}
+use Rattle.af_client.specs.Order.{ClientState, Keeps, client_kept_of, IsInOrder}
 use Rattle.af_client.specs.Calls.{Answers}
 
 -- what is lawful began so
@@ -48,7 +48,7 @@ pub goes_on : (c d : ClientState) (asked : ℕ) (answer : ClientCall) (more : Li
     → client_events_of c.pass.part.shape.frames c.pass.part.shape.base c.pass.part.events answer ≡ more
     → d.pass.part.shape ≡ c.pass.part.shape
     → d.pass.part.events ≡ c.pass.part.events ++ more
-    → fold (client_keeps c.pass.part.shape.frames) (kept_of c.pass.part) more ≡ kept
+    → fold (client_keeps c.pass.part.shape.frames) (client_kept_of c.pass.part) more ≡ kept
     → kept.position ≡ released d.pass.part
     → d.rear ≡ wrapped (released d.pass.part)
     → d.flushes ≡ c.flushes + flushes_of more
@@ -74,13 +74,13 @@ goes_on c d asked answer more kept k a spelled same events gives position rear_i
 -- a call with one event that changes no kept value but the flush count
 pub did_keeps : (c d : ClientState) (asked : ℕ) (answer : ClientCall) (e : ClientEvent) → IsInOrder c → Answers c asked answer
     → client_events_of c.pass.part.shape.frames c.pass.part.shape.base c.pass.part.events answer ≡ e ∷ []
-    → client_keeps c.pass.part.shape.frames (kept_of c.pass.part) e ≡ kept_of c.pass.part
+    → client_keeps c.pass.part.shape.frames (client_kept_of c.pass.part) e ≡ client_kept_of c.pass.part
     → d.pass.part ≡ client_did c.pass.part e
     → (d.rear ≡ c.rear) × (d.flushes ≡ c.flushes + flush_in e) × (d.released ≡ c.released) × (d.shut ≡ c.shut)
     → IsInOrder d
 did_keeps c d asked answer e k a spelled same is counts =
     let here : released d.pass.part ≡ released c.pass.part = ap released is in
-    goes_on c d asked answer (e ∷ []) (kept_of c.pass.part) k a spelled (ap (λ (x : ClientPart). x.shape) is) (ap (λ (x : ClientPart). x.events) is) same
+    goes_on c d asked answer (e ∷ []) (client_kept_of c.pass.part) k a spelled (ap (λ (x : ClientPart). x.shape) is) (ap (λ (x : ClientPart). x.events) is) same
     (k.position_is ∙ sym here)
     (counts.0 ∙ k.rear_is ∙ ap wrapped (sym here))
     (let m : flush_in e + 0 ≡ flush_in e = omega arith in counts.1 ∙ ap (λ (z : ℕ). c.flushes + z) (sym m))
@@ -91,7 +91,7 @@ did_keeps c d asked answer e k a spelled same is counts =
 -- a call with one event, on a value that was opened
 pub word_keeps : (c i : ClientState) (pass : ClientSide) (answer : ClientCall) (e : ClientEvent) → IsInOrder c → Answers c 0 answer
     → client_events_of c.pass.part.shape.frames c.pass.part.shape.base c.pass.part.events answer ≡ e ∷ []
-    → client_keeps c.pass.part.shape.frames (kept_of c.pass.part) e ≡ kept_of c.pass.part
+    → client_keeps c.pass.part.shape.frames (client_kept_of c.pass.part) e ≡ client_kept_of c.pass.part
     → i ≡ c
     → pass.part ≡ client_did i.pass.part e
     → Keeps pass.part i.rear (i.flushes + flush_in e) i.released i.shut
@@ -103,7 +103,7 @@ word_keeps c i pass answer e k a spelled same opened did =
 -- the same, where it is no flush
 pub quiet_keeps : (c i : ClientState) (pass : ClientSide) (answer : ClientCall) (e : ClientEvent) → IsInOrder c → Answers c 0 answer
     → client_events_of c.pass.part.shape.frames c.pass.part.shape.base c.pass.part.events answer ≡ e ∷ []
-    → client_keeps c.pass.part.shape.frames (kept_of c.pass.part) e ≡ kept_of c.pass.part
+    → client_keeps c.pass.part.shape.frames (client_kept_of c.pass.part) e ≡ client_kept_of c.pass.part
     → flush_in e ≡ 0
     → i ≡ c
     → pass.part ≡ client_did i.pass.part e
@@ -121,7 +121,7 @@ same_keeps c d k part counts shut =
 pub met_keeps : (p q : ClientPart) (rear flushes count : ℕ) (shut : Option (ℕ × ℕ)) (theirs : List ServerEvent) → Keeps p rear flushes count shut → q ≡ client_met p theirs → Keeps q rear flushes count shut
 met_keeps p q rear flushes count shut theirs k is =
     let learnt : List ClientEvent = client.Learn (length theirs) ∷ [] in
-    let now : client_kept p.shape.frames p.shape.base (p.events ++ learnt) ≡ kept_of p = kept-more p.shape.frames p.shape.base p.events learnt in
+    let now : client_kept p.shape.frames p.shape.base (p.events ++ learnt) ≡ client_kept_of p = kept-more p.shape.frames p.shape.base p.events learnt in
     subst (λ (x : ClientPart). Keeps x rear flushes count shut) (sym is) (
     record {
       spelled = meets p.events (length theirs) k.spelled;

@@ -18,7 +18,7 @@ use Rattle.af_cblk.specs.Parts.{released, filled, recorded, run_of, rear_stored}
 use Rattle.af_cblk.proofs.Sized.{sized}
 use Rattle.af_cblk.proofs.Numbers.{same_cell, past}
 use Rattle.af_client.specs.declared.put.Opened.TheVariants as opened
-use Rattle.af_client.specs.Order.{ClientState, kept_of, IsInOrder}
+use Rattle.af_client.specs.Order.{ClientState, client_kept_of, IsInOrder}
 use Rattle.af_client.specs.Calls.{Answers, Opens, saw_both, PutOn, Stored, SameBut}
 use Rattle.af_client.proofs.Kept.{goes_on, did_keeps, same_keeps}
 use Rattle.af_client.proofs.Stores.{run_is}
@@ -52,7 +52,7 @@ dead_keeps c d asked flags answer k a spelled opens counts =
 looked : (c : ClientState) (d : ClientPart) (front : ℕ) → d ≡ saw_both c.pass.part front → d.events ≡ c.pass.part.events ++ client.SawFlags 0 ∷ client.SawFront front ∷ []
 looked c d front is = ap (λ (x : ClientPart). x.events) is ∙ append_assoc c.pass.part.events (client.SawFlags 0 ∷ []) (client.SawFront front ∷ [])
 
-filled_is : (c : ClientState) (d : ClientPart) (front : ℕ) → IsInOrder c → d ≡ saw_both c.pass.part front → filled d ≡ ahead front (wrapped (kept_of c.pass.part).position)
+filled_is : (c : ClientState) (d : ClientPart) (front : ℕ) → IsInOrder c → d ≡ saw_both c.pass.part front → filled d ≡ ahead front (wrapped (client_kept_of c.pass.part).position)
 filled_is c d front k is = ap filled is ∙ ap (λ (z : ℕ). ahead front (wrapped z)) (sym k.position_is)
 
 pub full_keeps : (c d : ClientState) (asked front room : ℕ) (answer : ClientCall) → IsInOrder c → Answers c asked answer
@@ -63,14 +63,14 @@ full_keeps c d asked front room answer k a spelled opens counts =
     let p : ClientPart = c.pass.part in
     let is : d.pass.part ≡ saw_both p front = opens.1 in
     let here : released d.pass.part ≡ released p = ap released is in
-    let within : ahead front (wrapped (kept_of p).position) ≤ p.shape.frames = (let e = filled_is c d.pass.part front k is in let r = opens.2 in omega arith) in
-    goes_on c d asked answer (client.SawFlags 0 ∷ client.SawFront front ∷ []) (record (kept_of p) { shut = outside p.shape.frames front (wrapped (kept_of p).position) }) k a spelled
+    let within : ahead front (wrapped (client_kept_of p).position) ≤ p.shape.frames = (let e = filled_is c d.pass.part front k is in let r = opens.2 in omega arith) in
+    goes_on c d asked answer (client.SawFlags 0 ∷ client.SawFront front ∷ []) (record (client_kept_of p) { shut = outside p.shape.frames front (wrapped (client_kept_of p).position) }) k a spelled
     (ap (λ (x : ClientPart). x.shape) is) (looked c d.pass.part front is) refl
     (k.position_is ∙ sym here)
     (counts.0 ∙ k.rear_is ∙ ap wrapped (sym here))
     (counts.1 ∙ none_more c.flushes)
     (counts.2 ∙ k.released_is ∙ ap (λ (x : ClientPart). length x.frames) (sym is))
-    (opens.3 ∙ sym (outside-none p.shape.frames front (wrapped (kept_of p).position) within))
+    (opens.3 ∙ sym (outside-none p.shape.frames front (wrapped (client_kept_of p).position) within))
     (λ ok. opens.3)
 
 -- the room was seen, and frames were put into it
@@ -87,23 +87,23 @@ pub put_keeps : (c m d : ClientState) (asked front room count : ℕ) (words : Li
 put_keeps c m d asked front room count words answer k a spelled opens counts put size rear_is released_is rest =
     let p : ClientPart = c.pass.part in
     let is : m.pass.part ≡ saw_both p front = opens.1 in
-    let within : ahead front (wrapped (kept_of p).position) ≤ p.shape.frames = (let e = filled_is c m.pass.part front k is in let r = opens.2 in omega arith) in
+    let within : ahead front (wrapped (client_kept_of p).position) ≤ p.shape.frames = (let e = filled_is c m.pass.part front k is in let r = opens.2 in omega arith) in
     let frames : d.pass.part.frames ≡ p.frames ++ words = ap (λ (x : ClientPart). x.frames) put ∙ ap (λ (x : ClientPart). x.frames ++ words) is in
     let many : length d.pass.part.frames ≡ length p.frames + count = ap length frames ∙ length-append p.frames words ∙ ap (λ (n : ℕ). length p.frames + n) size in
     let base : d.pass.part.shape ≡ p.shape = ap (λ (x : ClientPart). x.shape) put ∙ ap (λ (x : ClientPart). x.shape) is in
     let base_is : d.pass.part.shape.base ≡ p.shape.base = ap (λ (x : Shape). x.base) base in
-    let position : (kept_of p).position ≡ p.shape.base + length p.frames = k.position_is in
+    let position : (client_kept_of p).position ≡ p.shape.base + length p.frames = k.position_is in
     let events : d.pass.part.events ≡ p.events ++ client.SawFlags 0 ∷ client.SawFront front ∷ client.Release count ∷ [] =
     ap (λ (x : ClientPart). x.events) put ∙ ap (λ (l : List ClientEvent). l ++ client.Release count ∷ []) (looked c m.pass.part front is)
     ∙ append_assoc p.events (client.SawFlags 0 ∷ client.SawFront front ∷ []) (client.Release count ∷ []) in
     goes_on c d asked answer (client.SawFlags 0 ∷ client.SawFront front ∷ client.Release count ∷ [])
-    (record { position = (kept_of p).position + count; shut = outside p.shape.frames front (wrapped (kept_of p).position) }) k a spelled
+    (record { position = (client_kept_of p).position + count; shut = outside p.shape.frames front (wrapped (client_kept_of p).position) }) k a spelled
     base events refl
-    (let e : (kept_of p).position + count ≡ d.pass.part.shape.base + length d.pass.part.frames = omega arith in e)
+    (let e : (client_kept_of p).position + count ≡ d.pass.part.shape.base + length d.pass.part.frames = omega arith in e)
     rear_is
     (rest.0 ∙ counts.1 ∙ none_more c.flushes)
     (let e : d.released ≡ m.released + count = released_is in let f : m.released ≡ c.released = counts.2 in let h : c.released ≡ length p.frames = k.released_is in omega arith)
-    (rest.1 ∙ opens.3 ∙ sym (outside-none p.shape.frames front (wrapped (kept_of p).position) within))
+    (rest.1 ∙ opens.3 ∙ sym (outside-none p.shape.frames front (wrapped (client_kept_of p).position) within))
     (λ ok. rest.1 ∙ opens.3)
 
 -- what a call's events are, by whether the proxy was shut
@@ -111,7 +111,7 @@ abbrev pub LooksUnless : Bool → ℕ → List ClientEvent
 LooksUnless was_shut front = if was_shut then [] else client.SawFlags 0 ∷ client.SawFront front ∷ []
 
 pub corrupt_keeps : (c d : ClientState) (asked front back : ℕ) (answer : ClientCall) → IsInOrder c → Answers c asked answer
-    → client_events_of c.pass.part.shape.frames c.pass.part.shape.base c.pass.part.events answer ≡ LooksUnless (is_some (kept_of c.pass.part).shut) front
+    → client_events_of c.pass.part.shape.frames c.pass.part.shape.base c.pass.part.events answer ≡ LooksUnless (is_some (client_kept_of c.pass.part).shut) front
     → Opens c.pass.part c.rear c.shut (opened.Corrupt front back) d.pass.part d.shut
     → SameCounts c d → IsInOrder d
 corrupt_keeps c d asked front back answer k a spelled opens counts = by c.shut refl opens.1
@@ -125,16 +125,16 @@ corrupt_keeps c d asked front back answer k a spelled opens counts = by c.shut r
     by None none h =
         let is : d.pass.part ≡ saw_both p front = h.0 in
         let here : released d.pass.part ≡ released p = ap released is in
-        let beyond : p.shape.frames < ahead front (wrapped (kept_of p).position) = (let e = filled_is c d.pass.part front k is in let r = h.2 in omega arith) in
-        let back_is : back ≡ wrapped (kept_of p).position = h.1 ∙ k.rear_is ∙ ap wrapped (sym k.position_is) in
-        goes_on c d asked answer (client.SawFlags 0 ∷ client.SawFront front ∷ []) (record (kept_of p) { shut = outside p.shape.frames front (wrapped (kept_of p).position) }) k a
+        let beyond : p.shape.frames < ahead front (wrapped (client_kept_of p).position) = (let e = filled_is c d.pass.part front k is in let r = h.2 in omega arith) in
+        let back_is : back ≡ wrapped (client_kept_of p).position = h.1 ∙ k.rear_is ∙ ap wrapped (sym k.position_is) in
+        goes_on c d asked answer (client.SawFlags 0 ∷ client.SawFront front ∷ []) (record (client_kept_of p) { shut = outside p.shape.frames front (wrapped (client_kept_of p).position) }) k a
         (spelled ∙ ap (λ (o : Option (ℕ × ℕ)). LooksUnless (is_some o) front) (sym k.shut_is ∙ sym none))
         (ap (λ (x : ClientPart). x.shape) is) (looked c d.pass.part front is) refl
         (k.position_is ∙ sym here)
         (counts.0 ∙ k.rear_is ∙ ap wrapped (sym here))
         (counts.1 ∙ none_more c.flushes)
         (counts.2 ∙ k.released_is ∙ ap (λ (x : ClientPart). length x.frames) (sym is))
-        (opens.0 ∙ ap (λ (z : ℕ). Some (front, z)) back_is ∙ sym (outside-some p.shape.frames front (wrapped (kept_of p).position) beyond))
+        (opens.0 ∙ ap (λ (z : ℕ). Some (front, z)) back_is ∙ sym (outside-some p.shape.frames front (wrapped (client_kept_of p).position) beyond))
         (λ ok. absurd (h.3 ok))
     by (Some words) some h = same_keeps c d k h.1 counts (opens.0 ∙ ap Some (sym h.0) ∙ some)
 

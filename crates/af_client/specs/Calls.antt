@@ -11,7 +11,7 @@ use Rattle.af_client.specs.declared.put.Opened.{Opened}
 use Rattle.af_client.specs.declared.put.Opened.TheVariants as opened
 use Rattle.af_client.specs.declared.write.Wrote.{Wrote}
 use Rattle.af_client.specs.declared.write.Wrote.TheVariants as wrote
-use Rattle.af_client.specs.Order.{ClientState, kept_of}
+use Rattle.af_client.specs.Order.{ClientState, client_kept_of}
 use Rattle.std.specs.Prelude.{slice_index}
 
 -- ## What holds of every call
@@ -53,7 +53,7 @@ shut_by _ = None
 
 -- what a put leaves of the room
 abbrev pub Leaves : ClientState → Wrote → Type 0
-Leaves c (wrote.Put front count rest) = filled_by (kept_of c.pass.part) front + count + rest ≡ c.pass.part.shape.frames
+Leaves c (wrote.Put front count rest) = filled_by (client_kept_of c.pass.part) front + count + rest ≡ c.pass.part.shape.frames
 Leaves c _ = Unit {0}
 
 -- a put steps once for the flags, for front, for each cell and for rear

@@ -16,17 +16,17 @@ pub record ClientState : Type 0 where
   pub shut : Option (ℕ × ℕ)
 
 -- what the list of a client's events tells
-abbrev pub kept_of : ClientPart → ClientKept
-kept_of p = client_kept p.shape.frames p.shape.base p.events
+abbrev pub client_kept_of : ClientPart → ClientKept
+client_kept_of p = client_kept p.shape.frames p.shape.base p.events
 
 -- The list of events is spelled by calls, and the kept values are those that it gives. A client that has not poked isn't shut
 pub record Keeps (p : ClientPart) (rear flushes count : ℕ) (shut : Option (ℕ × ℕ)) : Type 0 where
   pub spelled : IsClientList p.shape.frames p.shape.cells p.shape.base p.events
-  pub position_is : (kept_of p).position ≡ released p
+  pub position_is : (client_kept_of p).position ≡ released p
   pub rear_is : rear ≡ wrapped (released p)
   pub flushes_are : flushes ≡ flushes_of p.events
   pub released_is : count ≡ length p.frames
-  pub shut_is : shut ≡ (kept_of p).shut
+  pub shut_is : shut ≡ (client_kept_of p).shut
   pub lawful_open : is_lawful p.events ≡ true → shut ≡ None
 
 -- what its maker establishes, and each call and each meeting keeps

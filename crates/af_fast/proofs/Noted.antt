@@ -12,7 +12,7 @@ use Rattle.af_model.specs.declared.newest.WriterEvent.{WriterEvent}
 use Rattle.af_model.specs.declared.newest.WriterEvent.TheVariants.{Store}
 use Rattle.af_model.specs.declared.newest.WriterEvent.TheVariants as writes
 use Rattle.af_model.specs.Cycles.{state_of, last_used, has_exit, is_exit, is_cold, cold_of, cold_done, UseUpTo}
-use Rattle.af_model.specs.Reports.{Known, no_slot, no_report, report_at, one_if, is_full, is_partial, is_empty, counted_look, carried, slot_report}
+use Rattle.af_model.specs.Reports.{ServerKnown, no_slot, no_report, report_at, one_if, is_full, is_partial, is_empty, counted_look, carried, slot_report}
 use Rattle.af_model.specs.StateQueue.{carries, slot_of}
 use Rattle.af_model.proofs.UsedStates.{last_used-push, has_exit-push, cold_done-push, UseUpTo-push, UseUpTo-more}
 use Rattle.af_latest.specs.Laws.{last_of, stores}
@@ -44,7 +44,7 @@ one_few false = omega arith
 abbrev IsFew : ℕ → SlotReport → Type 0
 IsFew bound r = (r.fulls < bound) × (r.partials < bound) × (r.empties < bound)
 
-look_few : (asked generation bound : ℕ) (answer : Seen) (k : Known) (r : SlotReport) → IsFew bound r → IsFew (bound + 1) (counted_look asked generation answer k r)
+look_few : (asked generation bound : ℕ) (answer : Seen) (k : ServerKnown) (r : SlotReport) → IsFew bound r → IsFew (bound + 1) (counted_look asked generation answer k r)
 look_few asked generation bound answer k r few = (omega (arith, few, one_few (is_full asked answer)), omega (arith, few, one_few (is_partial asked answer)), omega (arith, few, one_few (is_empty answer)))
 
 base_few : (b : Bool) (bound : ℕ) (r : SlotReport) → 0 < bound → IsFew bound r → IsFew bound (if b then r else no_slot)
@@ -54,11 +54,11 @@ base_few false bound r some few = (some, some, some)
 more_few : (bound : ℕ) (r : SlotReport) → IsFew bound r → IsFew (bound + 1) r
 more_few bound r few = (omega (arith, few), omega (arith, few), omega (arith, few))
 
-by_carried : (b : Bool) (asked generation bound : ℕ) (answer : Seen) (k : Known) (r base : SlotReport) → IsFew bound r → IsFew bound base → IsFew (bound + 1) (if b then counted_look asked generation answer k base else r)
+by_carried : (b : Bool) (asked generation bound : ℕ) (answer : Seen) (k : ServerKnown) (r base : SlotReport) → IsFew bound r → IsFew bound base → IsFew (bound + 1) (if b then counted_look asked generation answer k base else r)
 by_carried true asked generation bound answer k r base few few_base = look_few asked generation bound answer k base few_base
 by_carried false asked generation bound answer k r base few few_base = more_few bound r few
 
-slot_few : (asked bound : ℕ) (x y : Option FastState) (entry : CycleEntry) (k : Known) (i : ℕ) (r : SlotReport) → 0 < bound → IsFew bound r → IsFew (bound + 1) (slot_report asked x y entry k i r)
+slot_few : (asked bound : ℕ) (x y : Option FastState) (entry : CycleEntry) (k : ServerKnown) (i : ℕ) (r : SlotReport) → 0 < bound → IsFew bound r → IsFew (bound + 1) (slot_report asked x y entry k i r)
 slot_few asked bound None y entry k i r some few = more_few bound r few
 slot_few asked bound (Some x) y entry k i r some few =
     by_carried (carries x i) asked (slot_of x i).generation bound (entry_slot entry i).seen k r (if carried y i then r else no_slot) few (base_few (carried y i) bound r some few)

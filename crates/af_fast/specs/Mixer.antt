@@ -44,7 +44,7 @@ abbrev pub is_over : MixerState → Bool
 is_over m = m.exited || (length m.log.entries == m.cycles)
 
 -- the sizes that it was made with, and room for all entries and frames that are still to come
-pub record HasRoom (frames cycles : ℕ) (log : Logged) : Type 0 where
+pub record LogHasRoom (frames cycles : ℕ) (log : Logged) : Type 0 where
   pub sized : (1 ≤ frames) × (frames ≤ 2 ^ 21) × (cycles ≤ 100000)
   pub entries : (length log.entries ≤ cycles) × (log.room ≡ cycles)
   pub rest : length log.frames + slots * ((cycles - length log.entries) * frames) ≤ log.frame_room
@@ -84,7 +84,7 @@ CarriesNone x = (i : ℕ) → i < slots → carries x i ≡ false
 pub record IsInOrder (m : MixerState) : Type 0 where
   pub observer : InOrder stream_fits m.observer
   pub begins : m.observer.past.number ≡ 0 → CarriesNone m.observer.past.state
-  pub room : HasRoom m.frames m.cycles m.log
+  pub room : LogHasRoom m.frames m.cycles m.log
   pub uses : UsesStates m.observer.past.number m.log.entries m.adopted (is_over m)
   pub keeps : KeepsEntries (adopted_states m) m.log.entries m.exited m.cold m.last
   pub reports : Reported (length m.log.entries) m.writer.events m.reports

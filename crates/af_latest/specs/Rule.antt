@@ -49,7 +49,7 @@ pub record Apart (a b c : ℕ) : Type 0 where
   pub bc : b ≢ c
 
 -- which slots the parties have, what the reader has loaded, and what the last store left
-pub record Known (T : Type 0) : Type 0 where
+pub record KnownCell (T : Type 0) : Type 0 where
   pub w_slot : ℕ
   pub w_out : Bool
   pub r_slot : ℕ
@@ -60,11 +60,11 @@ pub record Known (T : Type 0) : Type 0 where
   pub number : ℕ
   pub value : T
 
-abbrev pub known_by : {T : Type 0} → Writing T → Reading T → CellPoint T → Known T
+abbrev pub known_by : {T : Type 0} → Writing T → Reading T → CellPoint T → KnownCell T
 known_by w r p = record { w_slot = w.slot; w_out = w.out; r_slot = r.slot; r_out = r.out; own = r.value; saw_fresh = r.fresh; loaded = last_number 0 r.events; number = p.number; value = p.value }
 
 -- what lies at home, and whether the value in the middle or the reader's own is the newest
-pub record AreLaid {T : Type 0} (k : Known T) (middle : ℕ) (fresh : Bool) (homes : List (maybe.Option T)) : Type 0 where
+pub record AreLaid {T : Type 0} (k : KnownCell T) (middle : ℕ) (fresh : Bool) (homes : List (maybe.Option T)) : Type 0 where
   pub slots : Apart k.w_slot k.r_slot middle
   pub three : length homes ≡ 3
   pub shown : T

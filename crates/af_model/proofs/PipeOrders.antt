@@ -60,7 +60,7 @@ abbrev point_of : TrackPoint → ℕ → ℕ → PipePoint
 point_of p puts takes = record { put = p.released; taken = p.consumed; shown = p.rear_seen; puts = puts; takes = takes }
 
 -- the front last seen shows frames that were taken, and there is room from these on
-record HasRoom (size : ℕ) (k : PutKept) (p : TrackPoint) : Type 0 where
+record PipeHasRoom (size : ℕ) (k : PutKept) (p : TrackPoint) : Type 0 where
   known : ℕ
   known_is : k.front ≡ wrapped known
   low : known ≤ p.consumed
@@ -71,18 +71,18 @@ record HasRoom (size : ℕ) (k : PutKept) (p : TrackPoint) : Type 0 where
 record Puts (size : ℕ) (k : PutKept) (p : TrackPoint) (puts takes : ℕ) (e : ClientEvent) : Type 0 where
   may : legal size (point_of p puts takes) (one e)
   point_is : next (point_of p puts takes) (one e) ≡ point_of (after_client p e) (puts + 1) takes
-  room : HasRoom size (after_put k e) (after_client p e)
+  room : PipeHasRoom size (after_put k e) (after_client p e)
 
 record Takes (size : ℕ) (k : PutKept) (p : TrackPoint) (puts takes : ℕ) (e : ServerEvent) : Type 0 where
   may : legal size (point_of p puts takes) (two e)
   point_is : next (point_of p puts takes) (two e) ≡ point_of (after_server p e) puts (takes + 1)
-  room : HasRoom size k (after_server p e)
+  room : PipeHasRoom size k (after_server p e)
 
 module _ (size : ℕ) (few : size ≤ 65536) where
   room-between : (put taken : ℕ) → taken ≤ put → put ≤ taken + size → room_by size put (wrapped taken) ≡ size - (put - taken)
   room-between put taken low fits = ap (λ (n : ℕ). size - n) (ahead-between taken put low (omega arith))
 
-  put_step : (k : PutKept) (p : TrackPoint) (puts takes : ℕ) (e : ClientEvent) → ClientMay p takes e → may_put size k e → InTurn 0 p → HasRoom size k p → Puts size k p puts takes e
+  put_step : (k : PutKept) (p : TrackPoint) (puts takes : ℕ) (e : ClientEvent) → ClientMay p takes e → may_put size k e → InTurn 0 p → PipeHasRoom size k p → Puts size k p puts takes e
   put_step k p puts takes (client.Release count) may fits turn r =
       let low : r.known ≤ p.released = (let a = r.low in let b = turn.to_seen in let d = turn.to_released in omega arith) in
       let room : room_by size k.put k.front ≡ size - (p.released - r.known) =
@@ -114,7 +114,7 @@ module _ (size : ℕ) (few : size ≤ 65536) where
   put_step k p puts takes (client.SawStatus word) may fits turn r = absurd fits
   put_step k p puts takes (client.Poke word value) may fits turn r = absurd fits
 
-  take_step : (k : PutKept) (p : TrackPoint) (puts takes : ℕ) (e : ServerEvent) → ServerMay p puts e → is_taking e ≡ true → HasRoom size k p → Takes size k p puts takes e
+  take_step : (k : PutKept) (p : TrackPoint) (puts takes : ℕ) (e : ServerEvent) → ServerMay p puts e → is_taking e ≡ true → PipeHasRoom size k p → Takes size k p puts takes e
   take_step k p puts takes (server.SawRear rear) may is r =
       record {
         may = may;
@@ -141,7 +141,7 @@ module _ (size : ℕ) (few : size ≤ 65536) where
   record Agrees (order : List Moment) : Type 0 where
     is_legal : Legal (legal size) next start (events_of order)
     point_is : after (legal size) next start (events_of order) ≡ point_of (block_after (block_start 0) order) (length (client_of order)) (length (server_of order))
-    room : HasRoom size (put_kept size (client_of order)) (block_after (block_start 0) order)
+    room : PipeHasRoom size (put_kept size (client_of order)) (block_after (block_start 0) order)
 
   agrees : (order : List Moment) → IsLegal (block_start 0) order → hand_of order ≡ [] → IsPutList size (client_of order) → IsTakeList (server_of order) → Agrees order
   agrees [] h none puts takes = record { is_legal = tt; point_is = refl; room = record { known = 0; known_is = refl; low = omega arith; fits = omega arith; put_is = refl } }
@@ -156,7 +156,7 @@ module _ (size : ℕ) (few : size ≤ 65536) where
         is_legal = legal_end (legal size) next start (events_of order) (one e) a.is_legal (subst (λ (q : PipePoint). legal size q (one e)) (sym a.point_is) step.may);
         point_is = after_end (legal size) next start (events_of order) (one e) ∙ ap (λ (q : PipePoint). next q (one e)) a.point_is ∙ step.point_is
             ∙ ap (λ (c : ℕ). point_of (block_after (block_start 0) (by_client e ∷ order)) c m) count;
-        room = subst (λ (k : PutKept). HasRoom size k (block_after (block_start 0) (by_client e ∷ order))) (sym (after_end (may_put size) after_put nothing_put (client_of order) e)) step.room;
+        room = subst (λ (k : PutKept). PipeHasRoom size k (block_after (block_start 0) (by_client e ∷ order))) (sym (after_end (may_put size) after_put nothing_put (client_of order) e)) step.room;
       }
   agrees (by_server e ∷ order) h none puts takes =
       let whole : (list_all is_taking (server_of order) && list_all is_taking (e ∷ [])) ≡ true = sym (list_all-append is_taking (server_of order) (e ∷ [])) ∙ takes in

@@ -78,7 +78,7 @@ module _ (frames : ℕ) where
   abbrev pub SeenIn : Option ℕ → ℕ → ℕ → Type 0
   SeenIn o consumed released = MatchOption o (Unit {0}) (λ front. (known : ℕ) × (wrapped known ≡ front) × (known ≤ consumed) × (released ≤ known + frames))
 
-  pub record HasRoom (k : ClientKept) (o : Option ℕ) (p : TrackPoint) : Type 0 where
+  pub record FrontHasRoom (k : ClientKept) (o : Option ℕ) (p : TrackPoint) : Type 0 where
     pub position_is : k.position ≡ p.released
     pub unshut : k.shut ≡ None
     pub fits : p.released ≤ p.consumed + frames
@@ -108,7 +108,7 @@ module _ (frames : ℕ) where
         (seen.0, seen.1, (let a = seen.2 in omega arith), (let a = seen.3 in omega arith))
 
     -- the same room, where the client releases nothing and sees no front
-    stays : (k : ClientKept) (o : Option ℕ) (p q : TrackPoint) → q.released ≡ p.released → p.consumed ≤ q.consumed → HasRoom k o p → HasRoom k o q
+    stays : (k : ClientKept) (o : Option ℕ) (p q : TrackPoint) → q.released ≡ p.released → p.consumed ≤ q.consumed → FrontHasRoom k o p → FrontHasRoom k o q
     stays k o p q same grows r =
         record {
           position_is = r.position_is ∙ sym same;
@@ -117,7 +117,7 @@ module _ (frames : ℕ) where
           seen = seen_later o p.consumed q.consumed p.released q.released grows same r.seen;
         }
 
-    closed : (k : ClientKept) (o : Option ℕ) (p q : TrackPoint) → q.released ≡ p.released → p.consumed ≤ q.consumed → HasRoom k o p → HasRoom k None q
+    closed : (k : ClientKept) (o : Option ℕ) (p q : TrackPoint) → q.released ≡ p.released → p.consumed ≤ q.consumed → FrontHasRoom k o p → FrontHasRoom k None q
     closed k o p q same grows r =
         record {
           position_is = r.position_is ∙ sym same;
@@ -126,8 +126,8 @@ module _ (frames : ℕ) where
           seen = tt;
         }
 
-    client_room : (k : ClientKept) (o : Option ℕ) (p : TrackPoint) (others : ℕ) (e : ClientEvent) → ClientMay p others e → FitsRoom k o e → InTurn base p → HasRoom k o p
-        → HasRoom (client_keeps frames k e) (open_after o e) (after_client p e)
+    client_room : (k : ClientKept) (o : Option ℕ) (p : TrackPoint) (others : ℕ) (e : ClientEvent) → ClientMay p others e → FitsRoom k o e → InTurn base p → FrontHasRoom k o p
+        → FrontHasRoom (client_keeps frames k e) (open_after o e) (after_client p e)
     client_room k o p others (client.Release count) may fit turn r =
         let low : p.consumed ≤ p.released = (let a = turn.to_seen in let b = turn.to_released in omega arith) in
         let fit' : ahead fit.0 (wrapped p.released) + count ≤ frames = subst (λ (z : ℕ). ahead fit.0 (wrapped z) + count ≤ frames) r.position_is fit.2 in
@@ -171,12 +171,12 @@ module _ (frames : ℕ) where
     hand_keeps p (hand.Met count) = (refl, omega arith)
 
     pub room_in : (order : List Moment) → IsLegal (start base) order → AllFit (client_begins base) None (client_of order)
-        → HasRoom (client_kept frames base (client_of order)) (fold open_after None (client_of order)) (after (start base) order)
+        → FrontHasRoom (client_kept frames base (client_of order)) (fold open_after None (client_of order)) (after (start base) order)
     room_in [] h fit = record { position_is = refl; unshut = refl; fits = omega arith; seen = tt }
     room_in (by_client e ∷ order) h fit =
         let f = fit_split (client_begins base) None (client_of order) (e ∷ []) fit in
         let now = client_room _ _ _ _ e h.0 f.1.0 (in_turn base order h.1) (room_in order h.1 f.0) in
-        subst (λ (x : ClientKept × Option ℕ). HasRoom x.0 x.1 (after (start base) (by_client e ∷ order)))
+        subst (λ (x : ClientKept × Option ℕ). FrontHasRoom x.0 x.1 (after (start base) (by_client e ∷ order)))
         (λ i. (sym (fold-append (client_keeps frames) (client_begins base) (client_of order) (e ∷ [])) i, sym (fold-append open_after None (client_of order) (e ∷ [])) i)) now
     room_in (by_server e ∷ order) h fit =
         let g = server_grows (after (start base) order) _ e h.0 (in_turn base order h.1) in

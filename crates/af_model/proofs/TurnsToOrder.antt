@@ -56,7 +56,7 @@ hand_may clients met at (hand.SetFlags bits) m a = m
 hand_may clients met at (hand.Met known) m a = (m, a known refl)
 
 -- an order of what has stood at a stage
-record Stands (l : Lists) (p : TrackPoint) (m : Stage) : Type 0 where
+record HasReached (l : Lists) (p : TrackPoint) (m : Stage) : Type 0 where
   pub order : List Moment
   pub legal : IsLegal p order
   pub point : after p order ≡ m.point
@@ -84,10 +84,10 @@ client_moved e p q n k a b may = subst (λ p. ClientMay p n e) (sym a) (subst (�
 server_moved : (e : ServerEvent) (p q : TrackPoint) (n k : ℕ) → p ≡ q → n ≡ k → ServerMay q k e → ServerMay p n e
 server_moved e p q n k a b may = subst (λ p. ServerMay p n e) (sym a) (subst (λ n. ServerMay q n e) (sym b) may)
 
-stood : (l : Lists) (p : TrackPoint) (m : Stage) (s : Stands l p m) → (length (client_of s.order) ≡ m.clients) × (length (server_of s.order) ≡ m.servers)
+stood : (l : Lists) (p : TrackPoint) (m : Stage) (s : HasReached l p m) → (length (client_of s.order) ≡ m.clients) × (length (server_of s.order) ≡ m.servers)
 stood l p m s = (ap length s.client ∙ length_take m.clients l.client s.clients, ap length s.server ∙ length_take m.servers l.server s.servers)
 
-stands : (l : Lists) (p : TrackPoint) (w : Who) (m n : Stage) → Stands l p m → move l w m ≡ Some n → Stands l p n
+stands : (l : Lists) (p : TrackPoint) (w : Who) (m n : Stage) → HasReached l p m → move l w m ≡ Some n → HasReached l p n
 stands l p Client m n s e =
     option_and_then_some (λ e. option_and_then (λ q. kept l.hand (with_client m q)) (client_step m.point m.servers e)) (slice_get l.client m.clients) n e
     (λ v at f. option_and_then_some (λ q. kept l.hand (with_client m q)) (client_step m.point m.servers v) n f
@@ -96,7 +96,7 @@ stands l p Client m n s e =
     let here = cond_some _ _ _ is in
     let in_range : m.clients < length l.client = slice_get_within l.client m.clients v at in
     let may : ClientMay m.point m.servers v = client_may-legal m.point m.servers v here.0 in
-    subst (Stands l p) was.1 (record {
+    subst (HasReached l p) was.1 (record {
       order = by_client v ∷ s.order;
       legal = (client_moved v _ _ _ _ s.point (stood l p m s).1 may, s.legal);
       point = ap (λ x. after_client x v) s.point ∙ here.1;
@@ -116,7 +116,7 @@ stands l p Server m n s e =
     let here = cond_some _ _ _ is in
     let in_range : m.servers < length l.server = slice_get_within l.server m.servers v at in
     let may : ServerMay m.point m.clients v = server_may-legal m.point m.clients v here.0 in
-    subst (Stands l p) (same_Some _ _ g) (record {
+    subst (HasReached l p) (same_Some _ _ g) (record {
       order = by_server v ∷ s.order;
       legal = (server_moved v _ _ _ _ s.point (stood l p m s).0 may, s.legal);
       point = ap (λ x. after_server x v) s.point ∙ here.1;
@@ -143,7 +143,7 @@ stands l p Hand m n s e =
     let all : length (client_of s.order) ≡ m.clients = (stood l p m s).0 in
     let met : met_in s.order ≤ length (client_of s.order) = met-known s.order _ (subst (λ i. knows_no_more (hand_of s.order) i ≡ true) (sym all) knows) in
     let past : names_at_least m.clients (drop (m.hands + 1) l.hand) ≡ true = names-past l.hand 0 m.clients m.hands (m.hands + 1) (omega arith) s.kept in
-    subst (Stands l p) was.1 (record {
+    subst (HasReached l p) was.1 (record {
       order = by_hand v ∷ s.order;
       legal = (
         hand_may _ (met_in s.order) (clients_at s.order) v met
@@ -161,13 +161,13 @@ stands l p Hand m n s e =
       names = subst (λ i. names_at_least i (drop (m.hands + 1) l.hand) ≡ true) (sym all) past;
     }))
 
-stands-walk : (l : Lists) (p : TrackPoint) (ws : List Who) (m n : Stage) → Stands l p m → walk (move l) ws m ≡ Some n → Stands l p n
-stands-walk l p [] m n s e = subst (Stands l p) (same_Some _ _ e) s
+stands-walk : (l : Lists) (p : TrackPoint) (ws : List Who) (m n : Stage) → HasReached l p m → walk (move l) ws m ≡ Some n → HasReached l p n
+stands-walk l p [] m n s e = subst (HasReached l p) (same_Some _ _ e) s
 stands-walk l p (w ∷ ws) m n s e =
     option_and_then_some (walk (move l) ws) (move l w m) n e
     (λ x is rest. stands-walk l p ws x n (stands l p w m x s is) rest)
 
-begins : (l : Lists) (p : TrackPoint) → Stands l p (begin p)
+begins : (l : Lists) (p : TrackPoint) → HasReached l p (begin p)
 begins l p = record {
   order = [];
   legal = tt;

@@ -148,7 +148,7 @@ is_mono x i = carries x i && (slot_of x i).mono
 -- the marks of the first slots: bit i is set where slot i is mono
 abbrev pub mono_marks : FastState → ℕ → ℕ
 mono_marks x zero = 0
-mono_marks x (suc i) = if is_mono x i then bit_or (mono_marks x i) (2 ^ i) else mono_marks x i
+mono_marks x (suc i) = bit_or (mono_marks x i) (if is_mono x i then 2 ^ i else 0)
 
 -- the scale of a slot in the mix: that of its track, unity for the submix, and 0 for a slot that isn't of the mask
 abbrev pub mix_scale : FastState → ℕ → ℕ

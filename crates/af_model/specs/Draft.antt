@@ -24,9 +24,9 @@ attached slot mono scale track x = record x { slots = slice_set x.slots slot (re
 abbrev pub detached : ℕ → FastState → FastState
 detached slot x = record x { mask = bit_and x.mask (2 ^ 32 - 1 - 2 ^ slot); tracks_gen = x.tracks_gen + 1 }
 
-abbrev pub is_cold : Command → Bool
-is_cold c = code_of c == code_of ColdIdle
+abbrev pub is_cold_idle : Command → Bool
+is_cold_idle c = code_of c == code_of ColdIdle
 
 -- a command is set: a change to ColdIdle counts
 abbrev pub commanded : Command → FastState → FastState
-commanded c x = record x { command = c; cold_gen = (if is_cold c && not (is_cold x.command) then x.cold_gen + 1 else x.cold_gen) }
+commanded c x = record x { command = c; cold_gen = (if is_cold_idle c && not (is_cold_idle x.command) then x.cold_gen + 1 else x.cold_gen) }

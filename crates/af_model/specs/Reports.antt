@@ -11,7 +11,7 @@ use Rattle.af_model.specs.Cycles.{state_of, last_used}
 use Rattle.af_model.specs.StateQueue.{slot_of, carries}
 
 -- what is known of a server: how many frames it consumed, the flush count that it saw last, and whether it is shut
-pub record Known : Type 0 where
+pub record ServerKnown : Type 0 where
   pub consumed : ℕ
   pub flush_seen : ℕ
   pub shut : Bool
@@ -39,7 +39,7 @@ is_empty seen.Empty = true
 is_empty _ = false
 
 -- a report goes on with one more look at a server of which this is known
-abbrev pub counted_look : ℕ → ℕ → Seen → Known → SlotReport → SlotReport
+abbrev pub counted_look : ℕ → ℕ → Seen → ServerKnown → SlotReport → SlotReport
 counted_look asked generation answer known r = record {
   consumed = known.consumed;
   shut = known.shut;
@@ -56,7 +56,7 @@ carried None i = false
 carried (Some x) i = carries x i
 
 -- the slot i of the report after an entry under the state x, after one under the state y: the counts of an item that is new in x start at 0, and a slot that has no item keeps what it reported last
-abbrev pub slot_report : ℕ → Option FastState → Option FastState → CycleEntry → Known → ℕ → SlotReport → SlotReport
+abbrev pub slot_report : ℕ → Option FastState → Option FastState → CycleEntry → ServerKnown → ℕ → SlotReport → SlotReport
 slot_report asked None y entry known i r = r
 slot_report asked (Some x) y entry known i r =
     if carries x i then counted_look asked (slot_of x i).generation (entry_slot entry i).seen known (if carried y i then r else no_slot)
@@ -70,7 +70,7 @@ abbrev pub report_at : List SlotReport → ℕ → SlotReport
 report_at reports i = slice_index_or reports i no_slot
 
 -- The report after an entry that follows a log, with what is known of the servers after it. Its number is that of the entries
-pub record IsNextReport (asked : ℕ) (states : List FastState) (entries : List CycleEntry) (entry : CycleEntry) (known : ℕ → Known) (before : List SlotReport) (report : Report) : Type 0 where
+pub record IsNextReport (asked : ℕ) (states : List FastState) (entries : List CycleEntry) (entry : CycleEntry) (known : ℕ → ServerKnown) (before : List SlotReport) (report : Report) : Type 0 where
   pub number : report.cycle ≡ length entries + 1
   pub whole : length report.slots ≡ slots
   pub each : (i : ℕ) → i < slots → report_at report.slots i ≡ slot_report asked (state_of states entry.state) (state_of states (last_used entries)) entry (known i) i (report_at before i)

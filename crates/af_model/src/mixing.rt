@@ -34,16 +34,11 @@ fn slot_part<'a>(frames: &'a [Frame], entry: &CycleEntry, slot: usize) -> Part<'
 pub fn parts_of<'a>(frames: &'a [Frame], entry: &CycleEntry) -> [Part<'a>; SLOTS]
     ensures { map take_of result ≡ takes_of frames.now entry.now }
 {
-    [
-        slot_part(frames, entry, 0),
-        slot_part(frames, entry, 1),
-        slot_part(frames, entry, 2),
-        slot_part(frames, entry, 3),
-        slot_part(frames, entry, 4),
-        slot_part(frames, entry, 5),
-        slot_part(frames, entry, 6),
-        slot_part(frames, entry, 7),
-    ]
+    let mut parts = [slot_part(frames, entry, 0); SLOTS];
+    for slot in 1..SLOTS {
+        parts[slot] = slot_part(frames, entry, slot);
+    }
+    parts
 }
 
 // Writes the mix of some parts, frame by frame.

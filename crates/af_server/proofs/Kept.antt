@@ -9,7 +9,7 @@ use Rattle.af_cblk.specs.declared.view.Shape.{Shape}
 use Rattle.af_cblk.specs.Parts.{server_did}
 use Rattle.af_cblk.specs.Rule.{new_server}
 use Rattle.af_cblk.specs.Sides.{ServerSide, ServerIs}
-use Rattle.af_server.specs.Order.{ServerState, Keeps, IsReady, kept_of, counted, IsInOrder}
+use Rattle.af_server.specs.Order.{ServerState, Keeps, IsReady, server_kept_of, counted, IsInOrder}
 
 -- a count that ends at M goes on
 pub fewer : (M a b : ℕ) → min M (min M a + b) ≡ min M (a + b)
@@ -27,7 +27,7 @@ kept-more size base es more = fold-append (server_keeps size) (server_begins bas
 
 -- the list goes on, and gives the kept values of before
 same_values : (s t : ServerPart) (flush front : ℕ) (shown shown' : Option ℕ) (consumed : ℕ) (shut : Option (ℕ × ℕ)) → Keeps s flush front shown consumed shut
-    → kept_of t ≡ kept_of s → (t.flush ≡ s.flush) × (t.noticed ≡ s.noticed) → IsServerList t.shape.frames t.shape.base shown' t.events
+    → server_kept_of t ≡ server_kept_of s → (t.flush ≡ s.flush) × (t.noticed ≡ s.noticed) → IsServerList t.shape.frames t.shape.base shown' t.events
     → MatchOption shown' (Unit {0}) (λ count. IsReady t front count) → Keeps t flush front shown' consumed shut
 same_values s t flush front shown shown' consumed shut k now same list ready =
     record {
@@ -42,12 +42,12 @@ same_values s t flush front shown shown' consumed shut k now same list ready =
 
 -- an event that changes no kept value
 quiet : (s : ServerPart) (flush front : ℕ) (shown : Option ℕ) (consumed : ℕ) (shut : Option (ℕ × ℕ)) (e : ServerEvent) → Keeps s flush front shown consumed shut
-    → server_keeps s.shape.frames (kept_of s) e ≡ kept_of s → IsServerList s.shape.frames s.shape.base None (s.events ++ e ∷ []) → Keeps (server_did s e) flush front None consumed shut
+    → server_keeps s.shape.frames (server_kept_of s) e ≡ server_kept_of s → IsServerList s.shape.frames s.shape.base None (s.events ++ e ∷ []) → Keeps (server_did s e) flush front None consumed shut
 quiet s flush front shown consumed shut e k same list =
     same_values s (server_did s e) flush front shown None consumed shut k (kept-more s.shape.frames s.shape.base s.events (e ∷ []) ∙ same) (refl, refl) list tt
 
 -- a call with one such event, on a value that was opened
-pub word_keeps : (c i : ServerState) (pass : ServerSide) (e : ServerEvent) → IsInOrder c → server_keeps c.pass.part.shape.frames (kept_of c.pass.part) e ≡ kept_of c.pass.part
+pub word_keeps : (c i : ServerState) (pass : ServerSide) (e : ServerEvent) → IsInOrder c → server_keeps c.pass.part.shape.frames (server_kept_of c.pass.part) e ≡ server_kept_of c.pass.part
     → IsServerList c.pass.part.shape.frames c.pass.part.shape.base None (c.pass.part.events ++ e ∷ [])
     → i ≡ c → ServerIs (server_did i.pass.part e) i.pass pass → Keeps pass.part i.flush i.front None i.consumed i.shut
 word_keeps c i pass e k same list opened did =
@@ -63,7 +63,7 @@ tally_keeps c i mid pass missing k some opened first second =
     let t : ServerPart = server_did s (server.Tally missing) in
     let list : IsServerList s.shape.frames s.shape.base None (s.events ++ server.Tally missing ∷ server.SetFlags 1 ∷ []) = tallies s.events c.shown missing k.spelled some in
     let same : (s.events ++ server.Tally missing ∷ []) ++ server.SetFlags 1 ∷ [] ≡ s.events ++ server.Tally missing ∷ server.SetFlags 1 ∷ [] = append_assoc s.events (server.Tally missing ∷ []) (server.SetFlags 1 ∷ []) in
-    let kept : kept_of (server_did t (server.SetFlags 1)) ≡ kept_of s =
+    let kept : server_kept_of (server_did t (server.SetFlags 1)) ≡ server_kept_of s =
     kept-more s.shape.frames s.shape.base (s.events ++ server.Tally missing ∷ []) (server.SetFlags 1 ∷ []) ∙ kept-more s.shape.frames s.shape.base s.events (server.Tally missing ∷ []) in
     let done : Keeps (server_did t (server.SetFlags 1)) c.flush c.front None c.consumed c.shut =
     same_values s (server_did t (server.SetFlags 1)) c.flush c.front c.shown None c.consumed c.shut k kept (refl, refl) (subst (λ (es : List ServerEvent). IsServerList s.shape.frames s.shape.base None es) (sym same) list) tt in
@@ -95,6 +95,6 @@ pub met_keeps : (s t : ServerPart) (flush front : ℕ) (shown : Option ℕ) (con
     → t ≡ server_did s (server.Learn count) → Keeps t flush front shown consumed shut
 met_keeps s t flush front shown consumed shut count k is =
     let u : ServerPart = server_did s (server.Learn count) in
-    let now : kept_of u ≡ kept_of s = kept-more s.shape.frames s.shape.base s.events (server.Learn count ∷ []) in
+    let now : server_kept_of u ≡ server_kept_of s = kept-more s.shape.frames s.shape.base s.events (server.Learn count ∷ []) in
     subst (λ (x : ServerPart). Keeps x flush front shown consumed shut) (sym is)
     (same_values s u flush front shown shown consumed shut k now (refl, refl) (meets s.events shown count k.spelled) (still_ready s front shown (server.Learn count) k.ready))

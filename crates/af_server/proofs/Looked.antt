@@ -9,7 +9,7 @@ use Rattle.af_model.specs.ServerCalls.{ServerKept, server_keeps, server_begins, 
 use Rattle.af_model.proofs.Logic.{LieOutside, server_outside}
 use Rattle.af_cblk.specs.declared.view.ServerPart.{ServerPart}
 use Rattle.af_cblk.specs.Parts.{front_stored, dropped, took, MayStoreFront}
-use Rattle.af_server.specs.Order.{ServerState, Keeps, IsReady, kept_of, counted, IsInOrder}
+use Rattle.af_server.specs.Order.{ServerState, Keeps, IsReady, server_kept_of, counted, IsInOrder}
 use Rattle.af_server.specs.Looks.{shut_of, saw_all}
 use Rattle.af_server.proofs.Kept.{kept-more, fewer}
 
@@ -66,7 +66,7 @@ pub discard_keeps : (c d : ServerState) (asked flush rear front : ℕ) → IsInO
     → d.flush ≡ flush → d.shown ≡ None → d.consumed ≡ counted (c.consumed + ahead front rear) → d.shut ≡ None → IsInOrder d
 discard_keeps c d asked flush rear front k unshut some new part flush_is shown_is consumed_is shut_is =
     let s : ServerPart = c.pass.part in
-    let kept : ServerKept = kept_of s in
+    let kept : ServerKept = server_kept_of s in
     let size : ℕ = s.shape.frames in
     let base : ℕ = s.shape.base in
     let t : ServerPart = saw_all s flush rear front in
@@ -103,7 +103,7 @@ pub judge_keeps : (c d : ServerState) (asked flush rear front : ℕ) → IsInOrd
     → IsInOrder d
 judge_keeps c d asked flush rear front k unshut some same is flush_is front_is shown_is consumed_is shut_is =
     let s : ServerPart = c.pass.part in
-    let kept : ServerKept = kept_of s in
+    let kept : ServerKept = server_kept_of s in
     let size : ℕ = s.shape.frames in
     let base : ℕ = s.shape.base in
     let t : ServerPart = saw_all s flush rear front in

@@ -11,7 +11,7 @@ use Rattle.af_cblk.specs.declared.view.ServerPart.{ServerPart}
 use Rattle.af_cblk.specs.Parts.{front_stored, dropped, took, saw_cell, MayStoreFront}
 use Rattle.af_cblk.specs.Sides.{ServerSide, ServerIs}
 use Rattle.af_cblk.proofs.Numbers.{ahead_of}
-use Rattle.af_server.specs.Order.{ServerState, Keeps, IsReady, kept_of, counted, IsInOrder}
+use Rattle.af_server.specs.Order.{ServerState, Keeps, IsReady, server_kept_of, counted, IsInOrder}
 use Rattle.af_server.specs.Looks.{Reads}
 use Rattle.af_server.proofs.Kept.{kept-more, fewer}
 
@@ -68,7 +68,7 @@ pub take_keeps : (c : ServerState) (q : ServerPart) (front n consumed : ℕ) (wo
     → consumed ≡ counted (c.consumed + n) → Keeps q c.flush c.front None consumed c.shut
 take_keeps c q front n consumed words k shown is count =
     let s : ServerPart = c.pass.part in
-    let now : kept_of (record s { events = s.events ++ server.Take n ∷ []; frames = s.frames ++ words; front = front; fresh = false; loaded = [] }) ≡ (record (kept_of s) { consumed = (kept_of s).consumed + n }) =
+    let now : server_kept_of (record s { events = s.events ++ server.Take n ∷ []; frames = s.frames ++ words; front = front; fresh = false; loaded = [] }) ≡ (record (server_kept_of s) { consumed = (server_kept_of s).consumed + n }) =
     kept-more s.shape.frames s.shape.base s.events (server.Take n ∷ []) in
     subst (λ (x : ServerPart). Keeps x c.flush c.front None consumed c.shut) (sym is) (
     record {
@@ -76,7 +76,7 @@ take_keeps c q front n consumed words k shown is count =
       flush_is = k.flush_is ∙ sym (ap (λ (x : ServerKept). x.flush) now);
       seen_is = k.seen_is ∙ sym (ap (λ (x : ServerKept). x.flush) now);
       settled = k.settled;
-      consumed_is = count ∙ ap (λ (z : ℕ). counted (z + n)) k.consumed_is ∙ fewer 9223372036854775807 (kept_of s).consumed n ∙ sym (ap (λ (x : ServerKept). counted x.consumed) now);
+      consumed_is = count ∙ ap (λ (z : ℕ). counted (z + n)) k.consumed_is ∙ fewer 9223372036854775807 (server_kept_of s).consumed n ∙ sym (ap (λ (x : ServerKept). counted x.consumed) now);
       shut_is = k.shut_is ∙ sym (ap (λ (x : ServerKept). x.shut) now);
       ready = tt;
     })

@@ -17,8 +17,8 @@ pub record ServerState : Type 0 where
   pub shut : Option (ℕ × ℕ)
 
 -- what the list of a server's events tells
-abbrev pub kept_of : ServerPart → ServerKept
-kept_of s = server_kept s.shape.frames s.shape.base s.events
+abbrev pub server_kept_of : ServerPart → ServerKept
+server_kept_of s = server_kept s.shape.frames s.shape.base s.events
 
 -- the consumed count ends at 2 ^ 63 - 1
 abbrev pub counted : ℕ → ℕ
@@ -34,11 +34,11 @@ pub record IsReady (s : ServerPart) (front count : ℕ) : Type 0 where
 -- The list of events is spelled by calls, and the kept values are those that it gives. No new flush waits for its drop
 pub record Keeps (s : ServerPart) (flush front : ℕ) (shown : Option ℕ) (consumed : ℕ) (shut : Option (ℕ × ℕ)) : Type 0 where
   pub spelled : IsServerList s.shape.frames s.shape.base shown s.events
-  pub flush_is : flush ≡ (kept_of s).flush
-  pub seen_is : s.flush ≡ (kept_of s).flush
+  pub flush_is : flush ≡ (server_kept_of s).flush
+  pub seen_is : s.flush ≡ (server_kept_of s).flush
   pub settled : s.noticed ≡ false
-  pub consumed_is : consumed ≡ counted (kept_of s).consumed
-  pub shut_is : shut ≡ (kept_of s).shut
+  pub consumed_is : consumed ≡ counted (server_kept_of s).consumed
+  pub shut_is : shut ≡ (server_kept_of s).shut
   pub ready : MatchOption shown (Unit {0}) (λ count. IsReady s front count)
 
 -- what its maker establishes, and each call and each meeting keeps

@@ -88,7 +88,7 @@ pub data Phase : Type 0 where
   taken : Phase
 
 -- what the two parties know beside their events, and what their events leave that changes hands
-pub record Known (P K : Type 0) : Type 0 where
+pub record KnownQueue (P K : Type 0) : Type 0 where
   pub m_key : Option K
   pub first : FastState
   pub pushed : ℕ
@@ -108,7 +108,7 @@ pub record Known (P K : Type 0) : Type 0 where
   pub given : List (Option P)
 
 module _ {P K : Type 0} where
-  abbrev pub known_by : Mutating P K → Observing P K → QueuePoint P → Known P K
+  abbrev pub known_by : Mutating P K → Observing P K → QueuePoint P → KnownQueue P K
   known_by m o p = record {
     m_key = m.key;
     first = m.first;
@@ -129,7 +129,7 @@ module _ {P K : Type 0} where
     given = p.observer.given;
   }
 
-module _ {P K : Type 0} (fits : ℕ → P → Type 0) (k : Known P K) (homes : List (maybe.Option (Slot P))) where
+module _ {P K : Type 0} (fits : ℕ → P → Type 0) (k : KnownQueue P K) (homes : List (maybe.Option (Slot P))) where
   abbrev pub InPhase : Phase → Type 0
   InPhase quiet = (k.current ≡ k.pushed) × (k.due ≡ false) × (k.state ≡ k.told_last) × IsHome homes (cell (k.pushed + 2)) × (k.clear ≡ false → OnShelves homes k.given × AreOf k.told_before k.told_last k.given × AllFit fits k.told_before k.given)
   InPhase shown = (k.pushed ≡ k.current + 1) × (k.due ≡ false) × (k.clear ≡ false) × (k.state ≡ k.told_before)
@@ -145,7 +145,7 @@ module _ {P K : Type 0} (fits : ℕ → P → Type 0) (k : Known P K) (homes : L
     pub o_home : k.o_out ≡ false → (k.current ≡ 0) × IsHome homes 3 × IsHome homes 2
 
 -- what the parties know is what their events leave
-pub record AreTied {P K : Type 0} (basis : Basis K) (k : Known P K) (m_count o_count : ℕ) (p : QueuePoint P) : Type 0 where
+pub record AreTied {P K : Type 0} (basis : Basis K) (k : KnownQueue P K) (m_count o_count : ℕ) (p : QueuePoint P) : Type 0 where
   pub keys : (k.m_key ≡ Some basis.key) × (k.o_key ≡ Some basis.key) × (k.first ≡ basis.first)
   pub counts : (p.mutator.count ≡ m_count) × (p.observer.count ≡ o_count)
   pub numbers : (p.mutator.pushed ≡ k.pushed) × (p.observer.acked ≡ k.current) × (p.observer.due ≡ (if k.due then k.pushed else 0)) × (p.mutator.clear ≡ k.clear)
