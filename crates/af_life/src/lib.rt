@@ -5,10 +5,21 @@
 #![tactic(auto)]
 
 mod command;
+mod edits;
+mod heard;
+mod kept;
+mod laws;
+mod obeys;
+mod serves;
 mod state;
 mod track;
 
 pub use command::{FLUSH, OPEN, PAUSE, REMOVE, START, STOP};
+pub use edits::{free_slot, next_command};
+pub use heard::NO_COUNTS;
+pub use kept::{Counts, Heard, Holder, Setting, TrackKept};
+pub use laws::a_drained_track_was_reached;
+pub use serves::stored_over;
 pub use state::LifeState;
 pub use track::{Known, Life, RETRIES, fresh};
 

@@ -1,0 +1,4 @@
+mod Effects
+mod Drains
+mod Lives
+mod Reached
