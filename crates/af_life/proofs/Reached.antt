@@ -9,6 +9,7 @@ use Rattle.af_life.specs.declared.track.Life.{Life}
 use Rattle.af_life.specs.State.{code_of}
 use Rattle.af_life.specs.declared.kept.TrackKept.{TrackKept}
 use Rattle.af_life.specs.Kept.{Setup, NormalKept, Outside, track_at, track_in, seen_at, nothing_seen}
+use Rattle.af_life.specs.Heard.{learnt}
 use Rattle.af_life.specs.Serves.{state_code, status_word, status_due, shut_now, after_report, IsServed}
 use Rattle.af_life.specs.Turn.{LegalTurn, GoesOn}
 use Rattle.af_life.specs.TurnEvents.{tracks_at}
@@ -58,14 +59,14 @@ module _ (c : Setup) (o : Outside) (m : NormalKept) (e : Turn) (i : ℕ) (is_dra
   unfolding has_mark
   not_passed p = not_both (has_mark (track_in e i).status) is_drained (ap (λ (seen : TrackSeen). has_mark seen.status) p)
 
-  life_drained : IsServed c o (track_in e i) (tracks_at c o m e i) i → (after_report c o (track_in e i) (tracks_at c o m e i) i).life.drained ≡ true
+  life_drained : IsServed c (learnt c o) (track_in e i) (tracks_at c (learnt c o) m e i) i → (after_report c (learnt c o) (track_in e i) (tracks_at c (learnt c o) m e i) i).life.drained ≡ true
   unfolding has_mark status_word
-  life_drained s = let tracks : List TrackKept = tracks_at c o m e i in let after : TrackKept = after_report c o (track_in e i) tracks i in
-      marked (state_code (shut_now c o (track_in e i) tracks i) after.life) after.settled after.life.drained (state_low (shut_now c o (track_in e i) tracks i) after.life)
-      (stored_mark (status_due c o (track_in e i) tracks i == (track_at tracks i).status) (status_due c o (track_in e i) tracks i) (sym (ap has_mark s.status) ∙ is_drained))
+  life_drained s = let tracks : List TrackKept = tracks_at c (learnt c o) m e i in let after : TrackKept = after_report c (learnt c o) (track_in e i) tracks i in
+      marked (state_code (shut_now (learnt c o) (track_in e i) tracks i) after.life) after.settled after.life.drained (state_low (shut_now (learnt c o) (track_in e i) tracks i) after.life)
+      (stored_mark (status_due c (learnt c o) (track_in e i) tracks i == (track_at tracks i).status) (status_due c (learnt c o) (track_in e i) tracks i) (sym (ap has_mark s.status) ∙ is_drained))
 
   -- it had not ended, and its life is drained after the report
-  by_life : (ended : Bool) → MatchBool ended (track_in e i ≡ nothing_seen) (IsServed c o (track_in e i) (tracks_at c o m e i) i) → (ended ≡ false) × ((after_report c o (track_in e i) (tracks_at c o m e i) i).life.drained ≡ true)
+  by_life : (ended : Bool) → MatchBool ended (track_in e i ≡ nothing_seen) (IsServed c (learnt c o) (track_in e i) (tracks_at c (learnt c o) m e i) i) → (ended ≡ false) × ((after_report c (learnt c o) (track_in e i) (tracks_at c (learnt c o) m e i) i).life.drained ≡ true)
   by_life true p = absurd (not_passed p)
   by_life false s = (refl, life_drained s)
 
@@ -81,9 +82,9 @@ reached c m turn turns i consumed lt new legal within is_drained =
     let last : NormalKept = kept_after c m turns in
     let runs = goes c turn.0 last turn.1 i is_drained turn.1.ended refl legal.0 in
     let here : i < length last.tracks = (let l : length (kept_after c m turns).tracks ≡ length m.tracks = turns_len c m turns in omega arith) in
-    let found = by_life c turn.0 last turn.1 i is_drained (track_at (tracks_at c turn.0 last turn.1 i) i).life.ended (runs.1.tracks i here) in
-    let same : (after_report c turn.0 (track_in turn.1 i) (tracks_at c turn.0 last turn.1 i) i).life ≡ life_of (steps_of c m (turn ∷ turns) i) =
-    report_step c turn.0 last turn.1 i (steps_of c m turns i) runs.0 found.0 (lives_are c m turns i lt new) in
+    let found = by_life c turn.0 last turn.1 i is_drained (track_at (tracks_at c (learnt c turn.0) last turn.1 i) i).life.ended (runs.1.tracks i here) in
+    let same : (after_report c (learnt c turn.0) (track_in turn.1 i) (tracks_at c (learnt c turn.0) last turn.1 i) i).life ≡ life_of (steps_of c m (turn ∷ turns) i) =
+    report_step c (learnt c turn.0) last turn.1 i (steps_of c m turns i) runs.0 found.0 (lives_are c m turns i lt new) in
     let is : (life_of (steps_of c m (turn ∷ turns) i)).drained ≡ true = sym (ap (λ (l : Life). l.drained) same) ∙ found.1 in
     let ordered = (drains_in_order (steps_of c m (turn ∷ turns) i)).drained is in
     ((life_of (steps_of c m (turn ∷ turns) i)).stop_at, ordered.0, (let a = ordered.1 in omega (arith, within)))

@@ -10,8 +10,8 @@ use Rattle.af_life.specs.State.{new_life, is_among}
 use Rattle.af_life.specs.Commands.{by_command, starts, stoppable}
 use Rattle.af_life.specs.Reports.{by_report}
 use Rattle.af_life.specs.declared.kept.TrackKept.{TrackKept}
-use Rattle.af_life.specs.Kept.{Setup, NormalKept, Outside, track_at, track_in}
-use Rattle.af_life.specs.Heard.{heard, ready}
+use Rattle.af_life.specs.Kept.{Setup, NormalKept, Outside, Learnt, track_at, track_in}
+use Rattle.af_life.specs.Heard.{learnt, heard, ready}
 use Rattle.af_life.specs.Obeys.{slot_for, shows_command, is_shut, after_look, goes_on}
 use Rattle.af_life.specs.Turn.{turn_after, LegalTurn}
 use Rattle.af_life.specs.TurnEvents.{tracks_at}
@@ -96,20 +96,20 @@ looks_steps given flush_seen (look ∷ looks) s before = let t = after_look give
     if goes_on look t then looks_steps given flush_seen looks t steps else steps
 
 -- those of the track i in a turn, the newest first: its commands, and then the report
-unfoldable pub track_steps : Setup → Outside → NormalKept → Turn → ℕ → List LifeStep → List LifeStep
-track_steps c o m e i before = let tracks = tracks_at c o m e i in let s = track_at tracks i in let h = heard c o i s in let r = ready c o i s in
+unfoldable pub track_steps : Setup → Learnt → NormalKept → Turn → ℕ → List LifeStep → List LifeStep
+track_steps c k m e i before = let tracks = tracks_at c k m e i in let s = track_at tracks i in let h = heard k i s in let r = ready k i s in
     if e.ended then before else if s.life.ended then before
     else heard_of h.known ∷ (if is_some r.awaits then before else looks_steps (slot_for c tracks i) h.flush_seen (track_in e i).looks r before)
 
 -- the mixer after some turns, the newest first
 abbrev pub kept_after : Setup → NormalKept → List Turned → NormalKept
 kept_after c m [] = m
-kept_after c m (t ∷ turns) = turn_after c t.0 (kept_after c m turns) t.1
+kept_after c m (t ∷ turns) = turn_after c (learnt c t.0) (kept_after c m turns) t.1
 
 -- the steps of the track i in them
 abbrev pub steps_of : Setup → NormalKept → List Turned → ℕ → List LifeStep
 steps_of c m [] i = []
-steps_of c m (t ∷ turns) i = track_steps c t.0 (kept_after c m turns) t.1 i (steps_of c m turns i)
+steps_of c m (t ∷ turns) i = track_steps c (learnt c t.0) (kept_after c m turns) t.1 i (steps_of c m turns i)
 
 -- each turn is legal where it stands
 abbrev pub AreLegal : Setup → NormalKept → List Turned → Type 0

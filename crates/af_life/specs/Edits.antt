@@ -12,8 +12,7 @@ use Rattle.af_model.specs.StateQueue.{slot_of, carries, word}
 use Rattle.af_life.specs.declared.kept.Heard.{Heard}
 use Rattle.af_life.specs.declared.kept.Holder.TheVariants.{Home, Lent, Returning}
 use Rattle.af_life.specs.declared.kept.TrackKept.{TrackKept}
-use Rattle.af_life.specs.Kept.{Setup, pipe_size, setting_of, NormalKept, track_at, Outside, plays, is_home, is_lent, is_returning, slot_number, no_counts}
-use Rattle.af_life.specs.Heard.{own_heard}
+use Rattle.af_life.specs.Kept.{Setup, pipe_size, setting_of, NormalKept, track_at, Learnt, plays, is_home, is_lent, is_returning, slot_number, no_counts}
 
 -- ## What comes home
 
@@ -62,16 +61,16 @@ unfoldable pub lend : Setup → ℕ → Heard → NormalKept → NormalKept
 lend c i own m = with_edit i (lent_by (entered c i m) own (track_at m.tracks i)) (entered c i m) m
 
 -- the track i is attached or detached, where that is due
-unfoldable pub edited : Setup → Outside → ℕ → NormalKept → NormalKept
-edited c o i m =
+unfoldable pub edited : Setup → Learnt → ℕ → NormalKept → NormalKept
+edited c k i m =
     if must_leave (track_at m.tracks i) then let_go i m
-    else if must_enter (track_at m.tracks i) then lend c i (own_heard c o i) m
+    else if must_enter (track_at m.tracks i) then lend c i (k.own i) m
     else m
 
 -- the first tracks were edited
-abbrev pub edited_to : Setup → Outside → NormalKept → ℕ → NormalKept
-edited_to c o m zero = m
-edited_to c o m (suc i) = edited c o i (edited_to c o m i)
+abbrev pub edited_to : Setup → Learnt → NormalKept → ℕ → NormalKept
+edited_to c k m zero = m
+edited_to c k m (suc i) = edited c k i (edited_to c k m i)
 
 -- ## The command
 
@@ -95,8 +94,8 @@ abbrev pub commanded_by : Setup → ℕ → NormalKept → NormalKept
 commanded_by c room m = ordered (next_command (is_exit m.draft) m.tracks room (pipe_size c)) m
 
 -- all edits of a turn
-unfoldable pub mutated : Setup → Outside → ℕ → NormalKept → NormalKept
-mutated c o room m = commanded_by c room (edited_to c o m (length m.tracks))
+unfoldable pub mutated : Setup → Learnt → ℕ → NormalKept → NormalKept
+mutated c k room m = commanded_by c room (edited_to c k m (length m.tracks))
 
 -- ## The push
 

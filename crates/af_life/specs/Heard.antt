@@ -6,7 +6,7 @@ use Rattle.af_model.specs.Reports.{report_at}
 use Rattle.af_life.specs.declared.kept.Counts.{Counts}
 use Rattle.af_life.specs.declared.kept.Heard.{Heard}
 use Rattle.af_life.specs.declared.kept.TrackKept.{TrackKept}
-use Rattle.af_life.specs.Kept.{Setup, setting_of, Outside, no_counts, is_home, slot_number}
+use Rattle.af_life.specs.Kept.{Setup, setting_of, Outside, Learnt, no_counts, is_home, slot_number}
 
 -- ## What is known of a proxy
 
@@ -25,9 +25,9 @@ flush_count wrap word = if wrap == 0 then word else word / wrap
 abbrev pub known_by : ℕ → Listed → Heard
 known_by wrap s = let k = kept s in heard_with (min 9223372036854775807 k.consumed) (flush_count wrap k.flush) (is_some k.shut) no_counts
 
--- what the stream proxy of the track i knows, where it is home
-abbrev pub own_heard : Setup → Outside → ℕ → Heard
-own_heard c o i = known_by (setting_of c i).wrap (o.streams i)
+-- what a turn learns by the report and the lists of the stream proxies
+abbrev pub learnt : Setup → Outside → Learnt
+learnt c o = record { report = o.report; own = λ i. known_by (setting_of c i).wrap (o.streams i) }
 
 abbrev pub counts_in : SlotReport → Counts
 counts_in r = record { fulls = r.fulls; partials = r.partials; empties = r.empties }
@@ -73,12 +73,12 @@ settled_at flush_seen s = if is_reached flush_seen s.awaits then record s { awai
 -- ## The same of the track i
 
 -- what the report says of its slot
-abbrev pub slot_reported : Outside → TrackKept → SlotReport
-slot_reported o s = report_at o.report.slots (slot_number s)
+abbrev pub slot_reported : Learnt → TrackKept → SlotReport
+slot_reported k s = report_at k.report.slots (slot_number s)
 
-abbrev pub heard : Setup → Outside → ℕ → TrackKept → Heard
-heard c o i s = heard_by (own_heard c o i) (slot_reported o s) s
+abbrev pub heard : Learnt → ℕ → TrackKept → Heard
+heard k i s = heard_by (k.own i) (slot_reported k s) s
 
 -- the track when its commands are looked at
-abbrev pub ready : Setup → Outside → ℕ → TrackKept → TrackKept
-ready c o i s = settled_at (heard c o i s).flush_seen (noted (slot_reported o s) s)
+abbrev pub ready : Learnt → ℕ → TrackKept → TrackKept
+ready k i s = settled_at (heard k i s).flush_seen (noted (slot_reported k s) s)

@@ -89,6 +89,11 @@ slot_number s = elim s.slot as (λ slot. ℕ) [ None ↦ 0 | Some k ↦ k ]
 
 -- ## What a turn sees
 
+-- What a turn learns: the report that it loaded, and what each stream proxy knows that is home
+pub record Learnt : Type 0 where
+  pub report : Report
+  pub own : ℕ → Heard
+
 -- What a turn sees that its entry doesn't hold: the report that it loaded, each track's two servers with their lists before the turn, and the front of each look, in order
 pub record Outside : Type 0 where
   pub report : Report

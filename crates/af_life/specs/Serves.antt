@@ -8,7 +8,7 @@ use Rattle.af_life.specs.declared.kept.TrackKept.{TrackKept}
 use Rattle.af_life.specs.declared.track.Life.{Life}
 use Rattle.af_life.specs.State.{code_of}
 use Rattle.af_life.specs.Reports.{by_report, told_by_report}
-use Rattle.af_life.specs.Kept.{Setup, Outside, track_at, nothing_seen, seen_at}
+use Rattle.af_life.specs.Kept.{Setup, Learnt, track_at, nothing_seen, seen_at}
 use Rattle.af_life.specs.Heard.{heard, ready}
 use Rattle.af_life.specs.Obeys.{slot_for, is_shut, commanded, are_due}
 
@@ -29,37 +29,37 @@ unfoldable pub status_word : Bool → TrackKept → ℕ
 status_word shut s = state_code shut s.life + (if s.life.drained then 16 else 0) + 256 * s.settled
 
 -- the track i after its commands
-abbrev pub after_commands : Setup → Outside → TrackSeen → List TrackKept → ℕ → TrackKept
-after_commands c o seen tracks i = let s = track_at tracks i in
-    commanded (slot_for c tracks i) (heard c o i s).flush_seen seen.looks (ready c o i s)
+abbrev pub after_commands : Setup → Learnt → TrackSeen → List TrackKept → ℕ → TrackKept
+after_commands c k seen tracks i = let s = track_at tracks i in
+    commanded (slot_for c tracks i) (heard k i s).flush_seen seen.looks (ready k i s)
 
 -- the track i was found shut in this turn
-abbrev pub shut_now : Setup → Outside → TrackSeen → List TrackKept → ℕ → Bool
-shut_now c o seen tracks i = was_shut (heard c o i (track_at tracks i)) seen.looks
+abbrev pub shut_now : Learnt → TrackSeen → List TrackKept → ℕ → Bool
+shut_now k seen tracks i = was_shut (heard k i (track_at tracks i)) seen.looks
 
 -- its life after the report
-abbrev pub after_report : Setup → Outside → TrackSeen → List TrackKept → ℕ → TrackKept
-after_report c o seen tracks i = let s = after_commands c o seen tracks i in
-    record s { life = by_report (heard c o i (track_at tracks i)).known s.life }
+abbrev pub after_report : Setup → Learnt → TrackSeen → List TrackKept → ℕ → TrackKept
+after_report c k seen tracks i = let s = after_commands c k seen tracks i in
+    record s { life = by_report (heard k i (track_at tracks i)).known s.life }
 
 -- its status word
-abbrev pub status_due : Setup → Outside → TrackSeen → List TrackKept → ℕ → ℕ
-status_due c o seen tracks i = status_word (shut_now c o seen tracks i) (after_report c o seen tracks i)
+abbrev pub status_due : Setup → Learnt → TrackSeen → List TrackKept → ℕ → ℕ
+status_due c k seen tracks i = status_word (shut_now k seen tracks i) (after_report c k seen tracks i)
 
 -- the track i after its part of the turn; one that had ended is passed over
-unfoldable pub served : Setup → Outside → TrackSeen → List TrackKept → ℕ → TrackKept
-served c o seen tracks i =
+unfoldable pub served : Setup → Learnt → TrackSeen → List TrackKept → ℕ → TrackKept
+served c k seen tracks i =
     if (track_at tracks i).life.ended then track_at tracks i
-    else record (after_report c o seen tracks i) { status = status_due c o seen tracks i }
+    else record (after_report c k seen tracks i) { status = status_due c k seen tracks i }
 
 -- the tracks with the track i served, by what the tracks before it left
-abbrev pub with_served : Setup → Outside → List TrackSeen → ℕ → List TrackKept → List TrackKept
-with_served c o seen i tracks = slice_set tracks i (served c o (seen_at seen i) tracks i)
+abbrev pub with_served : Setup → Learnt → List TrackSeen → ℕ → List TrackKept → List TrackKept
+with_served c k seen i tracks = slice_set tracks i (served c k (seen_at seen i) tracks i)
 
 -- the tracks after the first ones were served
-abbrev pub served_to : Setup → Outside → List TrackSeen → List TrackKept → ℕ → List TrackKept
-served_to c o seen tracks zero = tracks
-served_to c o seen tracks (suc i) = with_served c o seen i (served_to c o seen tracks i)
+abbrev pub served_to : Setup → Learnt → List TrackSeen → List TrackKept → ℕ → List TrackKept
+served_to c k seen tracks zero = tracks
+served_to c k seen tracks (suc i) = with_served c k seen i (served_to c k seen tracks i)
 
 -- ## What the entry holds of it
 
@@ -72,11 +72,11 @@ abbrev pub HasDueLooks : Option ℕ → ℕ → List CommandLook → TrackKept �
 HasDueLooks given flush_seen looks s = MatchBool (is_some s.awaits) (looks ≡ []) (are_due most_looks given flush_seen looks s ≡ true)
 
 -- the looks are those due, DISABLED is set where the report says so, and the status is stored where it is new
-pub record IsServed (c : Setup) (o : Outside) (seen : TrackSeen) (tracks : List TrackKept) (i : ℕ) : Type 0 where
-  pub looks : HasDueLooks (slot_for c tracks i) (heard c o i (track_at tracks i)).flush_seen seen.looks (ready c o i (track_at tracks i))
-  pub disabled : seen.disabled ≡ told_by_report (heard c o i (track_at tracks i)).known (after_commands c o seen tracks i).life
-  pub status : seen.status ≡ stored_over (track_at tracks i).status (status_due c o seen tracks i)
+pub record IsServed (c : Setup) (k : Learnt) (seen : TrackSeen) (tracks : List TrackKept) (i : ℕ) : Type 0 where
+  pub looks : HasDueLooks (slot_for c tracks i) (heard k i (track_at tracks i)).flush_seen seen.looks (ready k i (track_at tracks i))
+  pub disabled : seen.disabled ≡ told_by_report (heard k i (track_at tracks i)).known (after_commands c k seen tracks i).life
+  pub status : seen.status ≡ stored_over (track_at tracks i).status (status_due c k seen tracks i)
 
 -- what the entry holds of the track i is what it does there; of one that had ended, nothing
-abbrev pub LegalTrack : Setup → Outside → TrackSeen → List TrackKept → ℕ → Type 0
-LegalTrack c o seen tracks i = MatchBool (track_at tracks i).life.ended (seen ≡ nothing_seen) (IsServed c o seen tracks i)
+abbrev pub LegalTrack : Setup → Learnt → TrackSeen → List TrackKept → ℕ → Type 0
+LegalTrack c k seen tracks i = MatchBool (track_at tracks i).life.ended (seen ≡ nothing_seen) (IsServed c k seen tracks i)

@@ -2,7 +2,8 @@
 use Rattle.std.specs.Prelude.{◌≡◌, ℕ, ◌<◌, ◌≤◌, ◌&&◌, ◌||◌, Bool, true, false, if◌then◌else◌, length, map}
 use Rattle.std.specs.List.{AllByRecursion}
 use Rattle.af_base.specs.Turn.{Turn, ended_turn}
-use Rattle.af_life.specs.Kept.{Setup, pipe_size, NormalKept, Outside, track_in}
+use Rattle.af_life.specs.Kept.{Setup, pipe_size, NormalKept, Outside, Learnt, track_in}
+use Rattle.af_life.specs.Heard.{learnt}
 use Rattle.af_life.specs.Looks.{LegalLooks}
 use Rattle.af_life.specs.Serves.{served_to, LegalTrack}
 use Rattle.af_life.specs.Edits.{after_ack, is_exit, mutated, after_push, LegalPush}
@@ -11,18 +12,18 @@ use Rattle.af_life.specs.Plays.{tracks_due, after_takes, LegalTake}
 -- ## What a turn leaves, step by step. It never asks whether the turn was legal
 
 -- the tracks were served
-abbrev pub after_tracks : Setup → Outside → Turn → NormalKept → NormalKept
-after_tracks c o e m = record m { tracks = served_to c o e.tracks m.tracks (length m.tracks) }
+abbrev pub after_tracks : Setup → Learnt → Turn → NormalKept → NormalKept
+after_tracks c k e m = record m { tracks = served_to c k e.tracks m.tracks (length m.tracks) }
 
 -- the draft was edited
-abbrev pub after_edits : Setup → Outside → Turn → NormalKept → NormalKept
-after_edits c o e m = mutated c o e.room (after_tracks c o e (after_ack e.ack m))
+abbrev pub after_edits : Setup → Learnt → Turn → NormalKept → NormalKept
+after_edits c k e m = mutated c k e.room (after_tracks c k e (after_ack e.ack m))
 
 -- what a turn leaves of the mixer
-unfoldable pub turn_after : Setup → Outside → NormalKept → Turn → NormalKept
-turn_after c o m e =
+unfoldable pub turn_after : Setup → Learnt → NormalKept → Turn → NormalKept
+turn_after c k m e =
     if e.ended then record m { ended = true }
-    else after_takes c e.mixes (after_push e.push (after_edits c o e m))
+    else after_takes c e.mixes (after_push e.push (after_edits c k e m))
 
 -- ## Which turn is legal
 
@@ -36,10 +37,10 @@ pub record GoesOn (c : Setup) (o : Outside) (m : NormalKept) (e : Turn) : Type 0
   pub report : e.cycle ≡ o.report.cycle
   pub room : e.room ≤ pipe_size c
   pub whole : length e.tracks ≡ length m.tracks
-  pub tracks : (i : ℕ) → i < length m.tracks → LegalTrack c o (track_in e i) (served_to c o e.tracks (after_ack e.ack m).tracks i) i
+  pub tracks : (i : ℕ) → i < length m.tracks → LegalTrack c (learnt c o) (track_in e i) (served_to c (learnt c o) e.tracks (after_ack e.ack m).tracks i) i
   pub looks : (i : ℕ) → i < length m.tracks → LegalLooks (o.commands i) (track_in e i).looks (o.command_fronts i)
-  pub push : LegalPush (after_edits c o e m) e.push
-  pub due : map (λ take. take.track) e.mixes ≡ tracks_due c e.room (after_edits c o e m).tracks
+  pub push : LegalPush (after_edits c (learnt c o) e m) e.push
+  pub due : map (λ take. take.track) e.mixes ≡ tracks_due c e.room (after_edits c (learnt c o) e m).tracks
   pub takes : AllByRecursion (LegalTake c o) e.mixes
 
 -- a turn that follows from the mixer before it and from what it saw

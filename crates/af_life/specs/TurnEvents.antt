@@ -18,7 +18,8 @@ use Rattle.af_model.specs.declared.states.MutatorEvent.TheVariants as mutator
 use Rattle.af_model.specs.Cycles.{cycle_events}
 use Rattle.af_model.specs.PipeHistory.{releases_of}
 use Rattle.af_life.specs.declared.kept.TrackKept.{TrackKept}
-use Rattle.af_life.specs.Kept.{Setup, asked, pipe_size, NormalKept, Outside, track_at, track_in, is_home}
+use Rattle.af_life.specs.Kept.{Setup, asked, pipe_size, NormalKept, Outside, Learnt, track_at, track_in, is_home}
+use Rattle.af_life.specs.Heard.{learnt}
 use Rattle.af_life.specs.Looks.{all_command_events}
 use Rattle.af_life.specs.Serves.{shut_now, served_to}
 use Rattle.af_life.specs.Edits.{after_ack}
@@ -28,16 +29,16 @@ use Rattle.af_life.specs.Turn.{after_edits}
 -- ## The tracks. `tracks` are the tracks as those before the track i left them
 
 -- the tracks when the track i is served
-abbrev pub tracks_at : Setup → Outside → NormalKept → Turn → ℕ → List TrackKept
-tracks_at c o m e i = served_to c o e.tracks (after_ack e.ack m).tracks i
+abbrev pub tracks_at : Setup → Learnt → NormalKept → Turn → ℕ → List TrackKept
+tracks_at c k m e i = served_to c k e.tracks (after_ack e.ack m).tracks i
 
 -- none of these events where the turn has ended
 abbrev pub going : {E : Type 0} → Turn → List E → List E
 going e events = if e.ended then [] else events
 
 -- INVALID, where the track is found shut
-abbrev pub invalid : Setup → Outside → TrackSeen → List TrackKept → ℕ → List ServerEvent
-invalid c o seen tracks i = if not (track_at tracks i).life.ended && shut_now c o seen tracks i then server.SetFlags 4 ∷ [] else []
+abbrev pub invalid : Learnt → TrackSeen → List TrackKept → ℕ → List ServerEvent
+invalid k seen tracks i = if not (track_at tracks i).life.ended && shut_now k seen tracks i then server.SetFlags 4 ∷ [] else []
 
 -- the status stored
 abbrev pub status_events : Option ℕ → List ServerEvent
@@ -46,7 +47,7 @@ status_events (Some word) = server.SetStatus word ∷ []
 
 -- what the server of the command block does for a track: its looks with their takes, INVALID and the status
 abbrev pub command_events_of : Setup → Outside → TrackSeen → List TrackKept → ℕ → List ServerEvent
-command_events_of c o seen tracks i = all_command_events (o.commands i) seen.looks (o.command_fronts i) ++ invalid c o seen tracks i ++ status_events seen.status
+command_events_of c o seen tracks i = all_command_events (o.commands i) seen.looks (o.command_fronts i) ++ invalid (learnt c o) seen tracks i ++ status_events seen.status
 
 -- the server of the command block
 abbrev pub command_list : Setup → Outside → Turn → List TrackKept → ℕ → List ServerEvent
@@ -67,7 +68,7 @@ mix_events c o takes i = flat_map (λ take. cycle_events (asked c) (o.streams i)
 -- the server of the stream block, where it is home: INVALID, and the mix
 abbrev pub stream_list : Setup → Outside → Turn → List TrackKept → ℕ → List ServerEvent
 stream_list c o e tracks i =
-    going e ((if is_home (track_at tracks i).holder then invalid c o (track_in e i) tracks i else []) ++ mix_events c o e.mixes i)
+    going e ((if is_home (track_at tracks i).holder then invalid (learnt c o) (track_in e i) tracks i else []) ++ mix_events c o e.mixes i)
 
 -- ## The other ends
 
@@ -95,7 +96,7 @@ module _ {P : Type 0} where
   push_list m (Pushed number) again sent = (if m.pushed == 0 then [] else mutator.SawAck m.pushed again ∷ []) ++ mutator.Push number m.draft sent ∷ []
 
   -- the mutator: its look with the items that come by it, and the push with those that come or go by it
-  abbrev pub mutator_list : Setup → Outside → NormalKept → Turn → List (Option P) → List (Option P) → List (Option P) → List (MutatorEvent P)
-  mutator_list c o m e back again sent =
+  abbrev pub mutator_list : Setup → Learnt → NormalKept → Turn → List (Option P) → List (Option P) → List (Option P) → List (MutatorEvent P)
+  mutator_list c k m e back again sent =
       if m.ended then []
-      else mutator.SawAck (number_seen m e.ack) back ∷ going e (push_list (after_edits c o e m) e.push again sent)
+      else mutator.SawAck (number_seen m e.ack) back ∷ going e (push_list (after_edits c k e m) e.push again sent)
