@@ -13,12 +13,13 @@ use Rattle.af_life.specs.declared.track.Life.{Life}
 use Rattle.af_life.specs.Commands.{by_command}
 use Rattle.af_life.specs.Reports.{by_report}
 use Rattle.af_life.specs.declared.kept.Holder.TheVariants.{Home}
+use Rattle.af_life.specs.declared.kept.Heard.{Heard}
 use Rattle.af_life.specs.declared.kept.TrackKept.{TrackKept}
 use Rattle.af_life.specs.Kept.{Setup, asked, NormalKept, Learnt, track_at, new_track, seen_at, track_in, is_home}
 use Rattle.af_life.specs.Heard.{learnt, heard, slot_reported, noted, is_reported, is_reached, settled_at, ready}
 use Rattle.af_base.specs.declared.report.SlotReport.{SlotReport}
 use Rattle.af_life.specs.Obeys.{slot_for, must_wait, shows_command, is_shut, obeyed, after_look, goes_on, after_looks, commanded}
-use Rattle.af_life.specs.Serves.{served, served_to, after_commands, after_report}
+use Rattle.af_life.specs.Serves.{served, served_to, after_commands, after_report, after_part}
 use Rattle.af_life.specs.Edits.{comes_home, welcomed, after_ack, must_leave, must_enter, let_go, lend, edited, edited_to, ordered, mutated, after_push}
 use Rattle.af_life.specs.Plays.{after_take, after_takes}
 use Rattle.af_life.specs.Turn.{after_tracks, after_edits, turn_after}
@@ -126,17 +127,17 @@ commands_step given flush_seen looks s before e =
     both_ways (is_some s.awaits) s (after_looks given flush_seen looks s) before (looks_steps given flush_seen looks s before) e (looks_step given flush_seen looks s before e)
 
 -- the life of the track i after its part of the turn is that of its steps
-served_step : (c : Setup) (k : Learnt) (turn : TrackSeen) (tracks : List TrackKept) (i : ℕ) (before : List LifeStep) → life_at tracks i ≡ life_of before
-    → (served c k turn tracks i).life ≡ life_of (let s = track_at tracks i in let h = heard k i s in let r = ready k i s in
-    if s.life.ended then before else heard_of h.known ∷ (if is_some r.awaits then before else looks_steps (slot_for c tracks i) h.flush_seen turn.looks r before))
-unfolding served
-served_step c k turn tracks i before eq =
+served_step : (c : Setup) (k : Learnt) (seen : TrackSeen) (tracks : List TrackKept) (i : ℕ) (before : List LifeStep) → life_at tracks i ≡ life_of before
+    → (served c k seen tracks i).life ≡ life_of (let s = track_at tracks i in let h = heard k i s in let r = ready k i s in
+    if s.life.ended then before else heard_of h.known ∷ (if is_some r.awaits then before else looks_steps (slot_for c tracks i) h.flush_seen seen.looks r before))
+unfolding served after_part
+served_step c k seen tracks i before eq =
     let s : TrackKept = track_at tracks i in
     let r : TrackKept = ready k i s in
-    let flush_seen : ℕ = (heard k i s).flush_seen in
-    let commands : (after_commands c k turn tracks i).life ≡ life_of (if is_some r.awaits then before else looks_steps (slot_for c tracks i) flush_seen turn.looks r before) =
-    commands_step (slot_for c tracks i) flush_seen turn.looks r before (ready_keeps k i s ∙ eq) in
-    both_ways s.life.ended s _ before _ eq (ap (by_report (heard k i s).known) commands)
+    let h : Heard = heard k i s in
+    let commands : (after_commands (slot_for c tracks i) h seen.looks r).life ≡ life_of (if is_some r.awaits then before else looks_steps (slot_for c tracks i) h.flush_seen seen.looks r before) =
+    commands_step (slot_for c tracks i) h.flush_seen seen.looks r before (ready_keeps k i s ∙ eq) in
+    both_ways s.life.ended s _ before _ eq (ap (by_report h.known) commands)
 
 -- ## All tracks
 
@@ -244,8 +245,8 @@ gone_on false true steps more e f = absurd (true≢false f)
 gone_on false false steps more e f = refl
 
 -- the life of the track i after the report is that of its steps
-pub report_step : (c : Setup) (k : Learnt) (m : NormalKept) (e : Turn) (i : ℕ) (before : List LifeStep) → e.ended ≡ false → (track_at (tracks_at c k m e i) i).life.ended ≡ false
-    → life_at m.tracks i ≡ life_of before → (after_report c k (track_in e i) (tracks_at c k m e i) i).life ≡ life_of (track_steps c k m e i before)
+pub report_step : (c : Setup) (k : Learnt) (m : NormalKept) (e : Turn) (i : ℕ) (before : List LifeStep) → let tracks = tracks_at c k m e i in let s = track_at tracks i in e.ended ≡ false → s.life.ended ≡ false
+    → life_at m.tracks i ≡ life_of before → (after_report (slot_for c tracks i) (heard k i s) (track_in e i).looks (ready k i s)).life ≡ life_of (track_steps c k m e i before)
 unfolding track_steps
 report_step c k m e i before runs lives eq =
     let tracks : List TrackKept = tracks_at c k m e i in

@@ -7,10 +7,13 @@ use Rattle.af_life.specs.declared.state.LifeState.{LifeState}
 use Rattle.af_life.specs.declared.state.LifeState.TheVariants.{Absent, Idle, Active, Pausing, Paused, Resuming, Stopping1, Stopping2, Stopped, Flushed}
 use Rattle.af_life.specs.declared.track.Life.{Life}
 use Rattle.af_life.specs.State.{code_of}
+use Rattle.af_base.specs.declared.turn.CommandLook.{CommandLook}
+use Rattle.af_life.specs.declared.kept.Heard.{Heard}
 use Rattle.af_life.specs.declared.kept.TrackKept.{TrackKept}
 use Rattle.af_life.specs.Kept.{Setup, NormalKept, Outside, track_at, track_in, seen_at, nothing_seen}
-use Rattle.af_life.specs.Heard.{learnt}
-use Rattle.af_life.specs.Serves.{state_code, status_word, status_due, shut_now, after_report, IsServed}
+use Rattle.af_life.specs.Heard.{learnt, heard, ready}
+use Rattle.af_life.specs.Obeys.{slot_for}
+use Rattle.af_life.specs.Serves.{state_code, status_word, is_found_shut, status_due, after_report, IsServed}
 use Rattle.af_life.specs.Turn.{LegalTurn, GoesOn}
 use Rattle.af_life.specs.TurnEvents.{tracks_at}
 use Rattle.af_life.specs.Drained.{reports_drained, Turned, life_of, kept_after, steps_of, DrainedIsReached}
@@ -59,16 +62,23 @@ module _ (c : Setup) (o : Outside) (m : NormalKept) (e : Turn) (i : ℕ) (is_dra
   unfolding has_mark
   not_passed p = not_both (has_mark (track_in e i).status) is_drained (ap (λ (seen : TrackSeen). has_mark seen.status) p)
 
-  life_drained : IsServed c (learnt c o) (track_in e i) (tracks_at c (learnt c o) m e i) i → (after_report c (learnt c o) (track_in e i) (tracks_at c (learnt c o) m e i) i).life.drained ≡ true
+  abbrev served_by : TrackKept → Type 0
+  served_by s = IsServed (slot_for c (tracks_at c (learnt c o) m e i) i) (heard (learnt c o) i s) (track_in e i) (ready (learnt c o) i s)
+
+  abbrev life_by : TrackKept → Life
+  life_by s = (after_report (slot_for c (tracks_at c (learnt c o) m e i) i) (heard (learnt c o) i s) (track_in e i).looks (ready (learnt c o) i s)).life
+
+  life_drained : (s : TrackKept) → served_by s → (life_by s).drained ≡ true
   unfolding has_mark status_word
-  life_drained s = let tracks : List TrackKept = tracks_at c (learnt c o) m e i in let after : TrackKept = after_report c (learnt c o) (track_in e i) tracks i in
-      marked (state_code (shut_now (learnt c o) (track_in e i) tracks i) after.life) after.settled after.life.drained (state_low (shut_now (learnt c o) (track_in e i) tracks i) after.life)
-      (stored_mark (status_due c (learnt c o) (track_in e i) tracks i == (track_at tracks i).status) (status_due c (learnt c o) (track_in e i) tracks i) (sym (ap has_mark s.status) ∙ is_drained))
+  life_drained s is = let h : Heard = heard (learnt c o) i s in let given : Option ℕ = slot_for c (tracks_at c (learnt c o) m e i) i in let r : TrackKept = ready (learnt c o) i s in
+      let looks : List CommandLook = (track_in e i).looks in let shut : Bool = is_found_shut h looks in let after : TrackKept = after_report given h looks r in
+      marked (state_code shut after.life) after.settled after.life.drained (state_low shut after.life)
+      (stored_mark (status_due given h looks r == r.status) (status_due given h looks r) (sym (ap has_mark is.status) ∙ is_drained))
 
   -- it had not ended, and its life is drained after the report
-  by_life : (ended : Bool) → MatchBool ended (track_in e i ≡ nothing_seen) (IsServed c (learnt c o) (track_in e i) (tracks_at c (learnt c o) m e i) i) → (ended ≡ false) × ((after_report c (learnt c o) (track_in e i) (tracks_at c (learnt c o) m e i) i).life.drained ≡ true)
-  by_life true p = absurd (not_passed p)
-  by_life false s = (refl, life_drained s)
+  by_life : (s : TrackKept) (ended : Bool) → MatchBool ended (track_in e i ≡ nothing_seen) (served_by s) → (ended ≡ false) × ((life_by s).drained ≡ true)
+  by_life s true p = absurd (not_passed p)
+  by_life s false p = (refl, life_drained s p)
 
   -- an ended turn reports nothing
   goes : (ended : Bool) → e.ended ≡ ended → LegalTurn c o m e → (e.ended ≡ false) × GoesOn c o m e
@@ -82,9 +92,9 @@ reached c m turn turns i consumed lt new legal within is_drained =
     let last : NormalKept = kept_after c m turns in
     let runs = goes c turn.0 last turn.1 i is_drained turn.1.ended refl legal.0 in
     let here : i < length last.tracks = (let l : length (kept_after c m turns).tracks ≡ length m.tracks = turns_len c m turns in omega arith) in
-    let found = by_life c turn.0 last turn.1 i is_drained (track_at (tracks_at c (learnt c turn.0) last turn.1 i) i).life.ended (runs.1.tracks i here) in
-    let same : (after_report c (learnt c turn.0) (track_in turn.1 i) (tracks_at c (learnt c turn.0) last turn.1 i) i).life ≡ life_of (steps_of c m (turn ∷ turns) i) =
-    report_step c (learnt c turn.0) last turn.1 i (steps_of c m turns i) runs.0 found.0 (lives_are c m turns i lt new) in
+    let s : TrackKept = track_at (tracks_at c (learnt c turn.0) last turn.1 i) i in
+    let found = by_life c turn.0 last turn.1 i is_drained s s.life.ended (runs.1.tracks i here) in
+    let same = report_step c (learnt c turn.0) last turn.1 i (steps_of c m turns i) runs.0 found.0 (lives_are c m turns i lt new) in
     let is : (life_of (steps_of c m (turn ∷ turns) i)).drained ≡ true = sym (ap (λ (l : Life). l.drained) same) ∙ found.1 in
     let ordered = (drains_in_order (steps_of c m (turn ∷ turns) i)).drained is in
     ((life_of (steps_of c m (turn ∷ turns) i)).stop_at, ordered.0, (let a = ordered.1 in omega (arith, within)))

@@ -16,10 +16,6 @@ use Rattle.af_life.specs.Obeys.{slot_for, is_shut, commanded, are_due}
 abbrev pub most_looks : ℕ
 most_looks = 64
 
--- the stream block was shut, or a look found the command block shut
-abbrev pub was_shut : Heard → List CommandLook → Bool
-was_shut h looks = h.known.shut || list_any (λ look. is_shut look.seen) looks
-
 -- the number of a state in the status word: 15 where the track was shut
 abbrev pub state_code : Bool → Life → ℕ
 state_code shut life = if shut then 15 else code_of life.state
@@ -28,40 +24,27 @@ state_code shut life = if shut then 15 else code_of life.state
 unfoldable pub status_word : Bool → TrackKept → ℕ
 status_word shut s = state_code shut s.life + (if s.life.drained then 16 else 0) + 256 * s.settled
 
--- the track i after its commands
-abbrev pub after_commands : Setup → Learnt → TrackSeen → List TrackKept → ℕ → TrackKept
-after_commands c k seen tracks i = let s = track_at tracks i in
-    commanded (slot_for c tracks i) (heard k i s).flush_seen seen.looks (ready k i s)
+-- ## One track. `given` is the slot that an OPEN gives, `h` what the turn heard of the stream, and `s` the track once that was noted
 
--- the track i was found shut in this turn
-abbrev pub shut_now : Learnt → TrackSeen → List TrackKept → ℕ → Bool
-shut_now k seen tracks i = was_shut (heard k i (track_at tracks i)) seen.looks
+-- the stream block was shut, or a look found the command block shut
+abbrev pub is_found_shut : Heard → List CommandLook → Bool
+is_found_shut h looks = h.known.shut || list_any (λ look. is_shut look.seen) looks
 
--- its life after the report
-abbrev pub after_report : Setup → Learnt → TrackSeen → List TrackKept → ℕ → TrackKept
-after_report c k seen tracks i = let s = after_commands c k seen tracks i in
-    record s { life = by_report (heard k i (track_at tracks i)).known s.life }
+-- the track after its commands
+abbrev pub after_commands : Option ℕ → Heard → List CommandLook → TrackKept → TrackKept
+after_commands given h looks s = commanded given h.flush_seen looks s
+
+-- and after the report
+abbrev pub after_report : Option ℕ → Heard → List CommandLook → TrackKept → TrackKept
+after_report given h looks s = let t = after_commands given h looks s in record t { life = by_report h.known t.life }
 
 -- its status word
-abbrev pub status_due : Setup → Learnt → TrackSeen → List TrackKept → ℕ → ℕ
-status_due c k seen tracks i = status_word (shut_now k seen tracks i) (after_report c k seen tracks i)
+abbrev pub status_due : Option ℕ → Heard → List CommandLook → TrackKept → ℕ
+status_due given h looks s = status_word (is_found_shut h looks) (after_report given h looks s)
 
--- the track i after its part of the turn; one that had ended is passed over
-unfoldable pub served : Setup → Learnt → TrackSeen → List TrackKept → ℕ → TrackKept
-served c k seen tracks i =
-    if (track_at tracks i).life.ended then track_at tracks i
-    else record (after_report c k seen tracks i) { status = status_due c k seen tracks i }
-
--- the tracks with the track i served, by what the tracks before it left
-abbrev pub with_served : Setup → Learnt → List TrackSeen → ℕ → List TrackKept → List TrackKept
-with_served c k seen i tracks = slice_set tracks i (served c k (seen_at seen i) tracks i)
-
--- the tracks after the first ones were served
-abbrev pub served_to : Setup → Learnt → List TrackSeen → List TrackKept → ℕ → List TrackKept
-served_to c k seen tracks zero = tracks
-served_to c k seen tracks (suc i) = with_served c k seen i (served_to c k seen tracks i)
-
--- ## What the entry holds of it
+-- the track after its part of the turn
+unfoldable pub after_part : Option ℕ → Heard → List CommandLook → TrackKept → TrackKept
+after_part given h looks s = record (after_report given h looks s) { status = status_due given h looks s }
 
 -- a word is stored where it differs from the last one
 abbrev pub stored_over : ℕ → ℕ → Option ℕ
@@ -72,11 +55,28 @@ abbrev pub HasDueLooks : Option ℕ → ℕ → List CommandLook → TrackKept �
 HasDueLooks given flush_seen looks s = MatchBool (is_some s.awaits) (looks ≡ []) (are_due most_looks given flush_seen looks s ≡ true)
 
 -- the looks are those due, DISABLED is set where the report says so, and the status is stored where it is new
-pub record IsServed (c : Setup) (k : Learnt) (seen : TrackSeen) (tracks : List TrackKept) (i : ℕ) : Type 0 where
-  pub looks : HasDueLooks (slot_for c tracks i) (heard k i (track_at tracks i)).flush_seen seen.looks (ready k i (track_at tracks i))
-  pub disabled : seen.disabled ≡ told_by_report (heard k i (track_at tracks i)).known (after_commands c k seen tracks i).life
-  pub status : seen.status ≡ stored_over (track_at tracks i).status (status_due c k seen tracks i)
+pub record IsServed (given : Option ℕ) (h : Heard) (seen : TrackSeen) (s : TrackKept) : Type 0 where
+  pub looks : HasDueLooks given h.flush_seen seen.looks s
+  pub disabled : seen.disabled ≡ told_by_report h.known (after_commands given h seen.looks s).life
+  pub status : seen.status ≡ stored_over s.status (status_due given h seen.looks s)
+
+-- ## All tracks
+
+-- the track i after its part of the turn; one that had ended is passed over
+unfoldable pub served : Setup → Learnt → TrackSeen → List TrackKept → ℕ → TrackKept
+served c k seen tracks i = let s = track_at tracks i in
+    if s.life.ended then s else after_part (slot_for c tracks i) (heard k i s) seen.looks (ready k i s)
+
+-- the tracks with the track i served, by what the tracks before it left
+abbrev pub with_served : Setup → Learnt → List TrackSeen → ℕ → List TrackKept → List TrackKept
+with_served c k seen i tracks = slice_set tracks i (served c k (seen_at seen i) tracks i)
+
+-- the tracks after the first ones were served
+abbrev pub served_to : Setup → Learnt → List TrackSeen → List TrackKept → ℕ → List TrackKept
+served_to c k seen tracks zero = tracks
+served_to c k seen tracks (suc i) = with_served c k seen i (served_to c k seen tracks i)
 
 -- what the entry holds of the track i is what it does there; of one that had ended, nothing
 abbrev pub LegalTrack : Setup → Learnt → TrackSeen → List TrackKept → ℕ → Type 0
-LegalTrack c k seen tracks i = MatchBool (track_at tracks i).life.ended (seen ≡ nothing_seen) (IsServed c k seen tracks i)
+LegalTrack c k seen tracks i = let s = track_at tracks i in
+    MatchBool s.life.ended (seen ≡ nothing_seen) (IsServed (slot_for c tracks i) (heard k i s) seen (ready k i s))

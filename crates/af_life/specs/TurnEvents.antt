@@ -19,9 +19,9 @@ use Rattle.af_model.specs.Cycles.{cycle_events}
 use Rattle.af_model.specs.PipeHistory.{releases_of}
 use Rattle.af_life.specs.declared.kept.TrackKept.{TrackKept}
 use Rattle.af_life.specs.Kept.{Setup, asked, pipe_size, NormalKept, Outside, Learnt, track_at, track_in, is_home}
-use Rattle.af_life.specs.Heard.{learnt}
+use Rattle.af_life.specs.Heard.{learnt, heard}
 use Rattle.af_life.specs.Looks.{all_command_events}
-use Rattle.af_life.specs.Serves.{shut_now, served_to}
+use Rattle.af_life.specs.Serves.{is_found_shut, served_to}
 use Rattle.af_life.specs.Edits.{after_ack}
 use Rattle.af_life.specs.Plays.{put_by}
 use Rattle.af_life.specs.Turn.{after_edits}
@@ -38,7 +38,7 @@ going e events = if e.ended then [] else events
 
 -- INVALID, where the track is found shut
 abbrev pub invalid : Learnt → TrackSeen → List TrackKept → ℕ → List ServerEvent
-invalid k seen tracks i = if not (track_at tracks i).life.ended && shut_now k seen tracks i then server.SetFlags 4 ∷ [] else []
+invalid k seen tracks i = let s = track_at tracks i in if not s.life.ended && is_found_shut (heard k i s) seen.looks then server.SetFlags 4 ∷ [] else []
 
 -- the status stored
 abbrev pub status_events : Option ℕ → List ServerEvent
