@@ -2,3 +2,6 @@ mod Effects
 mod Drains
 mod Lives
 mod Reached
+mod Settles
+mod Smalls
+mod SmallTurns

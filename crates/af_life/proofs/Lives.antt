@@ -127,36 +127,36 @@ commands_step given flush_seen looks s before e =
     both_ways (is_some s.awaits) s (after_looks given flush_seen looks s) before (looks_steps given flush_seen looks s before) e (looks_step given flush_seen looks s before e)
 
 -- the life of the track i after its part of the turn is that of its steps
-served_step : (c : Setup) (k : Learnt) (seen : TrackSeen) (tracks : List TrackKept) (i : ℕ) (before : List LifeStep) → life_at tracks i ≡ life_of before
-    → (served c k seen tracks i).life ≡ life_of (let s = track_at tracks i in let h = heard k i s in let r = ready k i s in
-    if s.life.ended then before else heard_of h.known ∷ (if is_some r.awaits then before else looks_steps (slot_for c tracks i) h.flush_seen seen.looks r before))
+served_step : (c : Setup) (k : Learnt) (looks : List CommandLook) (tracks : List TrackKept) (i : ℕ) (before : List LifeStep) → life_at tracks i ≡ life_of before
+    → (served c k looks tracks i).life ≡ life_of (let s = track_at tracks i in let h = heard k i s in let r = ready k i s in
+    if s.life.ended then before else heard_of h.known ∷ (if is_some r.awaits then before else looks_steps (slot_for c tracks i) h.flush_seen looks r before))
 unfolding served after_part
-served_step c k seen tracks i before eq =
+served_step c k looks tracks i before eq =
     let s : TrackKept = track_at tracks i in
     let r : TrackKept = ready k i s in
     let h : Heard = heard k i s in
-    let commands : (after_commands (slot_for c tracks i) h seen.looks r).life ≡ life_of (if is_some r.awaits then before else looks_steps (slot_for c tracks i) h.flush_seen seen.looks r before) =
-    commands_step (slot_for c tracks i) h.flush_seen seen.looks r before (ready_keeps k i s ∙ eq) in
+    let commands : (after_commands (slot_for c tracks i) h looks r).life ≡ life_of (if is_some r.awaits then before else looks_steps (slot_for c tracks i) h.flush_seen looks r before) =
+    commands_step (slot_for c tracks i) h.flush_seen looks r before (ready_keeps k i s ∙ eq) in
     both_ways s.life.ended s _ before _ eq (ap (by_report h.known) commands)
 
 -- ## All tracks
 
-served_len : (c : Setup) (k : Learnt) (turns : List TrackSeen) (tracks : List TrackKept) (n : ℕ) → length (served_to c k turns tracks n) ≡ length tracks
+pub served_len : (c : Setup) (k : Learnt) (turns : List TrackSeen) (tracks : List TrackKept) (n : ℕ) → length (served_to c k turns tracks n) ≡ length tracks
 served_len c k turns tracks zero = refl
 served_len c k turns tracks (suc n) = length-set (served_to c k turns tracks n) n _ ∙ served_len c k turns tracks n
 
 -- a track is as it was until it is served
-not_yet : (c : Setup) (k : Learnt) (turns : List TrackSeen) (tracks : List TrackKept) (n i : ℕ) → n ≤ i → track_at (served_to c k turns tracks n) i ≡ track_at tracks i
+pub not_yet : (c : Setup) (k : Learnt) (turns : List TrackSeen) (tracks : List TrackKept) (n i : ℕ) → n ≤ i → track_at (served_to c k turns tracks n) i ≡ track_at tracks i
 not_yet c k turns tracks zero i le = refl
 not_yet c k turns tracks (suc n) i le = get_or-set_other (served_to c k turns tracks n) n i _ _ (λ h. absurd (omega arith)) ∙ not_yet c k turns tracks n i (omega arith)
 
 -- and stays from then on
-from_then : (c : Setup) (k : Learnt) (turns : List TrackSeen) (tracks : List TrackKept) (n i : ℕ) → i < n → n ≤ length tracks → track_at (served_to c k turns tracks n) i ≡ served c k (seen_at turns i) (served_to c k turns tracks i) i
+from_then : (c : Setup) (k : Learnt) (turns : List TrackSeen) (tracks : List TrackKept) (n i : ℕ) → i < n → n ≤ length tracks → track_at (served_to c k turns tracks n) i ≡ served c k (seen_at turns i).looks (served_to c k turns tracks i) i
 from_then c k turns tracks zero i lt le = absurd (omega arith)
-from_then c k turns tracks (suc n) i lt le = elim (cases_eq i n) as (λ x. track_at (slice_set (served_to c k turns tracks n) n (served c k (seen_at turns n) (served_to c k turns tracks n) n)) i ≡ served c k (seen_at turns i) (served_to c k turns tracks i) i) [
-  | inl p ↦ get_or-set_at (served_to c k turns tracks n) n i (served c k (seen_at turns n) (served_to c k turns tracks n) n) new_track p (let l : length (served_to c k turns tracks n) ≡ length tracks = served_len c k turns tracks n in omega arith)
-      ∙ ap (λ (j : ℕ). served c k (seen_at turns j) (served_to c k turns tracks j) j) (sym p)
-  | inr other ↦ get_or-set_other (served_to c k turns tracks n) n i (served c k (seen_at turns n) (served_to c k turns tracks n) n) new_track other ∙ from_then c k turns tracks n i (omega arith) (omega arith)
+from_then c k turns tracks (suc n) i lt le = elim (cases_eq i n) as (λ x. track_at (slice_set (served_to c k turns tracks n) n (served c k (seen_at turns n).looks (served_to c k turns tracks n) n)) i ≡ served c k (seen_at turns i).looks (served_to c k turns tracks i) i) [
+  | inl p ↦ get_or-set_at (served_to c k turns tracks n) n i (served c k (seen_at turns n).looks (served_to c k turns tracks n) n) new_track p (let l : length (served_to c k turns tracks n) ≡ length tracks = served_len c k turns tracks n in omega arith)
+      ∙ ap (λ (j : ℕ). served c k (seen_at turns j).looks (served_to c k turns tracks j) j) (sym p)
+  | inr other ↦ get_or-set_other (served_to c k turns tracks n) n i (served c k (seen_at turns n).looks (served_to c k turns tracks n) n) new_track other ∙ from_then c k turns tracks n i (omega arith) (omega arith)
 ]
 
 -- the life of the track i after all were served, with the steps that it made before
@@ -165,9 +165,9 @@ tracks_step : (c : Setup) (k : Learnt) (turns : List TrackSeen) (tracks : List T
     if s.life.ended then before else heard_of h.known ∷ (if is_some r.awaits then before else looks_steps (slot_for c all i) h.flush_seen (seen_at turns i).looks r before))
 tracks_step c k turns tracks i before lt eq =
     ap (λ (s : TrackKept). s.life) (from_then c k turns tracks (length tracks) i lt (omega arith))
-    ∙ served_step c k (seen_at turns i) (served_to c k turns tracks i) i before (ap (λ (s : TrackKept). s.life) (not_yet c k turns tracks i i (omega arith)) ∙ eq)
+    ∙ served_step c k (seen_at turns i).looks (served_to c k turns tracks i) i before (ap (λ (s : TrackKept). s.life) (not_yet c k turns tracks i i (omega arith)) ∙ eq)
 
-acked_len : (ack : Bool) (m : NormalKept) → length (after_ack ack m).tracks ≡ length m.tracks
+pub acked_len : (ack : Bool) (m : NormalKept) → length (after_ack ack m).tracks ≡ length m.tracks
 acked_len true m = length-map m.tracks (welcomed m.last)
 acked_len false m = refl
 
@@ -201,28 +201,28 @@ either_len : (b : Bool) (m n : NormalKept) (k : ℕ) → length m.tracks ≡ k �
 either_len true m n k e f = e
 either_len false m n k e f = f
 
-edits_len : (c : Setup) (k : Learnt) (m : NormalKept) (n : ℕ) → length (edited_to c k m n).tracks ≡ length m.tracks
+pub edits_len : (c : Setup) (k : Learnt) (m : NormalKept) (n : ℕ) → length (edited_to c k m n).tracks ≡ length m.tracks
 unfolding edited let_go lend
 edits_len c k m zero = refl
 edits_len c k m (suc n) = let edits : NormalKept = edited_to c k m n in
     either_len (must_leave (track_at edits.tracks n)) (let_go n edits) _ (length m.tracks) (length-set edits.tracks n _ ∙ edits_len c k m n)
     (either_len (must_enter (track_at edits.tracks n)) (lend c n (k.own n) edits) edits (length m.tracks) (length-set edits.tracks n _ ∙ edits_len c k m n) (edits_len c k m n))
 
-mutation_len : (c : Setup) (k : Learnt) (room : ℕ) (m : NormalKept) → length (mutated c k room m).tracks ≡ length m.tracks
+pub mutation_len : (c : Setup) (k : Learnt) (room : ℕ) (m : NormalKept) → length (mutated c k room m).tracks ≡ length m.tracks
 unfolding mutated ordered
 mutation_len c k room m = let edits : NormalKept = edited_to c k m (length m.tracks) in
     either_len _ edits _ (length m.tracks) (edits_len c k m (length m.tracks)) (edits_len c k m (length m.tracks))
 
-push_len : (push : Push) (m : NormalKept) → length (after_push push m).tracks ≡ length m.tracks
+pub push_len : (push : Push) (m : NormalKept) → length (after_push push m).tracks ≡ length m.tracks
 push_len (Pushed number) m = refl
 push_len Clean m = refl
 push_len (Busy seen expected) m = refl
 
-takes_len : (asked : ℕ) (takes : List TakeSeen) (tracks : List TrackKept) → length (fold (after_take asked) tracks takes) ≡ length tracks
+pub takes_len : (asked : ℕ) (takes : List TakeSeen) (tracks : List TrackKept) → length (fold (after_take asked) tracks takes) ≡ length tracks
 takes_len asked [] tracks = refl
 takes_len asked (take ∷ takes) tracks = takes_len asked takes (after_take asked tracks take) ∙ length-set tracks take.track _
 
-turn_len : (c : Setup) (k : Learnt) (m : NormalKept) (e : Turn) → length (turn_after c k m e).tracks ≡ length m.tracks
+pub turn_len : (c : Setup) (k : Learnt) (m : NormalKept) (e : Turn) → length (turn_after c k m e).tracks ≡ length m.tracks
 unfolding turn_after
 turn_len c k m e = either_len e.ended (record m { ended = true }) _ (length m.tracks) refl
     (takes_len (asked c) e.mixes (after_push e.push (after_edits c k e m)).tracks ∙ push_len e.push (after_edits c k e m)

@@ -1,5 +1,5 @@
 -- What the normal mixer is between two turns, in plain values, and what a turn sees beside its entry.
-use Rattle.std.specs.Prelude.{ℕ, ◌*◌, map, ◌&&◌, not, Bool, true, false, List, [], slice_index_or, Some, None}
+use Rattle.std.specs.Prelude.{ℕ, ◌*◌, length, replicate, ◌&&◌, not, Bool, true, false, List, [], slice_index_or, Option, Some, None}
 use Rattle.af_base.specs.declared.report.Report.{Report}
 use Rattle.af_base.specs.declared.state.FastState.{FastState}
 use Rattle.af_base.specs.Turn.{Turn, TrackSeen}
@@ -65,7 +65,7 @@ track_at tracks i = slice_index_or tracks i new_track
 
 -- the mixer before its first turn
 abbrev pub new_normal : Setup → NormalKept
-new_normal c = record { tracks = map (λ setting. new_track) c.settings; draft = initial c.frames; dirty = false; pushed = 0; last = initial c.frames; ended = false }
+new_normal c = record { tracks = replicate (length c.settings) new_track; draft = initial c.frames; dirty = false; pushed = 0; last = initial c.frames; ended = false }
 
 -- a track is to be heard: it is in the mix and has not ended
 abbrev pub plays : Life → Bool
@@ -83,9 +83,14 @@ abbrev pub is_returning : Holder → Bool
 is_returning Returning = true
 is_returning _ = false
 
--- the slot of a track, 0 where it has none
+-- the number of a slot, 0 where there is none
+abbrev pub number_of : Option ℕ → ℕ
+number_of None = 0
+number_of (Some k) = k
+
+-- that of a track's slot
 abbrev pub slot_number : TrackKept → ℕ
-slot_number s = elim s.slot as (λ slot. ℕ) [ None ↦ 0 | Some k ↦ k ]
+slot_number s = number_of s.slot
 
 -- ## What a turn sees
 

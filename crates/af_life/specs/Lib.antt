@@ -11,3 +11,5 @@ pub mod Plays
 pub mod Turn
 pub mod TurnEvents
 pub mod Drained
+pub mod Small
+pub mod Plain

@@ -63,13 +63,13 @@ pub record IsServed (given : Option ℕ) (h : Heard) (seen : TrackSeen) (s : Tra
 -- ## All tracks
 
 -- the track i after its part of the turn; one that had ended is passed over
-unfoldable pub served : Setup → Learnt → TrackSeen → List TrackKept → ℕ → TrackKept
-served c k seen tracks i = let s = track_at tracks i in
-    if s.life.ended then s else after_part (slot_for c tracks i) (heard k i s) seen.looks (ready k i s)
+unfoldable pub served : Setup → Learnt → List CommandLook → List TrackKept → ℕ → TrackKept
+served c k looks tracks i = let s = track_at tracks i in
+    if s.life.ended then s else after_part (slot_for c tracks i) (heard k i s) looks (ready k i s)
 
 -- the tracks with the track i served, by what the tracks before it left
 abbrev pub with_served : Setup → Learnt → List TrackSeen → ℕ → List TrackKept → List TrackKept
-with_served c k seen i tracks = slice_set tracks i (served c k (seen_at seen i) tracks i)
+with_served c k seen i tracks = slice_set tracks i (served c k (seen_at seen i).looks tracks i)
 
 -- the tracks after the first ones were served
 abbrev pub served_to : Setup → Learnt → List TrackSeen → List TrackKept → ℕ → List TrackKept

@@ -4,15 +4,16 @@ ghost use Rattle.std.specs.List.{list_any};
 ghost use Rattle.af_base.specs.Log.{slots};
 ghost use Rattle.af_life.specs.Kept.{is_home, is_lent, is_returning, slot_number, plays};
 ghost use Rattle.af_life.specs.Obeys.{holds, free_slot};
-ghost use Rattle.af_life.specs.Edits.{comes_home, must_leave, must_enter, is_over, next_command};
+ghost use Rattle.af_life.specs.Edits.{comes_home, welcomed, lent_by, must_leave, must_enter, is_over, next_command};
 
-use crate::kept::{Holder, TrackKept};
+use crate::heard::NO_COUNTS;
+use crate::kept::{Heard, Holder, TrackKept};
 use af_base::{Command, FastState, SLOTS};
 use af_model::carries_item;
 
 impl TrackKept {
-    // The slot of the track, 0 where it has none.
-    fn slot_number(self) -> u32
+    /// The slot of the track, 0 where it has none.
+    pub fn slot_number(self) -> u32
         ensures { result ≡ slot_number self }
     {
         match self.slot {
@@ -35,6 +36,35 @@ impl TrackKept {
         ensures { result ≡ comes_home last.now self }
     {
         self.holder == Holder::Returning && !carries_item(last, self.slot_number() as usize)
+    }
+
+    /// The track once the last state pushed is acknowledged: its proxy is home where it comes.
+    #[tactic(auto, unfolding(crate::specs::Edits::welcomed))]
+    pub fn welcomed(self, last: &FastState) -> TrackKept
+        requires slot { slot_number self < slots }
+        ensures { result ≡ welcomed last.now self }
+    {
+        if !self.comes_home(last) {
+            return self;
+        }
+        TrackKept {
+            holder: Holder::Home,
+            ..self
+        }
+    }
+
+    /// The track lent by a draft: from here on it is known by the reports of its slot's new generation. `own` is what its proxy knows.
+    pub fn lent_by(self, draft: &FastState, own: Heard) -> TrackKept
+        requires slot { slot_number self < slots }
+        ensures { result ≡ lent_by draft.now own self }
+    {
+        TrackKept {
+            holder: Holder::Lent,
+            generation: draft.slots[self.slot_number() as usize].generation,
+            at_attach: own,
+            reported: NO_COUNTS,
+            ..self
+        }
     }
 
     /// Whether the track is to be detached: it is lent, and not to be heard.

@@ -1,5 +1,5 @@
 //! What a turn knows of a track's stream, and the START that this settles.
-ghost use Rattle.std.specs.Prelude.{◌≡◌, ◌<◌, ◌^◌};
+ghost use Rattle.std.specs.Prelude.{◌≡◌, ◌+◌, ◌<◌, ◌≤◌, ◌^◌};
 ghost use Rattle.af_life.specs.Heard.{heard_with, heard_by, noted, settled_at, counts_in, grown, is_reported};
 
 use crate::Known;
@@ -76,7 +76,8 @@ impl TrackKept {
     /// The track once its looks were heard of: none of them is told again.
     #[tactic(auto, unfolding(crate::specs::Heard::noted))]
     pub fn noted(self, reported: SlotReport) -> TrackKept
-        ensures { result ≡ noted reported self }
+        ensures noted { result ≡ noted reported self }
+        ensures settled { result.settled ≡ self.settled }
     {
         match self.holder {
             Holder::Home => TrackKept {
@@ -95,7 +96,8 @@ impl TrackKept {
     #[tactic(auto, unfolding(crate::specs::Heard::settled_at))]
     pub fn settled_at(self, flush_seen: u32) -> TrackKept
         requires room { self.settled < 2 ^ 31 }
-        ensures { result ≡ settled_at flush_seen self }
+        ensures settles { result ≡ settled_at flush_seen self }
+        ensures few { result.settled ≤ self.settled + 1 }
     {
         match self.awaits {
             Some(count) if count <= flush_seen => TrackKept {

@@ -10,6 +10,8 @@ mod heard;
 mod kept;
 mod laws;
 mod obeys;
+mod plain;
+mod plays;
 mod serves;
 mod state;
 mod track;
@@ -19,7 +21,8 @@ pub use edits::{free_slot, next_command};
 pub use heard::NO_COUNTS;
 pub use kept::{Counts, Heard, Holder, Setting, TrackKept};
 pub use laws::a_drained_track_was_reached;
-pub use serves::stored_over;
+pub use plain::{PlainMixer, new_track};
+pub use serves::{is_found_shut, stored_over};
 pub use state::LifeState;
 pub use track::{Known, Life, RETRIES, fresh};
 
