@@ -1,6 +1,6 @@
 -- A mixer with one entry more is in order, and the entry is a legal one.
-use Rattle.std.proofs.Common.{◌≡◌, ℕ, suc, ◌+◌, ◌-◌, ◌*◌, ◌<◌, ◌≤◌, ◌||◌, Bool, true, false, if◌then◌else◌, List, [], ◌∷◌, ◌++◌, length, Option, Some, None, refl, sym, ap, subst, ◌∙◌, arith}
-use Rattle.std.proofs.lemmas.List.{length-append}
+use Rattle.std.proofs.Common.{◌≡◌, ℕ, suc, ◌+◌, ◌-◌, ◌*◌, ◌<◌, ◌≤◌, ◌||◌, Bool, true, false, if◌then◌else◌, List, [], ◌∷◌, ◌++◌, length, replicate, Option, Some, None, refl, sym, ap, subst, ◌∙◌, arith}
+use Rattle.std.proofs.lemmas.List.{length-append, get_or-replicate}
 use Rattle.std.proofs.Math.Nat.{suc-mul}
 use Rattle.af_base.specs.declared.log.CycleEntry.{CycleEntry}
 use Rattle.af_base.specs.declared.report.Report.{Report}
@@ -167,3 +167,11 @@ module _ (m n l : MixerState) (entry : CycleEntry) (k : IsInOrder m) (open_log :
 
   pub noted_order : IsInOrder l
   noted_order = subst IsInOrder (sym is_now) now_in_order
+
+-- before the first entry nothing was reported
+none_few : (i : ℕ) → i < slots → IsFew 1 (report_at (replicate slots no_slot) i)
+none_few i lt = subst (IsFew 1) (sym (get_or-replicate slots i no_slot no_slot lt)) (omega arith, omega arith, omega arith)
+
+pub nothing_reported : (entries : ℕ) (events : List (WriterEvent Report)) (s : SlotReport) → entries ≡ 0 → events ≡ [] → s ≡ no_slot → Reported entries events (replicate slots s)
+nothing_reported entries events s none empty is =
+    subst (λ (y : ℕ × List (WriterEvent Report) × SlotReport). Reported y.0 y.1 (replicate slots y.2)) (λ i. (sym none i, sym empty i, sym is i)) (record { many = refl; number = refl; slots_are = refl; whole = refl; few = none_few })
