@@ -1,22 +1,10 @@
 -- The steps of a cycle by the tracks of its state.
-use Rattle.std.proofs.Common.{◌≡◌, ℕ, zero, suc, ◌+◌, ◌*◌, ◌≤◌, ◌<◌, Bool, true, false, if◌then◌else◌, refl, sym, ap, ◌∙◌, arith}
+use Rattle.std.proofs.Common.{◌≡◌, ℕ, zero, suc, ◌+◌, ◌*◌, ◌≤◌, Bool, true, false, if◌then◌else◌, refl, ap, ◌∙◌, arith}
 use Rattle.std.proofs.Math.Nat.{mul-add, suc-mul, mul_comm, mul-le-mul_left}
 use Rattle.af_base.specs.declared.state.FastState.{FastState}
 use Rattle.af_base.specs.Log.{slots}
 use Rattle.af_model.specs.StateQueue.{carries}
-use Rattle.af_model.specs.declared.plain_calls.Poll.{Poll}
-use Rattle.af_model.specs.declared.plain_calls.Poll.TheVariants.{Nothing, Same, New}
-use Rattle.af_server.specs.Order.{ServerState}
-use Rattle.af_stateq.specs.Answers.{WasPolled}
-use Rattle.af_stateq.specs.Observes.{Observes}
-use Rattle.af_link.specs.declared.names.StreamNames.{StreamNames}
 use Rattle.af_fast.specs.Tracks.{tracks_below, tracks_of}
-
--- a poll takes one step or two
-pub poll_few : (o : Observes ServerState StreamNames) (poll : Poll) (o' : Observes ServerState StreamNames) (s s' : ℕ) → WasPolled o poll o' s s' → s' ≤ s + 2
-poll_few o Nothing o' s s' (none, is, stepped) = omega (arith, stepped)
-poll_few o Same o' s s' (some, is, stepped) = omega (arith, stepped)
-poll_few o (New number) o' s s' (next, took, stepped) = omega (arith, stepped)
 
 one_each : (each total after before bound : ℕ) (b : Bool) → before ≤ bound + total * each → (b ≡ true → after ≤ before + each) → (b ≡ false → after ≡ before) → after ≤ bound + (total + (if b then 1 else 0)) * each
 one_each each total after before bound true few on off =

@@ -11,7 +11,7 @@ use Rattle.af_base.specs.Log.{slots, entry_slot}
 use Rattle.af_model.specs.declared.newest.WriterEvent.{WriterEvent}
 use Rattle.af_model.specs.declared.newest.WriterEvent.TheVariants.{Store}
 use Rattle.af_model.specs.declared.newest.WriterEvent.TheVariants as writes
-use Rattle.af_model.specs.Cycles.{state_of, last_used, has_exit, is_exit, is_cold, cold_of, cold_done, UseUpTo}
+use Rattle.af_model.specs.Cycles.{state_of, last_used, is_exit, is_cold, cold_of, cold_done, UseUpTo}
 use Rattle.af_model.specs.Reports.{ServerKnown, no_slot, no_report, report_at, one_if, is_full, is_partial, is_empty, counted_look, carried, slot_report}
 use Rattle.af_model.specs.StateQueue.{carries, slot_of}
 use Rattle.af_model.proofs.UsedStates.{last_used-push, has_exit-push, cold_done-push, UseUpTo-push, UseUpTo-more}
