@@ -3,7 +3,7 @@ use Rattle.std.proofs.Common.{◌≡◌, ℕ, zero, suc, ◌<◌, ◌≤◌, Boo
 use Rattle.std.specs.Prelude.{◌==◌, ◌&&◌, not, nat_le}
 use Rattle.af_life.specs.State.{is_among}
 use Rattle.af_life.specs.declared.state.LifeState.{LifeState}
-use Rattle.af_life.specs.declared.state.LifeState.TheVariants.{Absent, Idle, Active, Pausing, Paused, Resuming, Stopping1, Stopping2, Stopped, Flushed}
+use Rattle.af_life.specs.declared.state.LifeState.TheVariants.{Absent, Active, Pausing, Paused, Resuming, Stopping1, Stopping2}
 use Rattle.af_life.specs.declared.track.Known.{Known}
 use Rattle.af_life.specs.declared.track.Life.{Life}
 use Rattle.af_life.specs.Commands.{by_command, starts, commands, first_effect, opened, stoppable}

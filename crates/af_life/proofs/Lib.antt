@@ -5,3 +5,4 @@ mod Reached
 mod Settles
 mod Smalls
 mod SmallTurns
+mod SmallTests

@@ -1,14 +1,11 @@
 -- A turn keeps the numbers of a mixer small.
-use Rattle.std.proofs.Common.{◌≡◌, ℕ, zero, suc, refl, ◌+◌, ◌*◌, ◌<◌, ◌≤◌, Bool, true, false, if◌then◌else◌, ap, ◌∙◌, subst, sym, List, length, arith}
-use Rattle.std.proofs.lemmas.List.{length-map}
+use Rattle.std.proofs.Common.{◌≡◌, ℕ, zero, suc, refl, ◌+◌, ◌*◌, ◌≤◌, Bool, true, false, if◌then◌else◌, ◌∙◌, length, arith}
 use Rattle.af_base.specs.declared.state.Command.{Command}
 use Rattle.af_base.specs.declared.state.Push.{Push}
 use Rattle.af_base.specs.declared.state.Push.TheVariants.{Pushed, Clean, Busy}
-use Rattle.af_base.specs.Turn.{Turn, TakeSeen}
-use Rattle.af_model.specs.StateQueue.{slot_of}
-use Rattle.af_life.specs.declared.kept.TrackKept.{TrackKept}
+use Rattle.af_base.specs.Turn.{Turn}
 use Rattle.af_life.specs.Kept.{Setup, asked, pipe_size, NormalKept, Learnt, track_at}
-use Rattle.af_life.specs.Edits.{welcomed, after_ack, is_exit, must_leave, must_enter, let_go, lend, edited, edited_to, next_command, commanded_by, ordered, mutated, after_push}
+use Rattle.af_life.specs.Edits.{after_ack, is_exit, must_leave, must_enter, let_go, lend, edited, edited_to, next_command, commanded_by, ordered, mutated, after_push}
 use Rattle.af_life.specs.Plays.{after_takes}
 use Rattle.af_life.specs.Turn.{after_tracks, after_edits, turn_after}
 use Rattle.af_life.specs.Small.{IsSmallState, IsEdited, IsSmall, IsSmallTurn, most_tracks}

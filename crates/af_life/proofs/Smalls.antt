@@ -1,32 +1,27 @@
 -- The numbers of a mixer grow by little in each step of a turn.
-use Rattle.std.proofs.Common.{◌≡◌, ℕ, zero, suc, ◌+◌, ◌*◌, ◌<◌, ◌≤◌, Bool, true, false, if◌then◌else◌, is_some, not, sym, refl, ap, ◌∙◌, List, [], ◌∷◌, length, map, fold, replicate, Option, Some, None, arith}
+use Rattle.std.proofs.Common.{◌≡◌, ℕ, zero, suc, ◌+◌, ◌<◌, ◌≤◌, Bool, true, false, if◌then◌else◌, is_some, not, ap, List, [], ◌∷◌, length, map, fold, replicate, Option, Some, None, arith}
 use Rattle.std.specs.Prelude.{slice_set, slice_index_or}
 use Rattle.std.specs.List.{find, range_with_len, list_any}
-use Rattle.std.proofs.lemmas.List.{get_or-replicate, length-replicate}
+use Rattle.std.proofs.lemmas.List.{length-replicate}
 use Rattle.af_base.specs.declared.report.SlotReport.{SlotReport}
-use Rattle.af_base.specs.declared.seen.Seen.{Seen}
 use Rattle.af_base.specs.declared.state.Command.{Command}
 use Rattle.af_base.specs.declared.state.FastState.{FastState}
 use Rattle.af_base.specs.declared.state.FastTrack.{FastTrack}
-use Rattle.af_base.specs.declared.state.Push.{Push}
-use Rattle.af_base.specs.declared.state.Push.TheVariants.{Pushed, Clean, Busy}
 use Rattle.af_base.specs.declared.turn.CommandLook.{CommandLook}
 use Rattle.af_base.specs.Log.{slots}
-use Rattle.af_base.specs.Turn.{Turn, TrackSeen, TakeSeen}
-use Rattle.af_model.specs.Draft.{renewed}
+use Rattle.af_base.specs.Turn.{TrackSeen, TakeSeen}
 use Rattle.af_model.specs.Reports.{one_if, is_full, is_partial, is_empty}
 use Rattle.af_model.specs.StateQueue.{slot_of, no_track}
-use Rattle.af_life.specs.declared.kept.Counts.{Counts}
 use Rattle.af_life.specs.declared.kept.Heard.{Heard}
 use Rattle.af_life.specs.declared.kept.TrackKept.{TrackKept}
 use Rattle.af_life.specs.Kept.{Setup, asked, NormalKept, Learnt, track_at, new_track, new_normal, number_of, slot_number, is_home, seen_at, setting_of}
 use Rattle.af_life.specs.Heard.{heard, slot_reported, noted, is_reported, settled_at, is_reached, ready}
 use Rattle.af_life.specs.Obeys.{holds, free_slot, slot_for, opens, told, must_wait, shows_command, is_shut, obeyed, ended, after_look, goes_on, after_looks, commanded}
 use Rattle.af_life.specs.Serves.{served, served_to, after_part}
-use Rattle.af_life.specs.Edits.{comes_home, welcomed, after_ack, must_leave, must_enter, entered, let_go, lend, edited, edited_to, next_command, ordered, mutated, after_push}
-use Rattle.af_life.specs.Plays.{counted, after_take}
-use Rattle.af_life.specs.Small.{AreUpTo, IsSmallTrack, AreSmall, IsSmallState, IsEdited, IsSmall, IsSmallTurn, most_tracks}
-use Rattle.af_life.proofs.Lives.{not_yet, served_len}
+use Rattle.af_life.specs.Edits.{comes_home, welcomed, after_ack, must_leave, must_enter, let_go, lend, edited, edited_to, ordered}
+use Rattle.af_life.specs.Plays.{after_take}
+use Rattle.af_life.specs.Small.{AreUpTo, IsSmallTrack, AreSmall, IsEdited, IsSmall, most_tracks}
+use Rattle.af_life.proofs.Lives.{not_yet}
 use Rattle.af_life.proofs.Settles.{commands_settle}
 
 -- ## Lists of tracks

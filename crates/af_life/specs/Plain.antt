@@ -1,5 +1,5 @@
 -- A mixer as a plain value: what it was made of, what it keeps, and how many turns it made.
-use Rattle.std.specs.Prelude.{◌≡◌, ℕ, ◌<◌, List, slice_index_or}
+use Rattle.std.specs.Prelude.{ℕ, List, slice_index_or}
 use Rattle.af_base.specs.declared.report.Report.{Report}
 use Rattle.af_life.specs.declared.kept.Heard.{Heard}
 use Rattle.af_life.specs.Kept.{Setup, NormalKept, Learnt, nothing_heard}

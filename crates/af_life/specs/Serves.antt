@@ -1,5 +1,5 @@
 -- What a turn makes of each track before the draft is edited.
-use Rattle.std.specs.Prelude.{◌≡◌, ℕ, zero, suc, ◌+◌, ◌*◌, ◌==◌, ◌||◌, Bool, true, false, if◌then◌else◌, is_some, MatchBool, List, [], slice_set, Option, Some, None}
+use Rattle.std.specs.Prelude.{◌≡◌, ℕ, zero, suc, ◌+◌, ◌*◌, ◌==◌, ◌||◌, Bool, true, if◌then◌else◌, is_some, MatchBool, List, [], slice_set, Option, Some, None}
 use Rattle.std.specs.List.{list_any}
 use Rattle.af_base.specs.declared.turn.CommandLook.{CommandLook}
 use Rattle.af_base.specs.Turn.{TrackSeen}

@@ -1,5 +1,6 @@
 -- How large the numbers of a mixer become, so that none leaves its type. A turn settles a START that waited and one command a look, edits the draft once a track, and counts one look a take.
-use Rattle.std.specs.Prelude.{◌≡◌, ℕ, ◌*◌, ◌+◌, ◌<◌, ◌≤◌, List, length}
+use Rattle.std.specs.Prelude.{◌≡◌, ℕ, ◌*◌, ◌<◌, ◌≤◌, ◌&&◌, nat_le, Bool, List, length}
+use Rattle.std.specs.List.{list_all}
 use Rattle.af_base.specs.declared.state.FastState.{FastState}
 use Rattle.af_base.specs.Log.{slots}
 use Rattle.af_base.specs.Turn.{Turn}
@@ -49,3 +50,7 @@ pub record IsSmall (turns : ℕ) (c : Setup) (m : NormalKept) : Type 0 where
 pub record IsSmallTurn (e : Turn) : Type 0 where
   pub looks : (i : ℕ) → length (track_in e i).looks ≤ 64
   pub mixes : length e.mixes ≤ most_tracks
+
+-- the same as a test
+abbrev pub is_small_turn : Turn → Bool
+is_small_turn e = list_all (λ seen. nat_le (length seen.looks) 64) e.tracks && nat_le (length e.mixes) most_tracks

@@ -1,5 +1,6 @@
 //! A turn of the normal mixer over plain values: the definition as a program, slow and without blocks, queue or pipe.
-ghost use Rattle.std.specs.Prelude.{◌≡◌, ℕ, ◌+◌, ◌*◌, ◌-◌, ◌<◌, ◌≤◌, ◌^◌, if◌then◌else◌, length, map, IfOk};
+ghost use Rattle.std.specs.Prelude.{◌≡◌, ℕ, ◌+◌, ◌*◌, ◌-◌, ◌<◌, ◌≤◌, ◌^◌, if◌then◌else◌, length, map, nat_le, true, IfOk};
+ghost use Rattle.std.specs.List.{list_all};
 ghost use Rattle.af_base.specs.Command.{code_of};
 ghost use Rattle.af_base.specs.Log.{slots};
 ghost use Rattle.af_base.specs.Turn.{turn_of, take_seen};
@@ -12,7 +13,7 @@ ghost use Rattle.af_life.specs.Serves.{served, served_to};
 ghost use Rattle.af_life.specs.Edits.{welcomed, after_ack, let_go, lend, edited, edited_to, commanded_by, after_push};
 ghost use Rattle.af_life.specs.Plays.{after_take, after_takes};
 ghost use Rattle.af_life.specs.Turn.{after_tracks, after_edits, turn_after};
-ghost use Rattle.af_life.specs.Small.{AreUpTo, AreSmall, IsEdited, IsSmall, IsSmallTurn, most_tracks};
+ghost use Rattle.af_life.specs.Small.{AreUpTo, AreSmall, IsEdited, IsSmall, is_small_turn, IsSmallTurn, most_tracks};
 ghost use Rattle.af_life.specs.Plain.{Plain, learnt_of};
 
 use crate::edits::{free_slot, next_command};
@@ -21,7 +22,7 @@ use crate::kept::{Heard, Holder, Setting, TrackKept};
 use crate::{Known, fresh};
 use af_base::{
     Command, CommandLook, FastState, FastTrack, Memory, NormalTake, Push, Report, SlotReport,
-    TurnEntry,
+    TrackTurn, TurnEntry,
 };
 use af_model::first_state;
 use std::alloc::Global;
@@ -51,7 +52,7 @@ impl Model for PlainMixer {
 }
 
 // What is known of a proxy that has done nothing.
-const NOTHING_HEARD: Heard = Heard {
+pub(crate) const NOTHING_HEARD: Heard = Heard {
     known: Known {
         consumed: 0,
         fulls: 0,
@@ -138,6 +139,20 @@ fn looks_at(entry: &TurnEntry, track: usize) -> &[CommandLook]
     }
 }
 
+// Whether no track has more looks than a turn makes.
+fn few_looks(turns: &[TrackTurn]) -> bool
+    ensures { result ≡ list_all (λ seen. nat_le (length seen.looks.items) 64) turns.now }
+{
+    turns.iter().all(|seen| seen.looks.as_slice().len() <= 64)
+}
+
+/// Whether an entry holds no more looks at commands and no more takes than a turn makes.
+pub fn is_small_turn(entry: &TurnEntry) -> bool
+    ensures { result ≡ is_small_turn (turn_of entry.now) }
+{
+    few_looks(entry.tracks.as_slice()) && entry.mixes.as_slice().len() <= 32
+}
+
 impl PlainMixer {
     /// A mixer before its first turn, of these tracks. Memory is its only refusal.
     pub fn new(
@@ -192,6 +207,13 @@ impl PlainMixer {
         ensures { result ≡ self.now.kept.pushed }
     {
         self.pushed
+    }
+
+    /// How many turns were made.
+    pub fn turns(&self) -> u32
+        ensures { result ≡ self.now.turns }
+    {
+        self.turns
     }
 
     /// Whether a turn answered that the mixer has ended.
@@ -424,7 +446,7 @@ impl PlainMixer {
     /// What a turn leaves, by its entry, the report that it loaded, and what each stream proxy knows that is home. It never asks whether the turn was legal.
     pub fn turn(&mut self, report: &Report, own: &[Heard], entry: &TurnEntry)
         requires small { IsSmall self.old.turns self.old.setup self.old.kept }
-        requires entry { IsSmallTurn (turn_of entry.now) }
+        requires entry { is_small_turn (turn_of entry.now) ≡ true }
         requires turns { self.old.turns < 131072 }
         requires own { length own.now ≡ length self.old.kept.tracks }
         ensures turn { self.new ≡ record self.old { kept = turn_after self.old.setup (learnt_of report.now own.now) self.old.kept (turn_of entry.now); turns = self.old.turns + 1 } }

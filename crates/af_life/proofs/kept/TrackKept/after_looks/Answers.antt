@@ -1,4 +1,4 @@
-use Rattle.std.proofs.Common.{◌≡◌, ℕ, suc, ◌+◌, ◌<◌, ◌≤◌, Bool, true, false, if◌then◌else◌, true≢false, List, ◌∷◌, refl, sym, ap, ◌∙◌, subst, Option, drop, length, add-one, slice_index_or, arith}
+use Rattle.std.proofs.Common.{◌≡◌, ℕ, suc, Bool, true, false, if◌then◌else◌, true≢false, List, ◌∷◌, refl, sym, ap, ◌∙◌, Option, drop, add-one, slice_index_or, arith}
 use Rattle.std.proofs.Math.Seq.{drop-cons}
 use Rattle.af_base.specs.declared.turn.CommandLook.{CommandLook}
 use Rattle.af_life.specs.declared.kept.TrackKept.{TrackKept}

@@ -1,10 +1,9 @@
-use Rattle.std.proofs.Common.{◌≡◌, ℕ, ◌+◌, ◌<◌, ◌≤◌, sym, ap, ◌∙◌, subst, List, length, map, take, ◌^◌, length-take-le, arith}
+use Rattle.std.proofs.Common.{ap, List, map, take, ◌^◌, length-take-le, arith}
 use Rattle.std.proofs.lemmas.List.{length-map}
 use Rattle.af_base.specs.declared.turn.NormalTake.{NormalTake}
-use Rattle.af_base.specs.Turn.{TakeSeen, take_seen}
+use Rattle.af_base.specs.Turn.{take_seen}
 use Rattle.af_life.specs.declared.kept.Counts.{Counts}
 use Rattle.af_life.specs.Kept.{asked, track_at}
-use Rattle.af_life.specs.Small.{AreSmall}
 use Rattle.af_life.specs.Plain.{Plain}
 use Rattle.af_life.proofs.Smalls.{takes_small}
 use Rattle.af_life.proofs.plain.PlainMixer.count_all.Goals as goal

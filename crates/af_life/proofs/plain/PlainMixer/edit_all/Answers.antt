@@ -1,7 +1,5 @@
-use Rattle.std.proofs.Common.{◌≡◌, ℕ, ◌+◌, ◌*◌, ◌<◌, ◌≤◌, sym, ap, ◌∙◌, subst, length, arith}
-use Rattle.af_model.specs.StateQueue.{slot_of}
+use Rattle.std.proofs.Common.{◌≡◌, ◌+◌, ◌*◌, ◌<◌, sym, ap, ◌∙◌, subst, length, arith}
 use Rattle.af_life.specs.Kept.{NormalKept, track_at, slot_number}
-use Rattle.af_life.specs.Edits.{edited_to}
 use Rattle.af_life.specs.Small.{IsEdited, most_tracks}
 use Rattle.af_life.specs.Plain.{Plain, learnt_of}
 use Rattle.af_life.proofs.Lives.{edits_len}

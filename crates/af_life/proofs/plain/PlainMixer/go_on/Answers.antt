@@ -1,5 +1,4 @@
-use Rattle.std.proofs.Common.{◌≡◌, ℕ, ◌+◌, ◌*◌, ◌<◌, ◌≤◌, ◌^◌, List, map, sym, ap, ◌∙◌, subst, length, arith}
-use Rattle.af_base.specs.declared.state.Push.{Push}
+use Rattle.std.proofs.Common.{◌≡◌, ℕ, ◌+◌, ◌*◌, ◌≤◌, ◌^◌, List, map, sym, ap, ◌∙◌, subst, length, arith}
 use Rattle.af_base.specs.declared.turn.NormalTake.{NormalTake}
 use Rattle.af_base.specs.Turn.{Turn, take_seen, turn_of}
 use Rattle.af_life.specs.Kept.{Learnt}

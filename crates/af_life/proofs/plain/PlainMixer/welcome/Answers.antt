@@ -1,8 +1,7 @@
-use Rattle.std.proofs.Common.{◌≡◌, ◌<◌, ap, ◌∙◌, length, arith}
+use Rattle.std.proofs.Common.{◌<◌, ap, ◌∙◌, length, arith}
 use Rattle.std.proofs.lemmas.List.{get_or_default}
 use Rattle.std.proofs.lemmas.List.Edits.{map_over_more}
 use Rattle.std.specs.Prelude.{slice_set}
-use Rattle.af_life.specs.Kept.{track_at, new_track}
 use Rattle.af_life.specs.Edits.{welcomed}
 use Rattle.af_life.proofs.plain.PlainMixer.welcome.Goals as goal
 
