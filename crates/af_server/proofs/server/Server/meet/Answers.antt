@@ -13,9 +13,9 @@ pub returns-clause-ready : goal.returns-clause-ready
 returns-clause-ready g c =
     let old : ServerState = c.args.self.now in
     let count : ℕ = length c.args.client.now.part.events in
-    let done = met_keeps old.pass.part (server_did old.pass.part (server.Learn count)) old.flush old.front old.shown old.consumed old.shut count c.requires.ready.1 refl in
-    let there = subst (λ (x : ServerState). Keeps (server_did x.pass.part (server.Learn count)) x.flush x.front x.shown x.consumed x.shut) (sym c.self.view_is) done in
-    (search rules, subst (λ (x : ServerPart). Keeps x c.self.inside.flush c.self.inside.front c.self.inside.shown c.self.inside.consumed c.self.inside.shut) (sym (ap (λ (x : ServerSide). x.part) c.meet.ensures.server)) there)
+    let done = met_keeps old.pass.part (server_did old.pass.part (server.Learn count)) old.flush old.flushes old.front old.shown old.consumed old.shut count c.requires.ready.1 refl in
+    let there = subst (λ (x : ServerState). Keeps (server_did x.pass.part (server.Learn count)) x.flush x.flushes x.front x.shown x.consumed x.shut) (sym c.self.view_is) done in
+    (search rules, subst (λ (x : ServerPart). Keeps x c.self.inside.flush c.self.inside.flushes c.self.inside.front c.self.inside.shown c.self.inside.consumed c.self.inside.shut) (sym (ap (λ (x : ServerSide). x.part) c.meet.ensures.server)) there)
 
 pub returns-clause-begins : goal.returns-clause-begins
 returns-clause-begins g c = λ lawful none.
