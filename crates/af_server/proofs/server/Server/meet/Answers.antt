@@ -1,6 +1,7 @@
 use Rattle.std.proofs.Common.{rules, ◌≡◌, ℕ, true, length, refl, sym, ap, ◌∙◌, subst}
 use Rattle.af_base.specs.declared.event.ServerEvent.TheVariants as server
 use Rattle.af_model.specs.Fates.{drops_none}
+use Rattle.af_model.proofs.Discards.{discards-before}
 use Rattle.af_model.proofs.Fates.{taken_begins, drops_more}
 use Rattle.af_cblk.specs.declared.view.ServerPart.{ServerPart}
 use Rattle.af_cblk.specs.Parts.{server_did}
@@ -26,3 +27,8 @@ returns-clause-begins g c = λ lawful none.
     let clean : drops_none c.meet.new.server.part.events ≡ true =
     subst (λ (x : ServerPart). drops_none x.events ≡ true) (sym same) (drops_more c.args.self.now.pass.part.events (server.Learn count) refl none) in
     taken_begins _ _ _ _ _ _ told.2 clean
+
+pub returns-clause-flushed : goal.returns-clause-flushed
+returns-clause-flushed g c = λ lawful placed.
+    let told = c.meet.ensures.history lawful in
+    (told.0, (told.2, discards-before c.args.block.now.shape placed told.2.order told.2.legal))
