@@ -209,3 +209,14 @@ step_is k wrapped_so placed c same rear flushed here there =
     ap (λ (x : ℕ × ℕ). w + x.0 - x.1) (λ i. (a i, b i))
     ∙ sym (ap (λ (x : Bool). if x then 1 else w + released c % w - c.flush_at % w) (ne_eqb w 0 placed))
     ∙ ap (λ (z : ℕ). if z == 0 then 1 else z + released c % z - c.flush_at % z) (ap (λ (x : Shape). x.wrap) (sym same))
+
+many_as : (k : Shape) → (k.wrap ≢ 0 → IsWrapped k) → (b : Bool) → (k.wrap == 0) ≡ b → 65535 ≤ (if b then 4294967294 else 4294967296 / k.wrap - 1)
+many_as k wrapped_so true e = omega arith
+many_as k wrapped_so false e =
+    let w = wrapped_so (λ z. true≢false (sym (eq-eqb k.wrap 0 z) ∙ e)) in
+    let least : 65536 ≤ 4294967296 / k.wrap = (le-div_iff_mul-le w.0).1 (let a = w.1 in omega arith) in
+    omega arith
+
+-- a flush word has room for many flushes
+pub most-many : (k : Shape) → (k.wrap ≢ 0 → IsWrapped k) → 65535 ≤ most_flushes k.wrap
+most-many k wrapped_so = many_as k wrapped_so (k.wrap == 0) refl

@@ -1,6 +1,6 @@
 //! A block, how it is made, and its sizes.
 ghost use Rattle.std.specs.Prelude.{◌≡◌, ◌+◌, ◌*◌, ◌%◌, ◌≤◌, true, IfOk, [], ◌∷◌, replicate};
-ghost use Rattle.af_cblk.specs.Shape.{IsShape};
+ghost use Rattle.af_cblk.specs.Shape.{IsShape, most_flushes};
 ghost use Rattle.af_cblk.specs.Rule.{new_client, new_server};
 ghost use Rattle.af_cblk.specs.Sides.{client_made, server_made};
 
@@ -160,9 +160,10 @@ impl Block {
         self.shape.base
     }
 
-    /// 0 for a block of `make`, and four times the cells for one of `make_positional`.
+    /// 0 for a block of `make`, and four times the cells for one of `make_positional`. A client of either may ask for 65,535 flushes at least.
     pub fn wrap(&self) -> u32
-        ensures { result ≡ self.now.shape.wrap }
+        ensures value { result ≡ self.now.shape.wrap }
+        ensures room { 65535 ≤ most_flushes self.now.shape.wrap }
     {
         self.shape.wrap
     }

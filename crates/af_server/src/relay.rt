@@ -55,7 +55,8 @@ fn stir<L: Ledger>(block: &Block, client: &mut Client, gains: u32, steps: &mut S
     ensures same { (client.new.pass.part.frames ≡ client.old.pass.part.frames) × (client.new.released ≡ client.old.released) }
 {
     client.set_gains(block, gains, steps);
-    if client.flushes() < 1_000_000 {
+    let _wrap = block.wrap();
+    if client.flushes() < 60_000 {
         client.flush(block, steps);
     }
 }
