@@ -1,5 +1,6 @@
 /* The same work as `render` of the form that can be played so far, in plain C: it reads raw PCM, mixes, and writes raw PCM.
-   plain make DIR          a session of seven stereo tracks of 100,000 frames, 1563 cycles of 64 frames, and its script
+   plain make DIR          a session of seven stereo tracks of 100,000 frames, of which each client writes 8192, 1563 cycles of 64 frames, and its script
+   plain make DIR TRACKS   the same of so many tracks, up to 31, of 8192 frames each, and 128 cycles: all frames are played
    plain random SEED DIR   a small session drawn from a number, and its script
    plain mix DIR OUT       mixes the session of DIR into OUT
    plain ring ROUNDS       64 frames through a ring of one producer and one consumer, ROUNDS times; prints a check
@@ -11,12 +12,12 @@
 #include <stdlib.h>
 #include <string.h>
 
-enum { MOST = 7, UNITY = 0x1000 };
+enum { MOST = 7, TRACKS = 31, NARROW = 15, UNITY = 0x1000 };
 
 typedef struct { int16_t left, right; } Frame;
 typedef struct { int32_t left, right; } Sum;
 typedef struct { uint32_t count, gains, scale, mono; } Track;
-typedef struct { uint32_t len, cycles, tracks; Track track[MOST]; } Session;
+typedef struct { uint32_t len, cycles, tracks; Track track[TRACKS]; } Session;
 
 static uint32_t drawn;
 static uint32_t draw(uint32_t below) {
@@ -60,16 +61,16 @@ static void write_session(const char *folder, const Session *s, uint32_t frames)
     fclose(script);
 }
 
-static void make(const char *folder) {
-    Session s = { 64, 1563, MOST, {{0}} };
-    for (int i = 0; i < MOST; i++) s.track[i] = (Track){ 8192, 0x08000800u + 0x00100020u * i, UNITY, 0 };
+static void make(const char *folder, uint32_t cycles, uint32_t tracks, uint32_t frames) {
+    Session s = { 64, cycles, tracks, {{0}} };
+    for (uint32_t i = 0; i < tracks; i++) s.track[i] = (Track){ 8192, 0x08000800u + 0x00100020u * i, UNITY, 0 };
     drawn = 1;
-    write_session(folder, &s, 100000);
+    write_session(folder, &s, frames);
 }
 
 static void make_random(uint32_t seed, const char *folder) {
     drawn = seed * 2654435761u + 1;
-    Session s = { 1 + draw(40), 1 + draw(20), 1 + draw(MOST), {{0}} };
+    Session s = { 1 + draw(40), 1 + draw(20), 1 + draw(TRACKS), {{0}} };
     for (uint32_t i = 0; i < s.tracks; i++)
         s.track[i] = (Track){ 1 + draw(300), draw(65536) | draw(65536) << 16, draw(UNITY + 1), draw(2) };
     write_session(folder, &s, 300 + draw(3));
@@ -87,46 +88,6 @@ static void accumulate(const Frame *frames, uint32_t n, uint32_t mono, int32_t l
 
 static void finish(const Sum *sums, uint32_t n, Frame *out) {
     for (uint32_t i = 0; i < n; i++) { out[i].left = clamp(sums[i].left >> 12); out[i].right = clamp(sums[i].right >> 12); }
-}
-
-static void mix(const char *folder, const char *target) {
-    Session s;
-    FILE *plan = in_folder(folder, "plan.bin", "rb");
-    if (fread(&s, sizeof s, 1, plan) != 1) exit(1);
-    fclose(plan);
-    Frame *frames[MOST];
-    for (uint32_t i = 0; i < s.tracks; i++) {
-        char name[16];
-        snprintf(name, sizeof name, "t%u.pcm", i);
-        FILE *pcm = in_folder(folder, name, "rb");
-        fseek(pcm, 0, SEEK_END);
-        size_t bytes = ftell(pcm);
-        rewind(pcm);
-        int16_t *samples = malloc(bytes);
-        if (fread(samples, 1, bytes, pcm) != bytes) exit(1);
-        fclose(pcm);
-        if (s.track[i].mono) {
-            frames[i] = malloc(bytes * 2);
-            for (size_t j = 0; j < bytes / 2; j++) frames[i][j] = (Frame){ samples[j], samples[j] };
-            free(samples);
-        } else
-            frames[i] = (Frame *)samples;
-    }
-    FILE *out = fopen(target, "wb");
-    if (!out) { perror(target); exit(1); }
-    Sum *sums = malloc(s.len * sizeof *sums);
-    Frame *buffer = malloc(s.len * sizeof *buffer);
-    for (uint32_t cycle = 0; cycle < s.cycles; cycle++) {
-        memset(sums, 0, s.len * sizeof *sums);
-        for (uint32_t i = 0; i < s.tracks; i++) {
-            const Track *t = &s.track[i];
-            uint32_t from = cycle * s.len, n = from >= t->count ? 0 : t->count - from < s.len ? t->count - from : s.len;
-            accumulate(frames[i] + (n ? from : 0), n, t->mono, used(t->gains & 0xffff, t->scale), used(t->gains >> 16, t->scale), sums);
-        }
-        finish(sums, s.len, buffer);
-        fwrite(buffer, sizeof *buffer, s.len, out);
-    }
-    fclose(out);
 }
 
 /* The kernels over sums of so many bits, each behind a call that isn't inlined. */
@@ -181,6 +142,55 @@ static void mix(const char *folder, const char *target) {
 typedef struct { const Frame *frames; uint32_t n, mono, gains, scale; } Part;
 KERNELS(64)
 KERNELS(32)
+
+/* All cycles, in sums of 32 bits, which hold up to 15 takes, or of 64. */
+#define PLAY(NAME, SUM, ADD, END) \
+    static void NAME(const Session *s, Frame **frames, FILE *out) { \
+        SUM *sums = malloc(s->len * sizeof *sums); \
+        Frame *buffer = malloc(s->len * sizeof *buffer); \
+        for (uint32_t cycle = 0; cycle < s->cycles; cycle++) { \
+            memset(sums, 0, s->len * sizeof *sums); \
+            for (uint32_t i = 0; i < s->tracks; i++) { \
+                const Track *t = &s->track[i]; \
+                uint32_t from = cycle * s->len, n = from >= t->count ? 0 : t->count - from < s->len ? t->count - from : s->len; \
+                ADD(frames[i] + (n ? from : 0), n, t->mono, used(t->gains & 0xffff, t->scale), used(t->gains >> 16, t->scale), sums); \
+            } \
+            END(sums, s->len, buffer); \
+            fwrite(buffer, sizeof *buffer, s->len, out); \
+        } \
+    }
+PLAY(play, Sum, accumulate, finish)
+PLAY(play_wide, Sum64, add64, end64)
+
+static void mix(const char *folder, const char *target) {
+    Session s;
+    FILE *plan = in_folder(folder, "plan.bin", "rb");
+    if (fread(&s, sizeof s, 1, plan) != 1) exit(1);
+    fclose(plan);
+    Frame *frames[TRACKS];
+    for (uint32_t i = 0; i < s.tracks; i++) {
+        char name[16];
+        snprintf(name, sizeof name, "t%u.pcm", i);
+        FILE *pcm = in_folder(folder, name, "rb");
+        fseek(pcm, 0, SEEK_END);
+        size_t bytes = ftell(pcm);
+        rewind(pcm);
+        int16_t *samples = malloc(bytes);
+        if (fread(samples, 1, bytes, pcm) != bytes) exit(1);
+        fclose(pcm);
+        if (s.track[i].mono) {
+            frames[i] = malloc(bytes * 2);
+            for (size_t j = 0; j < bytes / 2; j++) frames[i][j] = (Frame){ samples[j], samples[j] };
+            free(samples);
+        } else
+            frames[i] = (Frame *)samples;
+    }
+    FILE *out = fopen(target, "wb");
+    if (!out) { perror(target); exit(1); }
+    if (s.tracks <= NARROW) play(&s, frames, out);
+    else play_wide(&s, frames, out);
+    fclose(out);
+}
 
 enum { CELLS = 128, ROOM = 100 };
 static Frame cells[CELLS];
@@ -269,7 +279,8 @@ static void cycle(const char *how, uint32_t len) {
 }
 
 int main(int words, char **word) {
-    if (words == 3 && !strcmp(word[1], "make")) make(word[2]);
+    if (words == 3 && !strcmp(word[1], "make")) make(word[2], 1563, MOST, 100000);
+    else if (words == 4 && !strcmp(word[1], "make")) make(word[2], 128, strtoul(word[3], 0, 10), 8192);
     else if (words == 4 && !strcmp(word[1], "random")) make_random(strtoul(word[2], 0, 10), word[3]);
     else if (words == 4 && !strcmp(word[1], "mix")) mix(word[2], word[3]);
     else if (words == 5 && !strcmp(word[1], "kernel")) {

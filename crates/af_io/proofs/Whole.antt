@@ -1,5 +1,5 @@
 -- Writes in a loop.
-use Rattle.std.proofs.Common.{◌≡◌, ℕ, ◌+◌, List, [], ◌++◌, take, Option, Some, None, IsSome, unwrap_or, Result, Ok, Err, IsErrOf, refl, ap, ◌∙◌, append_assoc}
+use Rattle.std.proofs.Common.{◌≡◌, ℕ, List, [], ◌++◌, take, Option, Some, None, IsSome, unwrap_or, Result, Ok, Err, IsErrOf, refl, ap, ◌∙◌, append_assoc}
 use Rattle.std.specs.Io.KnownBytes.{Appends as AppendsKnown}
 use Rattle.af_io.specs.declared.store.StoreError.{StoreError}
 use Rattle.af_io.specs.declared.store.StoreError.TheVariants.{Failed, Memory}

@@ -17,7 +17,7 @@ use Rattle.af_player.specs.declared.status.Role.TheVariants as role
 use Rattle.af_player.specs.declared.status.Why.TheVariants.{Missing, Long, Ragged, Short, Total}
 use Rattle.af_player.specs.Plain.{PlanTrack, Plan}
 use Rattle.af_player.specs.declared.runnable.Written.{Written}
-use Rattle.af_player.specs.Runnable.{written_of, are_runnable_turns}
+use Rattle.af_player.specs.Runnable.{most_fast, written_of, are_runnable_turns}
 
 -- one step and then another, up to the first refusal
 infixl 10 ◌>>=◌
@@ -71,11 +71,11 @@ most_file = 2 ^ 23
 abbrev pub most_files : ℕ
 most_files = 2 ^ 24
 
--- the frames of a track's file that has as many as are written
+-- the frames that are written of a track's file that has as many
 abbrev pub frames_in : ℕ → Bool → ℕ → List ℕ → Result (List Frame) Refusal
 frames_in number mono asked bytes =
     if length bytes % frame_width mono == 0
-    then (if nat_le asked (length (frames_from mono bytes)) then Ok (frames_from mono bytes)
+    then (if nat_le asked (length (frames_from mono bytes)) then Ok (take asked (frames_from mono bytes))
     else Err (File (record { role = role.Track number; why = Short (length (frames_from mono bytes)) asked })))
     else Err (File (record { role = role.Track number; why = Ragged (length bytes) }))
 
@@ -84,9 +84,9 @@ abbrev pub counted : ℕ → ℕ → List ℕ → Result (List ℕ) Refusal
 counted number total bytes =
     if nat_le (total + length bytes) most_files then Ok bytes else Err (File (record { role = role.Track number; why = Total (total + length bytes) }))
 
--- the track of a plan whose file has these frames
+-- the track of a plan whose client writes these frames
 abbrev pub plan_track : Playable → List Frame → PlanTrack
-plan_track playable frames = record { frames = take playable.count frames; mono = playable.mono; gains = playable.gains; scale = playable.scale }
+plan_track playable frames = record { frames = frames; mono = playable.mono; gains = playable.gains; scale = playable.scale }
 
 -- the track of a plan with a number, behind files of so many bytes, and the bytes of the files up to it
 abbrev pub track_in : Files → ℕ → ℕ → Playable → Result (PlanTrack × ℕ) Refusal
@@ -102,7 +102,7 @@ tracks_in files number total (playable ∷ rest) = track_in files number total p
 -- what can be played so far of a script: its tracks
 abbrev pub runnable : ScriptData → Result (List Playable) Refusal
 runnable script =
-    if nat_le (length script.tracks) 7 && are_runnable_turns script.tracks script.turns then playables script.tracks else Err Unbuilt
+    if nat_le (length script.tracks) most_fast && are_runnable_turns script.tracks script.turns then playables script.tracks else Err Unbuilt
 
 -- what a script plays of its files
 abbrev pub plan_of : Files → ScriptData → Result Plan Refusal

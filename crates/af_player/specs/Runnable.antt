@@ -1,12 +1,17 @@
--- The scripts that can be played so far: up to seven fast tracks, each of which writes once, and fast turns behind one normal turn.
-use Rattle.std.specs.Prelude.{ℕ, ◌+◌, ◌*◌, ◌==◌, ◌&&◌, nat_le, Bool, true, false, List, [], ◌∷◌, Option, Some, None, option_and_then, if◌then◌else◌}
+-- The scripts that can be played so far: fast tracks alone, each of which writes once, and fast turns behind one normal turn.
+use Rattle.std.specs.Prelude.{ℕ, ◌+◌, ◌-◌, ◌*◌, ◌==◌, ◌&&◌, nat_le, Bool, true, false, List, [], ◌∷◌, Option, Some, None, option_and_then, if◌then◌else◌}
 use Rattle.std.specs.List.{list_all}
+use Rattle.af_base.specs.declared.state.TheConstants.{SLOTS}
 use Rattle.af_script.specs.declared.track.TrackSpec.{TrackSpec}
 use Rattle.af_script.specs.declared.op.Op.{Op}
 use Rattle.af_script.specs.declared.op.Op.TheVariants.{OpenTrack, Start, Gain, Write, Remove}
 use Rattle.af_script.specs.declared.op.TurnSpec.{TurnSpec}
 use Rattle.af_script.specs.declared.op.TurnSpec.TheVariants.{Client, Normal, Fast}
 use Rattle.af_player.specs.declared.runnable.Written.{Written}
+
+-- each slot of the fast mixer but the normal mixer's holds a track
+abbrev pub most_fast : ℕ
+most_fast = SLOTS - 1
 
 -- unity on both sides, as a gain word
 abbrev pub unity_gains : ℕ

@@ -4,12 +4,13 @@ ghost use Rattle.std.specs.List.{list_all};
 ghost use Rattle.af_script.specs.Bounds.{most_turns};
 ghost use Rattle.af_script.specs.Form.{HasOpNumbers, IsTrack};
 ghost use Rattle.af_script.specs.Ops.{fast_cycles};
-ghost use Rattle.af_player.specs.Runnable.{written_by, written_of, next_client, after_clients, after_normal, is_fast, some_fast, are_runnable_turns};
+ghost use Rattle.af_player.specs.Runnable.{most_fast, written_by, written_of, next_client, after_clients, after_normal, is_fast, some_fast, are_runnable_turns};
 
+use af_base::SLOTS;
 use af_script::{Op, TrackSpec, TurnSpec};
 
-/// The most tracks that hold a slot of the fast mixer beside the normal mixer's.
-pub const MOST_FAST_TRACKS: usize = 7;
+/// The most tracks that hold a slot of the fast mixer: each slot but the normal mixer's.
+pub const MOST_FAST_TRACKS: usize = SLOTS - 1;
 
 /// What a client writes: how many frames, and the gain word at which they play.
 #[derive(Clone, Copy, Debug, PartialEq, Eq)]
@@ -69,7 +70,7 @@ fn after_clients<'a>(
     turns: &'a [TurnSpec],
     first: u32,
 ) -> Option<&'a [TurnSpec]>
-    requires { first + length tracks.now ≤ 7 }
+    requires { first + length tracks.now ≤ most_fast }
     ensures { option_map (λ rest. rest.now) result ≡ after_clients first tracks.now turns.now }
 {
     match tracks {
@@ -122,7 +123,7 @@ fn some_fast(turns: &[TurnSpec]) -> bool
 
 /// Each client in order, the normal mixer, each client in order again, and then fast turns.
 pub fn are_runnable_turns(tracks: &[TrackSpec], turns: &[TurnSpec]) -> bool
-    requires { length tracks.now ≤ 7 }
+    requires { length tracks.now ≤ most_fast }
     ensures { result ≡ are_runnable_turns tracks.now turns.now }
 {
     let Some(opened) = after_clients(tracks, turns, 0) else {

@@ -211,6 +211,31 @@ fn tracks_are_added(rt: HostRuntime) -> Result<(), Fail> {
     )
 }
 
+/// As many fast tracks as hold a slot: each in full scale, and clamped once. One more can't be played yet.
+#[test]
+fn a_track_in_each_slot(rt: HostRuntime) -> Result<(), Fail> {
+    let alloc = rt.alloc();
+    let full = [0x00, 0x80, 0xff, 0x7f];
+    for (count, status, line) in [
+        (31, 0, "cycles 1 mixed 31 dropped 0 queued 0 peak 32768"),
+        (32, 9, "unbuilt"),
+    ] {
+        let voices = [plain(2, 1, &full); 32];
+        let voices = voices.get(..count).unwrap_or(&[]);
+        let mut store = store_of(alloc, voices)?;
+        let mut out = MemSink::new(alloc, Vec::new(alloc));
+        let words = first_words(alloc)?;
+        let ended = run(&rt, alloc, &words, &mut store, &mut out, &NoGate);
+        assert_eq!(rt; ended.code(), status, "{line}");
+        assert_eq!(rt; out.bytes().trim_ascii_end(), line.as_bytes(), "{line}");
+        let want = [0x00, 0x80, 0xff, 0x7f, 0, 0, 0, 0];
+        let found = store.file("out.pcm");
+        assert!(rt; found.is_none() == (status == 9), "{line}");
+        assert_eq!(rt; found.unwrap_or(want.as_slice()), want.as_slice(), "{line}");
+    }
+    Ok(())
+}
+
 /// Gains above unity count as unity, a scale turns a gain down, halves are rounded down, and mono has two gains.
 #[test]
 fn gains_are_applied(rt: HostRuntime) -> Result<(), Fail> {
