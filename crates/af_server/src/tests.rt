@@ -189,21 +189,25 @@ fn each_new_flush_is_noticed_once(rt: HostRuntime) {
 // A call, and what it answers on a block whose flushes are counted and on a positional one.
 type Row = (Call, Answer, Answer);
 
+fn column_of(row: &Row, positional: bool) -> Answer {
+    if positional { row.2 } else { row.1 }
+}
+
 // Whether the calls answer as one of the two columns says.
 fn column_answers<L: Ledger>(
     block: &Block,
     mut client: Client,
     mut server: Server,
+    positional: bool,
     table: &[Row],
     steps: &mut Steps<L>,
 ) -> bool
     requires client { IsClientOf block.now client }
     requires server { IsServerOf block.now server }
 {
-    let positional = block.wrap() != 0;
-    for (call, counted, placed) in table {
-        let answer = if positional { *placed } else { *counted };
-        if ask(block, &mut client, &mut server, call, steps) != answer {
+    for row in table {
+        let (call, _, _) = row;
+        if ask(block, &mut client, &mut server, call, steps) != column_of(row, positional) {
             return false;
         }
     }
@@ -225,11 +229,11 @@ fn both_play_in<L: Ledger>(
     let (counted, client, server) = Block::make(alloc, frames, base)?;
     let client = Client::with(client, &counted);
     let server = Server::with(server, &counted);
-    let first = column_answers(&counted, client, server, table, &mut steps);
+    let first = column_answers(&counted, client, server, false, table, &mut steps);
     let (placed, client, server) = Block::make_positional(alloc, frames, base)?;
     let client = Client::with(client, &placed);
     let server = Server::with(server, &placed);
-    let second = column_answers(&placed, client, server, table, &mut steps);
+    let second = column_answers(&placed, client, server, true, table, &mut steps);
     Ok(first && second && counted.wrap() == 0 && placed.wrap() == 4 * placed.cells())
 }
 
