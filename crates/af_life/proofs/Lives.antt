@@ -230,13 +230,13 @@ turn_len c k m e = either_len e.ended (record m { ended = true }) _ (length m.tr
 
 pub turns_len : (c : Setup) (m : NormalKept) (turns : List Turned) → length (kept_after c m turns).tracks ≡ length m.tracks
 turns_len c m [] = refl
-turns_len c m (t ∷ turns) = turn_len c (learnt c t.0) (kept_after c m turns) t.1 ∙ turns_len c m turns
+turns_len c m (t ∷ turns) = turn_len c (learnt t.0) (kept_after c m turns) t.1 ∙ turns_len c m turns
 
 -- the life of the track i after some turns is that of the steps that it made in them
 pub lives_are : (c : Setup) (m : NormalKept) (turns : List Turned) (i : ℕ) → i < length m.tracks → life_at m.tracks i ≡ life_of [] → life_at (kept_after c m turns).tracks i ≡ life_of (steps_of c m turns i)
 lives_are c m [] i lt eq = eq
 lives_are c m (t ∷ turns) i lt eq =
-    turn_step c (learnt c t.0) (kept_after c m turns) t.1 i (steps_of c m turns i) (let l : length (kept_after c m turns).tracks ≡ length m.tracks = turns_len c m turns in omega arith) (lives_are c m turns i lt eq)
+    turn_step c (learnt t.0) (kept_after c m turns) t.1 i (steps_of c m turns i) (let l : length (kept_after c m turns).tracks ≡ length m.tracks = turns_len c m turns in omega arith) (lives_are c m turns i lt eq)
 
 -- neither way out is taken
 gone_on : (b d : Bool) (steps more : List LifeStep) → b ≡ false → d ≡ false → life_of (if b then steps else if d then steps else more) ≡ life_of more

@@ -63,14 +63,14 @@ module _ (c : Setup) (o : Outside) (m : NormalKept) (e : Turn) (i : ℕ) (is_dra
   not_passed p = not_both (has_mark (track_in e i).status) is_drained (ap (λ (seen : TrackSeen). has_mark seen.status) p)
 
   abbrev served_by : TrackKept → Type 0
-  served_by s = IsServed (slot_for c (tracks_at c (learnt c o) m e i) i) (heard (learnt c o) i s) (track_in e i) (ready (learnt c o) i s)
+  served_by s = IsServed (slot_for c (tracks_at c (learnt o) m e i) i) (heard (learnt o) i s) (track_in e i) (ready (learnt o) i s)
 
   abbrev life_by : TrackKept → Life
-  life_by s = (after_report (slot_for c (tracks_at c (learnt c o) m e i) i) (heard (learnt c o) i s) (track_in e i).looks (ready (learnt c o) i s)).life
+  life_by s = (after_report (slot_for c (tracks_at c (learnt o) m e i) i) (heard (learnt o) i s) (track_in e i).looks (ready (learnt o) i s)).life
 
   life_drained : (s : TrackKept) → served_by s → (life_by s).drained ≡ true
   unfolding has_mark status_word
-  life_drained s is = let h : Heard = heard (learnt c o) i s in let given : Option ℕ = slot_for c (tracks_at c (learnt c o) m e i) i in let r : TrackKept = ready (learnt c o) i s in
+  life_drained s is = let h : Heard = heard (learnt o) i s in let given : Option ℕ = slot_for c (tracks_at c (learnt o) m e i) i in let r : TrackKept = ready (learnt o) i s in
       let looks : List CommandLook = (track_in e i).looks in let shut : Bool = is_found_shut h looks in let after : TrackKept = after_report given h looks r in
       marked (state_code shut after.life) after.settled after.life.drained (state_low shut after.life)
       (stored_mark (status_due given h looks r == r.status) (status_due given h looks r) (sym (ap has_mark is.status) ∙ is_drained))
@@ -92,9 +92,9 @@ reached c m turn turns i consumed lt new legal within is_drained =
     let last : NormalKept = kept_after c m turns in
     let runs = goes c turn.0 last turn.1 i is_drained turn.1.ended refl legal.0 in
     let here : i < length last.tracks = (let l : length (kept_after c m turns).tracks ≡ length m.tracks = turns_len c m turns in omega arith) in
-    let s : TrackKept = track_at (tracks_at c (learnt c turn.0) last turn.1 i) i in
+    let s : TrackKept = track_at (tracks_at c (learnt turn.0) last turn.1 i) i in
     let found = by_life c turn.0 last turn.1 i is_drained s s.life.ended (runs.1.tracks i here) in
-    let same = report_step c (learnt c turn.0) last turn.1 i (steps_of c m turns i) runs.0 found.0 (lives_are c m turns i lt new) in
+    let same = report_step c (learnt turn.0) last turn.1 i (steps_of c m turns i) runs.0 found.0 (lives_are c m turns i lt new) in
     let is : (life_of (steps_of c m (turn ∷ turns) i)).drained ≡ true = sym (ap (λ (l : Life). l.drained) same) ∙ found.1 in
     let ordered = (drains_in_order (steps_of c m (turn ∷ turns) i)).drained is in
     ((life_of (steps_of c m (turn ∷ turns) i)).stop_at, ordered.0, (let a = ordered.1 in omega (arith, within)))

@@ -104,12 +104,12 @@ track_steps c k m e i before = let tracks = tracks_at c k m e i in let s = track
 -- the mixer after some turns, the newest first
 abbrev pub kept_after : Setup → NormalKept → List Turned → NormalKept
 kept_after c m [] = m
-kept_after c m (t ∷ turns) = turn_after c (learnt c t.0) (kept_after c m turns) t.1
+kept_after c m (t ∷ turns) = turn_after c (learnt t.0) (kept_after c m turns) t.1
 
 -- the steps of the track i in them
 abbrev pub steps_of : Setup → NormalKept → List Turned → ℕ → List LifeStep
 steps_of c m [] i = []
-steps_of c m (t ∷ turns) i = track_steps c (learnt c t.0) (kept_after c m turns) t.1 i (steps_of c m turns i)
+steps_of c m (t ∷ turns) i = track_steps c (learnt t.0) (kept_after c m turns) t.1 i (steps_of c m turns i)
 
 -- each turn is legal where it stands
 abbrev pub AreLegal : Setup → NormalKept → List Turned → Type 0

@@ -1,12 +1,13 @@
 -- What a turn knows of a track's stream, and the START that this settles.
-use Rattle.std.specs.Prelude.{ℕ, ◌+◌, ◌-◌, ◌/◌, ◌==◌, nat_le, min, Bool, false, if◌then◌else◌, is_some, Option, Some, None}
+use Rattle.std.specs.Prelude.{ℕ, ◌+◌, ◌-◌, ◌==◌, nat_le, min, Bool, false, if◌then◌else◌, is_some, Option, Some, None}
 use Rattle.af_base.specs.declared.report.SlotReport.{SlotReport}
 use Rattle.af_model.specs.Cycles.{Listed, kept}
 use Rattle.af_model.specs.Reports.{report_at}
+use Rattle.af_model.specs.ServerCalls.{flushes_by}
 use Rattle.af_life.specs.declared.kept.Counts.{Counts}
 use Rattle.af_life.specs.declared.kept.Heard.{Heard}
 use Rattle.af_life.specs.declared.kept.TrackKept.{TrackKept}
-use Rattle.af_life.specs.Kept.{Setup, setting_of, Outside, Learnt, no_counts, is_home, slot_number}
+use Rattle.af_life.specs.Kept.{Outside, Learnt, no_counts, is_home, slot_number}
 
 -- ## What is known of a proxy
 
@@ -17,17 +18,13 @@ heard_with consumed flush_seen shut looks = record {
   flush_seen = flush_seen;
 }
 
--- the flush count that a flush word stands for
-abbrev pub flush_count : ℕ → ℕ → ℕ
-flush_count wrap word = if wrap == 0 then word else word / wrap
-
--- what a proxy knows by its list, without looks; the consumed count ends at 2 ^ 63 - 1
-abbrev pub known_by : ℕ → Listed → Heard
-known_by wrap s = let k = kept s in heard_with (min 9223372036854775807 k.consumed) (flush_count wrap k.flush) (is_some k.shut) no_counts
+-- what a proxy knows by its list, without looks; the consumed count ends at 2 ^ 63 - 1, and the flush count is that of the last flush noticed
+abbrev pub known_by : Listed → Heard
+known_by s = let k = kept s in heard_with (min 9223372036854775807 k.consumed) (flushes_by s.shape.wrap k.noticed) (is_some k.shut) no_counts
 
 -- what a turn learns by the report and the lists of the stream proxies
-abbrev pub learnt : Setup → Outside → Learnt
-learnt c o = record { report = o.report; own = λ i. known_by (setting_of c i).wrap (o.streams i) }
+abbrev pub learnt : Outside → Learnt
+learnt o = record { report = o.report; own = λ i. known_by (o.streams i) }
 
 abbrev pub counts_in : SlotReport → Counts
 counts_in r = record { fulls = r.fulls; partials = r.partials; empties = r.empties }

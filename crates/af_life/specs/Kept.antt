@@ -31,7 +31,7 @@ abbrev pub pipe_size : Setup → ℕ
 pipe_size c = 4 * asked c
 
 abbrev pub no_setting : Setting
-no_setting = record { fast = false; mono = false; scale = 0; wrap = 0 }
+no_setting = record { fast = false; mono = false; scale = 0 }
 
 -- what the track of a number is
 abbrev pub setting_of : Setup → ℕ → Setting

@@ -37,10 +37,10 @@ pub record GoesOn (c : Setup) (o : Outside) (m : NormalKept) (e : Turn) : Type 0
   pub report : e.cycle ≡ o.report.cycle
   pub room : e.room ≤ pipe_size c
   pub whole : length e.tracks ≡ length m.tracks
-  pub tracks : (i : ℕ) → i < length m.tracks → LegalTrack c (learnt c o) (track_in e i) (served_to c (learnt c o) e.tracks (after_ack e.ack m).tracks i) i
+  pub tracks : (i : ℕ) → i < length m.tracks → LegalTrack c (learnt o) (track_in e i) (served_to c (learnt o) e.tracks (after_ack e.ack m).tracks i) i
   pub looks : (i : ℕ) → i < length m.tracks → LegalLooks (o.commands i) (track_in e i).looks (o.command_fronts i)
-  pub push : LegalPush (after_edits c (learnt c o) e m) e.push
-  pub due : map (λ take. take.track) e.mixes ≡ tracks_due c e.room (after_edits c (learnt c o) e m).tracks
+  pub push : LegalPush (after_edits c (learnt o) e m) e.push
+  pub due : map (λ take. take.track) e.mixes ≡ tracks_due c e.room (after_edits c (learnt o) e m).tracks
   pub takes : AllByRecursion (LegalTake c o) e.mixes
 
 -- a turn that follows from the mixer before it and from what it saw

@@ -47,7 +47,7 @@ status_events (Some word) = server.SetStatus word ∷ []
 
 -- what the server of the command block does for a track: its looks with their takes, INVALID and the status
 abbrev pub command_events_of : Setup → Outside → TrackSeen → List TrackKept → ℕ → List ServerEvent
-command_events_of c o seen tracks i = all_command_events (o.commands i) seen.looks (o.command_fronts i) ++ invalid (learnt c o) seen tracks i ++ status_events seen.status
+command_events_of c o seen tracks i = all_command_events (o.commands i) seen.looks (o.command_fronts i) ++ invalid (learnt o) seen tracks i ++ status_events seen.status
 
 -- the server of the command block
 abbrev pub command_list : Setup → Outside → Turn → List TrackKept → ℕ → List ServerEvent
@@ -68,7 +68,7 @@ mix_events c o takes i = flat_map (λ take. cycle_events (asked c) (o.streams i)
 -- the server of the stream block, where it is home: INVALID, and the mix
 abbrev pub stream_list : Setup → Outside → Turn → List TrackKept → ℕ → List ServerEvent
 stream_list c o e tracks i =
-    going e ((if is_home (track_at tracks i).holder then invalid (learnt c o) (track_in e i) tracks i else []) ++ mix_events c o e.mixes i)
+    going e ((if is_home (track_at tracks i).holder then invalid (learnt o) (track_in e i) tracks i else []) ++ mix_events c o e.mixes i)
 
 -- ## The other ends
 

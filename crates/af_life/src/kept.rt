@@ -37,8 +37,6 @@ pub struct Setting {
     pub mono: bool,
     /// A 4.12 scale of its gains, at most 0x1000.
     pub scale: u16,
-    /// The wrap of its stream block: 0 where the flush word is the flush count.
-    pub wrap: u32,
 }
 
 /// What the normal mixer keeps of a track.

@@ -131,7 +131,6 @@ fn new_mixer(alloc: Global) -> Result<PlainMixer, Memory>
         fast: true,
         mono: false,
         scale: 0x1000,
-        wrap: 0,
     };
     let normal = Setting {
         fast: false,
