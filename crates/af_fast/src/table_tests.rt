@@ -93,6 +93,7 @@ fn client_does<L: Ledger>(
     requires { IsClientOf block.now client.old }
     ensures { IsClientOf block.now client.new }
 {
+    let _wrap = block.wrap();
     match step {
         Step::Write { count, .. } if 1 <= count && count <= 6 && client.released() < 1000 => {
             client.write(block, &SIX[..count], steps);

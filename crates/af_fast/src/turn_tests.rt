@@ -126,7 +126,8 @@ fn client_turn<L: Ledger>(
         track.gains = draws.word() & 0x1fff_1fff;
         client.set_gains(block, track.gains, steps);
     }
-    if draws.high() % 16 == 0 && !pokes && client.flushes() < 1_000_000 {
+    let _wrap = block.wrap();
+    if draws.high() % 16 == 0 && !pokes && client.flushes() < 60_000 {
         track.flushes = client.flush(block, steps);
     }
     if pokes {
