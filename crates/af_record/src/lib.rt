@@ -10,4 +10,14 @@ pub use capture::Supplied;
 pub use ends::{Capture, Listener, make, meet_record};
 
 #[cfg(test)]
+mod latest_tests;
+#[cfg(test)]
+mod link_tests;
+#[cfg(test)]
+mod queue_hand_tests;
+#[cfg(test)]
+mod queue_tests;
+#[cfg(test)]
+mod queue_threads;
+#[cfg(test)]
 mod tests;
