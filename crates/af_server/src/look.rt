@@ -78,10 +78,10 @@ impl Server {
         ensures made { server_made self.new.pass ≡ block.now }
         ensures pass { ServerIs (front_stored self.old.pass.part (stored_front block.now.shape.wrap words.flush words.rear words.front)) self.old.pass self.new.pass }
         ensures kept { self.new ≡ (record self.old {
-            pass = self.new.pass;
-            flush = words.flush;
-            flushes = flushes_by block.now.shape.wrap words.flush;
-            consumed = counted (self.old.consumed + dropped_by block.now.shape.wrap words.flush words.rear words.front);
+          pass = self.new.pass;
+          flush = words.flush;
+          flushes = flushes_by block.now.shape.wrap words.flush;
+          consumed = counted (self.old.consumed + dropped_by block.now.shape.wrap words.flush words.rear words.front);
         }) }
         ensures seen { result ≡ Seen.Flushed (dropped_by block.now.shape.wrap words.flush words.rear words.front) }
         ensures steps { steps.new ≡ steps.old + 1 }
