@@ -1,0 +1,8 @@
+mod Effects
+mod Drains
+mod Lives
+mod Reached
+mod Settles
+mod Smalls
+mod SmallTurns
+mod SmallTests
