@@ -6,3 +6,5 @@ mod Settles
 mod Smalls
 mod SmallTurns
 mod SmallTests
+pub mod LooksSoFar
+pub mod LooksMade
