@@ -62,7 +62,7 @@ fn stir<L: Ledger>(block: &Block, client: &mut Client, gains: u32, steps: &mut S
     }
 }
 
-// The same now and then.
+// The same where it is time for it.
 fn stir_at<L: Ledger>(
     block: &Block,
     client: &mut Client,
@@ -80,7 +80,7 @@ fn stir_at<L: Ledger>(
     }
 }
 
-// Writes the frames in order, as far as its calls go. A busy client flushes and sets gains in between, now and then.
+// Writes the frames in order, as far as its calls go. A busy client flushes and sets gains before about every other call: since a call puts at most three of ten thousand frames, it asks for more than a thousand flushes.
 fn send_in<L: Ledger>(
     blank: Blank,
     block: &Block,
@@ -103,7 +103,7 @@ fn send_in<L: Ledger>(
             break;
         }
         seed = seed.wrapping_mul(1_664_525).wrapping_add(1_013_904_223);
-        let now = busy && seed < 0x1000_0000;
+        let now = busy && seed < 0x8000_0000;
         stir_at(block, &mut client, now, seed, &mut steps);
         next += send_some(block, &mut client, &frames[next..], &mut steps);
     }
