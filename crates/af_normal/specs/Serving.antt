@@ -75,7 +75,7 @@ pub record ServesOne (c : Setup) (k : Learnt) (i : ℕ) (x : Serving) (y : Servi
   pub stream' : Option ServerState
   pub flag' : HandSide
   pub attends : let s = track_at x.tracks i in Attends (slot_for c x.tracks i) (heard k i s) (ready k i s) command (stream_at x.streams i) flag seen command' stream' flag'
-  pub then : y ≡ record {
+  pub leaves : y ≡ record {
     tracks = slice_set x.tracks i (served c k seen.looks x.tracks i);
     streams = slice_set x.streams i stream';
     commands = slice_set x.commands i command';

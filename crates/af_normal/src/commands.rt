@@ -5,7 +5,7 @@ ghost use Rattle.af_life.specs.Obeys.{after_looks, are_due};
 ghost use Rattle.af_life.specs.Serves.{most_looks};
 ghost use Rattle.af_normal.specs.Commands.{LooksOnce, LooksMade};
 
-use af_base::{CommandLook, CommandLooks, Frame, Seen, Steps};
+use af_base::{CommandLook, CommandLooks, Frame, Steps};
 use af_cblk::Block;
 use af_life::TrackKept;
 use af_server::Server;
@@ -32,12 +32,13 @@ pub(crate) fn look_once<L: Ledger>(
         code: 0,
         argument: 0,
     };
-    if look.seen == (Seen::Frames { count: 2 }) {
-        let mut words = [Frame { left: 0, right: 0 }; 2];
-        server.take(block, &mut words, steps);
-        seen.code = words[0].pack();
-        seen.argument = words[1].pack();
+    if look.seen.count() != 2 {
+        return seen;
     }
+    let mut words = [Frame { left: 0, right: 0 }; 2];
+    server.take(block, &mut words, steps);
+    seen.code = words[0].pack();
+    seen.argument = words[1].pack();
     seen
 }
 

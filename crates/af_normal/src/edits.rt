@@ -4,7 +4,7 @@ ghost use Rattle.af_base.specs.Command.{code_of};
 ghost use Rattle.af_base.specs.Log.{slots};
 ghost use Rattle.af_model.specs.Draft.{attached, detached, commanded as with_command};
 ghost use Rattle.af_model.specs.StateQueue.{slot_of, carries};
-ghost use Rattle.af_server.specs.Order.{ServerState};
+ghost use Rattle.af_server.specs.Order.{IsInOrder, ServerState};
 ghost use Rattle.af_stateq.specs.Mutates.{is_out};
 ghost use Rattle.af_link.specs.Names.{IsStreamOf};
 ghost use Rattle.af_link.specs.declared.names.StreamNames.{StreamNames as Names};
@@ -44,7 +44,7 @@ impl NormalMixer {
         requires slot { (1 ≤ slot_number (track_at self.old.tracks i)) × (slot_number (track_at self.old.tracks i) < slots) }
         requires free { is_out self.old.mutator.out (slot_number (track_at self.old.tracks i)) ≡ false }
         requires scale { (setting_of (setup_of self.old) i).scale ≤ 4096 }
-        requires home { (s : ServerState) × (stream_at self.old.streams i ≡ Some s) × ((names : Names) → self.old.mutator.past.key ≡ Some names → IsStreamOf names.blocks i s) }
+        requires home { (s : ServerState) × (stream_at self.old.streams i ≡ Some s) × IsInOrder s × ((names : Names) → self.old.mutator.past.key ≡ Some names → IsStreamOf names.blocks i s) }
         requires room { ((slot_of self.old.mutator.draft (slot_number (track_at self.old.tracks i))).generation < 2 ^ 31) × (self.old.mutator.draft.tracks_gen < 2 ^ 31) }
         ensures { Lends i self.old self.new }
     {
@@ -54,7 +54,8 @@ impl NormalMixer {
         let (track, setting) = (self.tracks[i], self.settings[i]);
         let own = known(&server);
         let slot = track.slot_number();
-        self.mutator.attach(slot, setting.mono, setting.scale, i as u32, server);
+        self.mutator
+            .attach(slot, setting.mono, setting.scale, i as u32, server);
         self.tracks[i] = track.lent_by(self.mutator.draft(), own);
     }
 }

@@ -59,3 +59,11 @@ returns-clause-due g c =
 pub returns-clause-track : goal.returns-clause-track
 returns-clause-track g c =
     let i = c.loop-made.invariant in i.track ∙ sym (all_after c.args.given c.args.flush_seen c.args.track c.loop-made.looks.items i.all)
+
+pub returns-then-not-goes_on-clause-few : goal.returns-then-not-goes_on-clause-few
+returns-then-not-goes_on-clause-few g c =
+    let one = settles_one c.args.given c.args.flush_seen c.look_once-look.result c.loop-made.track in
+    let is = ap (λ (t : TrackKept). t.settled) c.after_look-track.ensures in
+    let few = c.loop-made.invariant.few in
+    let below = c.loop-made-test.true in
+    omega arith
