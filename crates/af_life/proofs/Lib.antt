@@ -1,10 +1,10 @@
 mod Effects
 mod Drains
-pub mod Lives
+mod Lives
 mod Reached
-pub mod Settles
-pub mod Smalls
-pub mod SmallTurns
+mod Settles
+mod Smalls
+mod SmallTurns
 mod SmallTests
 pub mod LooksSoFar
 pub mod LooksMade
