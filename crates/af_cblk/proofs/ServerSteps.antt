@@ -159,7 +159,7 @@ module _ (words : List ℕ) (c : ClientPart) (s : ServerPart) (h : HandPart) (i 
         let w = wrap (placed) in
         let flush : s.flush ≡ wrapped (p.flush_seen * k.wrap + p.drop_to % k.wrap) = y.flush_is ∙ flush_placed k.wrap p.flush_seen p.drop_to placed in
         let words_are : wrapped (s.front + past_front s.front (flush_position k.wrap s.flush s.rear))
-            ≡ wrapped (wrapped p.consumed + past_front (wrapped p.consumed) (flush_position k.wrap (wrapped (p.flush_seen * k.wrap + p.drop_to % k.wrap)) (wrapped p.rear_seen))) =
+        ≡ wrapped (wrapped p.consumed + past_front (wrapped p.consumed) (flush_position k.wrap (wrapped (p.flush_seen * k.wrap + p.drop_to % k.wrap)) (wrapped p.rear_seen))) =
         ap (λ (x : ℕ × ℕ × ℕ). wrapped (x.0 + past_front x.0 (flush_position k.wrap x.1 x.2))) (λ n. (v.front_is n, flush n, v.rear_is n)) in
         let far : p.rear_seen ≤ p.consumed + k.frames = (let a = t.to_released in let b = waits in omega arith) in
         ap (λ (b : Bool). if b then s.rear else wrapped (s.front + past_front s.front (flush_position k.wrap s.flush s.rear))) (ne_eqb k.wrap 0 placed)

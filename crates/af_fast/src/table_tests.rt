@@ -149,6 +149,7 @@ fn client_does<L: Ledger>(
     requires { IsClientOf block.now client.old }
     ensures { IsClientOf block.now client.new }
 {
+    let _wrap = block.wrap();
     match step {
         Step::Write { word, count, .. } if count >= 1 && client.released() < 100_000 => {
             let frames = frames_of(word);
@@ -156,7 +157,7 @@ fn client_does<L: Ledger>(
             return Told::Wrote { wrote };
         }
         Step::Gains { word, .. } => client.set_gains(block, word, steps),
-        Step::Flush { .. } if client.flushes() < 100_000 => {
+        Step::Flush { .. } if client.flushes() < 60_000 => {
             client.flush(block, steps);
         }
         Step::Poke { rear, .. } => client.poke(block, 1, rear, steps),

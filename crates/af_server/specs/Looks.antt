@@ -6,7 +6,7 @@ use Rattle.af_base.specs.declared.seen.Seen.{Seen}
 use Rattle.af_base.specs.declared.seen.Seen.TheVariants as seen
 use Rattle.af_base.specs.Sample.{packed_word}
 use Rattle.af_model.specs.Point.{wrapped}
-use Rattle.af_model.specs.ServerCalls.{look_at, look_events, shown_by, dropped_by}
+use Rattle.af_model.specs.ServerCalls.{look_at, look_events, shown_by, dropped_by, flushes_by}
 use Rattle.af_cblk.specs.declared.view.ServerPart.{ServerPart}
 use Rattle.af_cblk.specs.Parts.{saw_flush, saw_rear, server_saw_front}
 use Rattle.af_cblk.specs.Sides.{ServerSide}
@@ -36,6 +36,11 @@ shut_of _ = None
 abbrev pub dropped_of : Seen → ℕ
 dropped_of (seen.Flushed count) = count
 dropped_of _ = 0
+
+-- how many flushes there were at the last one that was noticed, after a look that saw this flush word
+abbrev pub flushes_after : (wrap flush before : ℕ) → Seen → ℕ
+flushes_after wrap flush before (seen.Flushed count) = flushes_by wrap flush
+flushes_after wrap flush before _ = before
 
 -- there are some frames, and no more than were asked for
 abbrev pub WithinAsk : ℕ → Seen → Type 0

@@ -4,7 +4,7 @@ ghost use Rattle.af_model.specs.ServerCalls.{look_at, shown_by, is_noticed, drop
 ghost use Rattle.af_cblk.specs.Parts.{MayStoreFront, front_stored};
 ghost use Rattle.af_cblk.specs.Sides.{server_made, ServerIs};
 ghost use Rattle.af_server.specs.Order.{IsServerOf, counted};
-ghost use Rattle.af_server.specs.Looks.{Looks, shut_of, dropped_of, WithinAsk, look_steps, saw_all, stored_front};
+ghost use Rattle.af_server.specs.Looks.{Looks, shut_of, dropped_of, WithinAsk, look_steps, flushes_after, saw_all, stored_front};
 
 use crate::server::{Server, raised};
 use af_base::{Seen, Steps};
@@ -78,10 +78,10 @@ impl Server {
         ensures made { server_made self.new.pass ≡ block.now }
         ensures pass { ServerIs (front_stored self.old.pass.part (stored_front block.now.shape.wrap words.flush words.rear words.front)) self.old.pass self.new.pass }
         ensures kept { self.new ≡ (record self.old {
-            pass = self.new.pass;
-            flush = words.flush;
-            flushes = flushes_by block.now.shape.wrap words.flush;
-            consumed = counted (self.old.consumed + dropped_by block.now.shape.wrap words.flush words.rear words.front);
+          pass = self.new.pass;
+          flush = words.flush;
+          flushes = flushes_by block.now.shape.wrap words.flush;
+          consumed = counted (self.old.consumed + dropped_by block.now.shape.wrap words.flush words.rear words.front);
         }) }
         ensures seen { result ≡ Seen.Flushed (dropped_by block.now.shape.wrap words.flush words.rear words.front) }
         ensures steps { steps.new ≡ steps.old + 1 }
@@ -130,6 +130,7 @@ impl Server {
         ensures ready { IsServerOf block.now self.new }
         ensures looks { Looks self.old ask result self.new }
         ensures kept { (self.new.flush ≡ result.flush) × (self.new.shown ≡ shown_by result.seen) × (self.new.shut ≡ shut_of result.seen) × (self.new.consumed ≡ counted (self.old.consumed + dropped_of result.seen)) }
+        ensures flushes { self.new.flushes ≡ flushes_after block.now.shape.wrap result.flush self.old.flushes result.seen }
         ensures within { WithinAsk ask result.seen }
         ensures frames { (self.new.pass.part.frames ≡ self.old.pass.part.frames) × (self.new.pass.has_hand ≡ self.old.pass.has_hand) }
         ensures steps { steps.new ≡ steps.old + look_steps self.old result.seen }

@@ -258,11 +258,19 @@ fn a_positional_flush_spares_what_is_written_after_it(rt: HostRuntime) {
         (Call::Look(4), flushed(1, 4, 4), flushed(19, 4, 3)),
         (Call::Look(4), saw(1, 4, Seen::Empty), one(19)),
         (Call::Flush, Answer::Word(2), Answer::Word(2)),
-        (Call::Take(3), took_none(flushed(2, 4, 0)), took_none(flushed(36, 4, 1))),
+        (
+            Call::Take(3),
+            took_none(flushed(2, 4, 0)),
+            took_none(flushed(36, 4, 1)),
+        ),
         (Call::Flush, Answer::Word(3), Answer::Word(3)),
         (Call::Write(5, 2), put(4, 2, 2), put(4, 2, 2)),
         (Call::Look(4), flushed(3, 6, 2), flushed(52, 6, 0)),
-        (Call::Take(3), took_none(saw(3, 6, Seen::Empty)), took(52, 6, 2, [5, 6, 0])),
+        (
+            Call::Take(3),
+            took_none(saw(3, 6, Seen::Empty)),
+            took(52, 6, 2, [5, 6, 0]),
+        ),
     ];
     assert!(rt; both_play(rt.alloc(), 4, 0, &table) == Ok(true));
 }
@@ -275,12 +283,24 @@ fn a_positional_flush_is_placed_across_the_wrap(rt: HostRuntime) {
         same(Call::Flush, Answer::Word(1)),
         same(Call::Write(4, 1), put(0xffff_fffe, 1, 0)),
         (Call::Look(4), flushed(1, 2, 4), flushed(17, 2, 3)),
-        (Call::Take(3), took_none(saw(1, 2, Seen::Empty)), took(17, 2, 1, [4, 0, 0])),
+        (
+            Call::Take(3),
+            took_none(saw(1, 2, Seen::Empty)),
+            took(17, 2, 1, [4, 0, 0]),
+        ),
         (Call::Write(5, 2), put(2, 2, 2), put(2, 2, 2)),
         (Call::Poke(2, 0), Answer::Done, Answer::Done),
         (Call::Poke(0, 90), Answer::Done, Answer::Done),
-        (Call::Look(4), flushed(0, 4, 0xffff_ffaa), saw(0, 4, shut(90, 4))),
-        (Call::Look(4), saw(0, 4, Seen::Empty), saw(0, 4, shut(90, 4))),
+        (
+            Call::Look(4),
+            flushed(0, 4, 0xffff_ffaa),
+            saw(0, 4, shut(90, 4)),
+        ),
+        (
+            Call::Look(4),
+            saw(0, 4, Seen::Empty),
+            saw(0, 4, shut(90, 4)),
+        ),
     ];
     assert!(rt; both_play(rt.alloc(), 4, 0xffff_fffe, &table) == Ok(true));
 }
