@@ -100,7 +100,7 @@ pub enum ServerEvent {
     SawRear { rear: u32 },
     /// The front seen.
     SawFront { front: u32 },
-    /// Front was set to the rear seen: all frames up to it are discarded.
+    /// Front was set to this word after a flush was noticed: all frames before it are discarded.
     Drop { to: u32 },
     /// Front was raised by `count` frames, whose cells were read before.
     Take { count: u32 },

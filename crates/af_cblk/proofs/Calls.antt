@@ -7,7 +7,7 @@ use Rattle.af_base.specs.declared.event.ServerEvent.TheVariants as server
 use Rattle.af_model.specs.Point.{wrapped}
 use Rattle.af_model.specs.History.{flushes_of}
 use Rattle.af_model.proofs.Counts.{lawful_before, poke_is_not}
-use Rattle.af_cblk.specs.declared.view.Shape.{Shape}
+use Rattle.af_model.specs.declared.shape.Shape.{Shape}
 use Rattle.af_cblk.specs.declared.view.ClientPart.{ClientPart}
 use Rattle.af_cblk.specs.declared.view.ServerPart.{ServerPart}
 use Rattle.af_cblk.specs.declared.view.View.{View}

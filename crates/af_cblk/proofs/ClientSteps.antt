@@ -154,7 +154,7 @@ module _ (words : List ℕ) (c : ClientPart) (s : ServerPart) (h : HandPart) (i 
       let long : length (c.frames ++ fs) ≡ length c.frames + count = length-append c.frames fs ∙ ap (λ (z : ℕ). length c.frames + z) (run_length c.stored (length c.frames) count) in
       record {
         history = client_releases i.history count fs (omega arith) (i.settled fs);
-        settled = (λ more. ap (λ (l : List ℕ). taken_of l k.base i.history.order) (append_assoc c.frames fs more) ∙ i.settled (fs ++ more) ∙ sym (i.settled fs));
+        settled = (λ more. ap (λ (l : List ℕ). taken_of l k i.history.order) (append_assoc c.frames fs more) ∙ i.settled (fs ++ more) ∙ sym (i.settled fs));
         tally = i.tally;
         cells = i.cells;
         words_are = ap (λ (ws : List ℕ). set ws 1 (wrapped (released c + count))) i.words_are ∙ ap (λ (z : ℕ). words_of (record p { released = z + count }) i.tally i.cells) (sym r);
@@ -215,7 +215,7 @@ module _ (words : List ℕ) (c : ClientPart) (s : ServerPart) (h : HandPart) (i 
 
   -- the flush count is that of the client's list
   pub flushes_seen : at words 2 ≡ flushes_of c.events
-  flushes_seen = ap (λ (ws : List ℕ). at ws 2) i.words_are ∙ flushes_are c.shape.base i.history.order ∙ ap flushes_of i.history.client_is
+  flushes_seen = ap (λ (ws : List ℕ). at ws 2) i.words_are ∙ flushes_are c.shape i.history.order ∙ ap flushes_of i.history.client_is
 
   pub client_flushes : flushes_of c.events < 4294967294 → Stands c.shape (set words 2 ((at words 2 + 1) % 2 ^ 64)) (client_did c client.Flush) s h
   client_flushes few =

@@ -10,13 +10,13 @@ use Rattle.af_model.specs.History.{HasHistory}
 use Rattle.af_model.specs.ClientCalls.{ClientKept, client_keeps, client_begins, meets}
 use Rattle.af_model.specs.ServerCalls.{ServerKept, server_keeps, server_begins}
 use Rattle.af_model.proofs.RoomKept.{never_corrupt, never_shut}
-use Rattle.af_cblk.specs.declared.view.Shape.{Shape}
+use Rattle.af_model.specs.declared.shape.Shape.{Shape}
 use Rattle.af_cblk.specs.Unshut.{NeitherShut}
 
 pub neither_shut : (k : Shape) → k.frames ≤ 65536 → (ce : List ClientEvent) (cf : List ℕ) (se : List ServerEvent) (sf : List ℕ) (he : List HandEvent) (n m : ℕ)
-    → HasHistory k.base (ce ++ client.Learn n ∷ []) cf (se ++ server.Learn m ∷ []) sf he → NeitherShut k ce se
+    → HasHistory k (ce ++ client.Learn n ∷ []) cf (se ++ server.Learn m ∷ []) sf he → NeitherShut k ce se
 neither_shut k few ce cf se sf he n m h = λ spelled.
     let hers = meets ce n spelled in (
-      ap (λ (x : ClientKept). x.shut) (sym (fold-append (client_keeps k.frames) (client_begins k.base) ce (client.Learn n ∷ []))) ∙ never_corrupt k.frames few k.cells h hers,
-      ap (λ (x : ServerKept). x.shut) (sym (fold-append (server_keeps k.frames) (server_begins k.base) se (server.Learn m ∷ []))) ∙ never_shut k.frames few k.cells h hers,
+      ap (λ (x : ClientKept). x.shut) (sym (fold-append (client_keeps k.frames) (client_begins k.base) ce (client.Learn n ∷ []))) ∙ never_corrupt k few h hers,
+      ap (λ (x : ServerKept). x.shut) (sym (fold-append (server_keeps k) (server_begins k) se (server.Learn m ∷ []))) ∙ never_shut k few h hers,
     )

@@ -6,7 +6,7 @@ use lib.ListN.{length-replicate}
 use Rattle.af_cblk.proofs.Rows.{take_none}
 use Rattle.atomic_table.specs.Table.{opening}
 use Rattle.af_model.specs.Point.{wrapped}
-use Rattle.af_cblk.specs.declared.view.Shape.{Shape}
+use Rattle.af_model.specs.declared.shape.Shape.{Shape}
 use Rattle.af_cblk.specs.declared.view.View.{View}
 use Rattle.af_cblk.specs.Rule.{Parties, Sits, Holds, newcomer, new_client, new_server, new_hand}
 

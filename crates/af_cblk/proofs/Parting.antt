@@ -3,6 +3,7 @@ use Rattle.af_base.specs.declared.event.ClientEvent.{ClientEvent}
 use Rattle.std.proofs.Common.{◌+◌, ◌-◌, [], ◌∷◌, ◌++◌, length, length-append, arith, ◌≡◌, ℕ, List, ap, ◌∙◌, subst}
 use Rattle.af_base.specs.declared.event.ServerEvent.{ServerEvent}
 use Rattle.af_base.specs.declared.event.HandEvent.{HandEvent}
+use Rattle.af_model.specs.declared.shape.Shape.{Shape}
 use Rattle.af_model.specs.History.{HasHistory}
 use Rattle.af_cblk.specs.declared.view.ClientPart.{ClientPart}
 use Rattle.af_cblk.specs.declared.view.ServerPart.{ServerPart}
@@ -11,16 +12,16 @@ use Rattle.af_cblk.specs.declared.view.View.{View}
 use Rattle.af_cblk.specs.Plays.{Meeting}
 
 -- the same history, where the parts are with other seats
-pub parted : (base : ℕ) (hand hand' : List HandEvent) (v : View) (c : ClientPart) (s : ServerPart) → v.client.shape.base ≡ base → v.client ≡ c → v.server ≡ s → hand ≡ hand'
-    → Meeting v hand → HasHistory base c.events c.frames s.events s.frames hand'
-parted base hand hand' v c s b hers his its =
-    subst (λ (x : ℕ × ClientPart × ServerPart × List HandEvent). HasHistory x.0 x.1.events x.1.frames x.2.events x.2.frames x.3) (λ n. (b n, hers n, his n, its n))
+pub parted : (k : Shape) (hand hand' : List HandEvent) (v : View) (c : ClientPart) (s : ServerPart) → v.client.shape ≡ k → v.client ≡ c → v.server ≡ s → hand ≡ hand'
+    → Meeting v hand → HasHistory k c.events c.frames s.events s.frames hand'
+parted k hand hand' v c s b hers his its =
+    subst (λ (x : Shape × ClientPart × ServerPart × List HandEvent). HasHistory x.0 x.1.events x.1.frames x.2.events x.2.frames x.3) (λ n. (b n, hers n, his n, its n))
 
 -- the same, of three parts
-pub met : (b base : ℕ) (se : List ServerEvent) (sf : List ℕ) (c : ClientPart) (s : ServerPart) (h : HandPart) (c' : ClientPart) (s' : ServerPart) (h' : HandPart)
-    → b ≡ base → se ≡ s.events → sf ≡ s.frames → c ≡ c' → s ≡ s' → h ≡ h' → HasHistory b c.events c.frames se sf h.events → HasHistory base c'.events c'.frames s'.events s'.frames h'.events
-met b base se sf c s h c' s' h' is events frames hers his its told =
-    subst (λ (x : ℕ × ClientPart × List ServerEvent × List ℕ × HandPart). HasHistory x.0 x.1.events x.1.frames x.2 x.3 x.4.events)
+pub met : (b k : Shape) (se : List ServerEvent) (sf : List ℕ) (c : ClientPart) (s : ServerPart) (h : HandPart) (c' : ClientPart) (s' : ServerPart) (h' : HandPart)
+    → b ≡ k → se ≡ s.events → sf ≡ s.frames → c ≡ c' → s ≡ s' → h ≡ h' → HasHistory b c.events c.frames se sf h.events → HasHistory k c'.events c'.frames s'.events s'.frames h'.events
+met b k se sf c s h c' s' h' is events frames hers his its told =
+    subst (λ (x : Shape × ClientPart × List ServerEvent × List ℕ × HandPart). HasHistory x.0 x.1.events x.1.frames x.2 x.3 x.4.events)
     (λ n. (is n, hers n, (events ∙ ap (λ p. p.events) his) n, (frames ∙ ap (λ p. p.frames) his) n, its n)) told
 
 -- before an event more there was one less

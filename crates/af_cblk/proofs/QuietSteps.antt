@@ -9,7 +9,7 @@ use Rattle.af_model.specs.History.{Moment, client_of, server_of, met_by, met_in,
 use Rattle.af_model.specs.Fates.{InTurn}
 use Rattle.af_model.proofs.Fates.{in_turn}
 use Rattle.af_model.proofs.Grows.{client_adds, server_adds, hand_adds}
-use Rattle.af_cblk.specs.declared.view.Shape.{Shape}
+use Rattle.af_model.specs.declared.shape.Shape.{Shape}
 use Rattle.af_cblk.specs.declared.view.ClientPart.{ClientPart}
 use Rattle.af_cblk.specs.declared.view.ServerPart.{ServerPart}
 use Rattle.af_cblk.specs.declared.view.HandPart.{HandPart}
@@ -21,8 +21,8 @@ abbrev pub at : List ℕ → ℕ → ℕ
 at ws i = get_or ws i 0
 
 -- positions never pass one another
-pub turn_of : {k : Shape} {words : List ℕ} {c : ClientPart} {s : ServerPart} {h : HandPart} (i : Stands k words c s h) → InTurn k.base (point i.history)
-turn_of {k} i = in_turn k.base i.history.order i.history.legal
+pub turn_of : {k : Shape} {words : List ℕ} {c : ClientPart} {s : ServerPart} {h : HandPart} (i : Stands k words c s h) → InTurn k (point i.history)
+turn_of {k} i = in_turn k i.history.order i.history.legal
 
 -- what was met stays behind
 pub longer : (order : List Moment) (e : ClientEvent) → met_in order ≤ length (client_of order) → met_in order ≤ length (client_of order ++ e ∷ [])
@@ -76,7 +76,7 @@ module _ (k : Shape) (words words' : List ℕ) (c : ClientPart) (s : ServerPart)
       let p = after_server (point i.history) e in
       record {
         history = server_adds i.history e s.frames may same.0 (none c.frames k.base (point i.history) s.frames);
-        settled = (λ more. none (c.frames ++ more) k.base (point i.history) (taken_of (c.frames ++ more) k.base i.history.order) ∙ i.settled more ∙ sym (none c.frames k.base (point i.history) (taken_of c.frames k.base i.history.order)));
+        settled = (λ more. none (c.frames ++ more) k.base (point i.history) (taken_of (c.frames ++ more) k i.history.order) ∙ i.settled more ∙ sym (none c.frames k.base (point i.history) (taken_of c.frames k i.history.order)));
         tally = now.0;
         cells = i.cells;
         words_are = now.1;

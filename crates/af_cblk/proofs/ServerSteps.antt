@@ -218,7 +218,7 @@ module _ (words : List ℕ) (c : ClientPart) (s : ServerPart) (h : HandPart) (i 
         record {
           history = server_adds i.history (server.Take count) (s.frames ++ take count s.loaded) seen refl (ap (λ (l : List ℕ). s.frames ++ l) frames);
           settled = (λ more. ap (λ (l : List ℕ). l ++ take count (drop d (c.frames ++ more))) (i.settled more)
-              ∙ ap (λ (l : List ℕ). taken_of c.frames k.base i.history.order ++ l) (part_front d count c.frames more (let a = t.from_base in let b = t.to_released in omega arith)));
+              ∙ ap (λ (l : List ℕ). taken_of c.frames k i.history.order ++ l) (part_front d count c.frames more (let a = t.from_base in let b = t.to_released in omega arith)));
           tally = i.tally;
           cells = i.cells;
           words_are = ap (λ (z : ℕ). set words 0 z) new ∙ ap (λ (ws : List ℕ). set ws 0 (wrapped (p.consumed + count))) i.words_are;

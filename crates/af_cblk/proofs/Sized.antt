@@ -3,7 +3,7 @@ use Rattle.std.proofs.Common.{◌≡◌, ℕ, ◌+◌, ◌%◌, bit_and, ◌-◌
 use Rattle.std.proofs.lemmas.Nat.{and_mask}
 use mathlib.Core.Logic.{dite}
 use native.Mathlib.Decide.{dec_le}
-use Rattle.af_cblk.specs.declared.view.Shape.{Shape}
+use Rattle.af_model.specs.declared.shape.Shape.{Shape}
 use Rattle.af_cblk.specs.Shape.{IsShape}
 
 -- the cells hold the frames, and whole turns of them fill the positions of 32 bits

@@ -42,7 +42,7 @@ RearIsStored st m n m' = WithClient (rear_stored m.0.client (ahead (released m.0
 abbrev pub HasFlags : ClientPart → ℕ → Type 0
 HasFlags c flags =
     (server : List ServerEvent) × (taken : List ℕ) × (hand : List HandEvent) × StartsWith server c.learnt
-    × ((history : HasHistory c.shape.base c.events c.frames server taken hand) × ((point history).flags ≡ flags))
+    × ((history : HasHistory c.shape c.events c.frames server taken hand) × ((point history).flags ≡ flags))
 
 abbrev pub ClientSeesFlags : Told
 ClientSeesFlags st m n m' =
@@ -106,7 +106,7 @@ HandSets st m n m' = m' ≡ (record m.0 { hand = hand_set m.0.hand }, m.1)
 
 -- the lists have a history
 abbrev pub Meeting : View → List HandEvent → Type 0
-Meeting v hand = HasHistory v.client.shape.base v.client.events v.client.frames v.server.events v.server.frames hand
+Meeting v hand = HasHistory v.client.shape v.client.events v.client.frames v.server.events v.server.frames hand
 
 -- each has learnt what the other had done
 abbrev pub both_met : View → View
@@ -130,4 +130,4 @@ HandMeets st m n m' =
     × (is_lawful m.0.client.events ≡ true
     → (server : List ServerEvent) × (taken : List ℕ) × StartsWith server m.0.client.learnt
     × (m.0.is_server ≡ true → (server ≡ m.0.server.events) × (taken ≡ m.0.server.frames))
-    × HasHistory m.0.client.shape.base m.0.client.events m.0.client.frames server taken m'.0.hand.events)
+    × HasHistory m.0.client.shape m.0.client.events m.0.client.frames server taken m'.0.hand.events)

@@ -7,7 +7,7 @@ use Rattle.af_base.specs.declared.event.ServerEvent.{ServerEvent}
 use Rattle.af_model.specs.declared.point.TrackPoint.{TrackPoint}
 use Rattle.af_model.specs.Point.{wrapped}
 use Rattle.af_model.specs.History.{taken_of, is_lawful, HasHistory, point, client_of, met_in}
-use Rattle.af_cblk.specs.declared.view.Shape.{Shape}
+use Rattle.af_model.specs.declared.shape.Shape.{Shape}
 use Rattle.af_cblk.specs.declared.view.ClientPart.{ClientPart}
 use Rattle.af_cblk.specs.declared.view.ServerPart.{ServerPart}
 use Rattle.af_cblk.specs.declared.view.HandPart.{HandPart}
@@ -51,8 +51,8 @@ StartsWith events first = (rest : List ServerEvent) × (first ++ rest ≡ events
 
 -- the three lists have a history, and the words stand for its last point
 pub record Stands (k : Shape) (words : List ℕ) (c : ClientPart) (s : ServerPart) (h : HandPart) : Type 0 where
-  pub history : HasHistory k.base c.events c.frames s.events s.frames h.events
-  pub settled : (more : List ℕ) → taken_of (c.frames ++ more) k.base history.order ≡ taken_of c.frames k.base history.order
+  pub history : HasHistory k c.events c.frames s.events s.frames h.events
+  pub settled : (more : List ℕ) → taken_of (c.frames ++ more) k history.order ≡ taken_of c.frames k history.order
   pub tally : ℕ
   pub cells : List ℕ
   pub words_are : words ≡ words_of (point history) tally cells

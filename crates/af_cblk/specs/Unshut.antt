@@ -4,8 +4,8 @@ use Rattle.af_base.specs.declared.event.ClientEvent.{ClientEvent}
 use Rattle.af_base.specs.declared.event.ServerEvent.{ServerEvent}
 use Rattle.af_model.specs.ClientCalls.{client_kept, IsClientList}
 use Rattle.af_model.specs.ServerCalls.{server_kept}
-use Rattle.af_cblk.specs.declared.view.Shape.{Shape}
+use Rattle.af_model.specs.declared.shape.Shape.{Shape}
 
 -- where the client's list is spelled by its calls, nothing in the two lists shut either proxy
 abbrev pub NeitherShut : Shape → List ClientEvent → List ServerEvent → Type 0
-NeitherShut k client server = IsClientList k.frames k.cells k.base client → ((client_kept k.frames k.base client).shut ≡ None) × ((server_kept k.frames k.base server).shut ≡ None)
+NeitherShut k client server = IsClientList k.frames k.cells k.base client → ((client_kept k.frames k.base client).shut ≡ None) × ((server_kept k server).shut ≡ None)

@@ -6,9 +6,10 @@ ghost use Rattle.af_cblk.specs.Sides.{client_made, server_made};
 
 use crate::pass::{BlockPass, ClientPass, ServerPass};
 use crate::plays::ClientMoves;
-use crate::view::{Shape, View};
+use crate::view::View;
 use crate::words::{CELLS, UNITY_GAINS};
 use af_base::{Memory, Steps};
+use af_model::Shape;
 use atomic_table::{Table, TableRule};
 use std::alloc::{AllocError, Global};
 use std::marker::Model;

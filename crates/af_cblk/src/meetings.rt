@@ -43,7 +43,7 @@ impl Block {
         ensures server { ServerIs (server_did server.old.part (server_event.Learn (length client.old.part.events))) server.old server.new }
         ensures history { is_lawful client.old.part.events ≡ true
             → (hand : List HandEvent) × (server.old.has_hand ≡ true → hand ≡ [])
-            × HasHistory self.now.shape.base client.new.part.events client.new.part.frames server.new.part.events server.new.part.frames hand }
+            × HasHistory self.now.shape client.new.part.events client.new.part.frames server.new.part.events server.new.part.frames hand }
         ensures unshut { is_lawful client.old.part.events ≡ true → NeitherShut self.now.shape client.old.part.events server.old.part.events }
         ensures steps { steps.new ≡ steps.old + 5 }
     {
@@ -68,7 +68,7 @@ impl Block {
         ensures hand { hand.new.part ≡ hand_met hand.old.part (length client.old.part.events) }
         ensures history { is_lawful client.old.part.events ≡ true
             → (server : List ServerEvent) × (taken : List ℕ) × StartsWith server client.old.part.learnt
-            × HasHistory self.now.shape.base client.old.part.events client.old.part.frames server taken hand.new.part.events }
+            × HasHistory self.now.shape client.old.part.events client.old.part.frames server taken hand.new.part.events }
         ensures steps { steps.new ≡ steps.old + 4 }
     {
         self.bring_client(&mut client.seat, &mut hand.seat, steps);
@@ -93,7 +93,7 @@ impl Block {
         ensures split { server.new.has_hand ≡ false }
         ensures hand { hand.new.part ≡ hand_met hand.old.part (length client.old.part.events + 1) }
         ensures history { is_lawful client.old.part.events ≡ true
-            → HasHistory self.now.shape.base client.new.part.events client.new.part.frames server.new.part.events server.new.part.frames hand.new.part.events }
+            → HasHistory self.now.shape client.new.part.events client.new.part.frames server.new.part.events server.new.part.frames hand.new.part.events }
         ensures unshut { is_lawful client.old.part.events ≡ true → NeitherShut self.now.shape client.old.part.events server.old.part.events }
         ensures steps { steps.new ≡ steps.old + 9 }
     {

@@ -126,7 +126,7 @@ impl Block {
         ensures history { is_lawful seat.old.me.0.client.events ≡ true
             → (server : List ServerEvent) × (taken : List ℕ) × StartsWith server seat.old.me.0.client.learnt
             × (seat.old.me.0.is_server ≡ true → (server ≡ seat.old.me.0.server.events) × (taken ≡ seat.old.me.0.server.frames))
-            × HasHistory seat.old.me.0.client.shape.base seat.old.me.0.client.events seat.old.me.0.client.frames server taken seat.new.me.0.hand.events }
+            × HasHistory seat.old.me.0.client.shape seat.old.me.0.client.events seat.old.me.0.client.frames server taken seat.new.me.0.hand.events }
         ensures steps { steps.new ≡ steps.old + 1 }
     {
         self.table.shared.load::<HandMeets>(seat, FRONT);

@@ -1,17 +1,7 @@
-//! What a seat at the table knows. Contracts alone see values of these types, but for `Shape`.
+//! What a seat at the table knows. Contracts alone see values of these types.
 use af_base::{ClientEvent, HandEvent, ServerEvent};
+use af_model::Shape;
 use std::collections::LinkedList;
-
-/// The sizes of a block.
-#[derive(Clone, Copy, Drop)]
-pub struct Shape {
-    /// How many frames may lie in it.
-    pub frames: u32,
-    /// How many cells it has.
-    pub cells: u32,
-    /// The position of the first frame.
-    pub base: u32,
-}
 
 /// What a client has done, and what it knows. No value of it is made.
 pub struct ClientPart {

@@ -11,7 +11,7 @@ use Rattle.af_model.specs.ClientCalls.{ClientKept, client_keeps, client_begins, 
 use Rattle.af_model.proofs.Logic.{both_left, both_right, both_are}
 use Rattle.af_model.proofs.Counts.{lawful_before}
 use Rattle.af_cblk.specs.declared.view.ClientPart.{ClientPart}
-use Rattle.af_cblk.specs.declared.view.Shape.{Shape}
+use Rattle.af_model.specs.declared.shape.Shape.{Shape}
 use Rattle.af_cblk.specs.Parts.{released, client_did, client_met}
 use Rattle.af_base.specs.declared.event.ServerEvent.{ServerEvent}
 use Rattle.af_cblk.specs.Rule.{new_client}

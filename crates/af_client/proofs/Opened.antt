@@ -12,7 +12,7 @@ use Rattle.af_model.specs.History.{is_lawful}
 use Rattle.af_model.specs.ClientCalls.{client_begins, client_events_of}
 use Rattle.af_model.proofs.Logic.{LieOutside, outside-none, outside-some, client_outside}
 use Rattle.af_cblk.specs.declared.view.ClientPart.{ClientPart}
-use Rattle.af_cblk.specs.declared.view.Shape.{Shape}
+use Rattle.af_model.specs.declared.shape.Shape.{Shape}
 use Rattle.af_cblk.specs.Shape.{IsShape}
 use Rattle.af_cblk.specs.Parts.{released, filled, recorded, run_of, rear_stored}
 use Rattle.af_cblk.proofs.Sized.{sized}

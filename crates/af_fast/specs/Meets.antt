@@ -77,5 +77,5 @@ pub record MeetsHeld (slot : ℕ) (s : ServerState) (o : Observes ServerState St
   pub client : c' ≡ client_knows c s
   pub hand : h'.part ≡ hand_met h.part (length c.pass.part.events + 1)
   pub others : AreOfBlockOf s c' h'
-  pub history : is_lawful c.pass.part.events ≡ true → HasBlockHistory s.pass.part.shape.base c'.pass.part.events c'.pass.part.frames (server_met s c).pass.part.events (server_met s c).pass.part.frames h'.part.events
+  pub history : is_lawful c.pass.part.events ≡ true → HasBlockHistory s.pass.part.shape c'.pass.part.events c'.pass.part.frames (server_met s c).pass.part.events (server_met s c).pass.part.frames h'.part.events
   pub unshut : is_lawful c.pass.part.events ≡ true → s.shut ≡ None

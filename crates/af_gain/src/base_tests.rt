@@ -1,6 +1,6 @@
 use af_base::{
-    Command, CommandLook, CommandLooks, Cycle, CycleEntry, FastLog, Frame, Gains, Part, Seen,
-    SlotEntry, plain_frame, plain_mix,
+    Command, CommandLook, CommandLooks, Cycle, CycleEntry, FastLog, Frame, Gains, Part, SLOTS,
+    Seen, SlotEntry, plain_frame, plain_mix,
 };
 use std::test::Fail;
 
@@ -71,8 +71,8 @@ fn a_log_is_its_entries_and_frames(rt: HostRuntime) -> Result<(), Fail> {
     let entry = CycleEntry {
         state: 1,
         cycle: Cycle::Mixed,
-        slots: [slot; 8],
-        scales: [0x1000; 8],
+        slots: [slot; SLOTS],
+        scales: [0x1000; SLOTS],
         mono: 2,
     };
     let frames = [Frame { left: 1, right: 2 }, Frame { left: 3, right: 4 }];

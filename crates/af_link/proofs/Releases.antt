@@ -8,7 +8,7 @@ use Rattle.af_base.specs.Sample.{packed_word}
 use Rattle.af_model.specs.PipeHistory.{releases_of}
 use Rattle.af_cblk.specs.declared.view.ClientPart.{ClientPart}
 use Rattle.af_model.specs.Point.{wrapped}
-use Rattle.af_cblk.specs.declared.view.Shape.{Shape}
+use Rattle.af_model.specs.declared.shape.Shape.{Shape}
 use Rattle.af_cblk.specs.Shape.{IsShape}
 use Rattle.af_client.proofs.Opened.{same_end}
 use Rattle.af_client.specs.Calls.{PutOn}

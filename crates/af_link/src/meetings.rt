@@ -31,7 +31,7 @@ pub fn meet_track<L: Ledger>(
     ensures server { server.new ≡ (record server.old { pass = record server.old.pass { part = server_did server.old.pass.part (server_event.Learn (length client.old.pass.part.events)) } }) }
     ensures history { is_lawful client.old.pass.part.events ≡ true
         → (hand : List HandEvent) × (server.old.pass.has_hand ≡ true → hand ≡ [])
-        × HasHistory block.now.shape.base client.new.pass.part.events client.new.pass.part.frames server.new.pass.part.events server.new.pass.part.frames hand }
+        × HasHistory block.now.shape client.new.pass.part.events client.new.pass.part.frames server.new.pass.part.events server.new.pass.part.frames hand }
     ensures unshut { is_lawful client.old.pass.part.events ≡ true → server.new.shut ≡ None }
     ensures steps { steps.new ≡ steps.old + 5 }
 {
@@ -53,7 +53,7 @@ pub fn meet_flag<L: Ledger>(
     ensures hand { hand.new.part ≡ hand_met hand.old.part (length client.old.pass.part.events) }
     ensures history { is_lawful client.old.pass.part.events ≡ true
         → (server : List ServerEvent) × (taken : List ℕ) × StartsWith server client.old.pass.part.learnt
-        × HasHistory block.now.shape.base client.old.pass.part.events client.old.pass.part.frames server taken hand.new.part.events }
+        × HasHistory block.now.shape client.old.pass.part.events client.old.pass.part.frames server taken hand.new.part.events }
     ensures steps { steps.new ≡ steps.old + 4 }
 {
     block.meet_flag(client.pass(), hand, steps);
@@ -75,7 +75,7 @@ pub fn meet_all<L: Ledger>(
     ensures server { server.new ≡ (record server.old { pass = record server.old.pass { part = server_did server.old.pass.part (server_event.Learn (length client.old.pass.part.events)); has_hand = false } }) }
     ensures hand { hand.new.part ≡ hand_met hand.old.part (length client.old.pass.part.events + 1) }
     ensures history { is_lawful client.old.pass.part.events ≡ true
-        → HasHistory block.now.shape.base client.new.pass.part.events client.new.pass.part.frames server.new.pass.part.events server.new.pass.part.frames hand.new.part.events }
+        → HasHistory block.now.shape client.new.pass.part.events client.new.pass.part.frames server.new.pass.part.events server.new.pass.part.frames hand.new.part.events }
     ensures unshut { is_lawful client.old.pass.part.events ≡ true → server.new.shut ≡ None }
     ensures steps { steps.new ≡ steps.old + 9 }
 {

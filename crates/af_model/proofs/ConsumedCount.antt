@@ -7,6 +7,7 @@ use Rattle.af_base.specs.declared.event.ServerEvent.TheVariants as server
 use Rattle.af_base.specs.declared.event.HandEvent.{HandEvent}
 use Rattle.af_base.specs.declared.seen.Seen.{Seen}
 use Rattle.af_base.specs.declared.seen.Seen.TheVariants as seen
+use Rattle.af_model.specs.declared.shape.Shape.{Shape}
 use Rattle.af_model.specs.declared.point.TrackPoint.{TrackPoint}
 use Rattle.af_model.specs.Point.{wrapped, start, ServerMay, after_server}
 use Rattle.af_model.specs.History.{Moment, by_client, by_server, by_hand, client_of, server_of, after, IsLegal, HasHistory, point}
@@ -49,25 +50,25 @@ drops_follow seen.Empty rear = tt
 drops_follow (seen.Flushed dropped) rear = (refl, tt)
 drops_follow (seen.Shut front back) rear = tt
 
-all_follow : (size base : ℕ) (shown : Option ℕ) (es : List ServerEvent) → IsServerList size base shown es → AllFollow false es
-all_follow size base _ _ begins = tt
-all_follow size base _ _ (looks es shown asked flush rear front before unshut some) =
-    follow_join false es _ (all_follow size base shown es before) (tt, (tt, (tt, drops_follow (look_at size (server_kept size base es).flush asked flush rear front) rear)))
-all_follow size base _ _ (takes es count before) = follow_join false es _ (all_follow size base (Some count) es before) (tt, tt)
-all_follow size base _ _ (reads_gains es shown word before) = follow_join false es _ (all_follow size base shown es before) (tt, tt)
-all_follow size base _ _ (tallies es shown missing before some) = follow_join false es _ (all_follow size base shown es before) (tt, (tt, tt))
-all_follow size base _ _ (sets_flags es shown bits before) = follow_join false es _ (all_follow size base shown es before) (tt, tt)
-all_follow size base _ _ (sets_status es shown word before) = follow_join false es _ (all_follow size base shown es before) (tt, tt)
-all_follow size base _ _ (rests es shown before) = all_follow size base shown es before
-all_follow size base _ _ (meets es shown count before) = follow_join false es _ (all_follow size base shown es before) (tt, tt)
+all_follow : (shape : Shape) (shown : Option ℕ) (es : List ServerEvent) → IsServerList shape shown es → AllFollow false es
+all_follow shape _ _ begins = tt
+all_follow shape _ _ (looks es shown asked flush rear front before unshut some) =
+    follow_join false es _ (all_follow shape shown es before) (tt, (tt, (tt, drops_follow (look_at shape (server_kept shape es).flush asked flush rear front) rear)))
+all_follow shape _ _ (takes es count before) = follow_join false es _ (all_follow shape (Some count) es before) (tt, tt)
+all_follow shape _ _ (reads_gains es shown word before) = follow_join false es _ (all_follow shape shown es before) (tt, tt)
+all_follow shape _ _ (tallies es shown missing before some) = follow_join false es _ (all_follow shape shown es before) (tt, (tt, tt))
+all_follow shape _ _ (sets_flags es shown bits before) = follow_join false es _ (all_follow shape shown es before) (tt, tt)
+all_follow shape _ _ (sets_status es shown word before) = follow_join false es _ (all_follow shape shown es before) (tt, tt)
+all_follow shape _ _ (rests es shown before) = all_follow shape shown es before
+all_follow shape _ _ (meets es shown count before) = follow_join false es _ (all_follow shape shown es before) (tt, tt)
 
-module _ (size base : ℕ) (few : size ≤ 65536) where
+module _ (shape : Shape) (few : shape.frames ≤ 65536) where
   record Counts (k : ServerKept) (b : Bool) (p : TrackPoint) : Type 0 where
-    count : base + k.consumed ≡ p.consumed
+    count : shape.base + k.consumed ≡ p.consumed
     front_is : b ≡ true → k.front ≡ wrapped p.consumed
 
-  drop_counts : (front to consumed base_consumed rear_seen : ℕ) → front ≡ wrapped consumed → to ≡ wrapped rear_seen → consumed ≤ rear_seen → rear_seen ≤ consumed + size → base + base_consumed ≡ consumed
-      → base + (base_consumed + ahead front to) ≡ rear_seen
+  drop_counts : (front to consumed sofar rear_seen : ℕ) → front ≡ wrapped consumed → to ≡ wrapped rear_seen → consumed ≤ rear_seen → rear_seen ≤ consumed + shape.frames → shape.base + sofar ≡ consumed
+      → shape.base + (sofar + ahead front to) ≡ rear_seen
   drop_counts front to consumed sofar rear_seen f t low high is =
       let far : ahead front to ≡ rear_seen - consumed = ap (λ (x : ℕ × ℕ). ahead x.0 x.1) (λ i. (f i, t i)) ∙ ahead-between consumed rear_seen low (omega arith) in
       omega arith
@@ -75,8 +76,8 @@ module _ (size base : ℕ) (few : size ≤ 65536) where
   no : (k : ServerKept) (p : TrackPoint) → false ≡ true → k.front ≡ wrapped p.consumed
   no k p e = absurd (true≢false (sym e))
 
-  server_counts : (k : ServerKept) (b : Bool) (p : TrackPoint) (others : ℕ) (e : ServerEvent) → ServerMay p others e → FollowsLook b e → InTurn base p → p.released ≤ p.consumed + size → Counts k b p
-      → Counts (server_keeps size k e) (saw_front b e) (after_server p e)
+  server_counts : (k : ServerKept) (b : Bool) (p : TrackPoint) (others : ℕ) (e : ServerEvent) → ServerMay p others e → FollowsLook b e → InTurn shape p → p.released ≤ p.consumed + shape.frames → Counts k b p
+      → Counts (server_keeps shape k e) (saw_front b e) (after_server p e)
   server_counts k b p others (server.SawGain word) may fit turn room c = record { count = c.count; front_is = no k p }
   server_counts k b p others (server.SawFlush flush) may fit turn room c = record { count = c.count; front_is = no k p }
   server_counts k b p others (server.SawRear rear) may fit turn room c = record { count = c.count; front_is = no k p }
@@ -95,32 +96,32 @@ module _ (size base : ℕ) (few : size ≤ 65536) where
   kept_counts : (k : ServerKept) (b : Bool) (p q : TrackPoint) → q.consumed ≡ p.consumed → Counts k b p → Counts k b q
   kept_counts k b p q same c = record { count = c.count ∙ sym same; front_is = (λ e. c.front_is e ∙ ap wrapped (sym same)) }
 
-  counts_in : (order : List Moment) → IsLegal (start base) order → AllFit size (client_begins base) None (client_of order) → AllFollow false (server_of order)
-      → Counts (server_kept size base (server_of order)) (fold saw_front false (server_of order)) (after (start base) order)
-  counts_in [] h fit f = record { count = (let e : base + 0 ≡ base = omega arith in e); front_is = (λ e. absurd (true≢false (sym e))) }
+  counts_in : (order : List Moment) → IsLegal (start shape) order → AllFit shape (client_begins shape.base) None (client_of order) → AllFollow false (server_of order)
+      → Counts (server_kept shape (server_of order)) (fold saw_front false (server_of order)) (after (start shape) order)
+  counts_in [] h fit f = record { count = (let e : shape.base + 0 ≡ shape.base = omega arith in e); front_is = (λ e. absurd (true≢false (sym e))) }
   counts_in (by_client e ∷ order) h fit f =
-      kept_counts _ _ (after (start base) order) _ (same_consumed (after (start base) order) e) (counts_in order h.1 (fit_split size (client_begins base) None (client_of order) (e ∷ []) fit).0 f)
+      kept_counts _ _ (after (start shape) order) _ (same_consumed (after (start shape) order) e) (counts_in order h.1 (fit_split shape (client_begins shape.base) None (client_of order) (e ∷ []) fit).0 f)
   counts_in (by_server e ∷ order) h fit f =
       let g = follow_split false (server_of order) (e ∷ []) f in
-      let now = server_counts _ _ (after (start base) order) _ e h.0 g.1.0 (in_turn base order h.1) (room_in size few base order h.1 fit).fits (counts_in order h.1 fit g.0) in
-      subst (λ (x : ServerKept × Bool). Counts x.0 x.1 (after (start base) (by_server e ∷ order)))
-      (λ i. (sym (fold-append (server_keeps size) (server_begins base) (server_of order) (e ∷ [])) i, sym (fold-append saw_front false (server_of order) (e ∷ [])) i)) now
-  counts_in (by_hand e ∷ order) h fit f = kept_counts _ _ (after (start base) order) _ (hand_consumed (after (start base) order) e) (counts_in order h.1 fit f)
+      let now = server_counts _ _ (after (start shape) order) _ e h.0 g.1.0 (in_turn shape order h.1) (room_in shape few order h.1 fit).fits (counts_in order h.1 fit g.0) in
+      subst (λ (x : ServerKept × Bool). Counts x.0 x.1 (after (start shape) (by_server e ∷ order)))
+      (λ i. (sym (fold-append (server_keeps shape) (server_begins shape) (server_of order) (e ∷ [])) i, sym (fold-append saw_front false (server_of order) (e ∷ [])) i)) now
+  counts_in (by_hand e ∷ order) h fit f = kept_counts _ _ (after (start shape) order) _ (hand_consumed (after (start shape) order) e) (counts_in order h.1 fit f)
 
 -- what the server counts as consumed lies between the base and the position that it consumed up to
-pub consumed-counted : (size cells : ℕ) → size ≤ 65536 → {base : ℕ} {ce : List ClientEvent} {cf : List ℕ} {se : List ServerEvent} {sf : List ℕ} {he : List HandEvent} (h : HasHistory base ce cf se sf he)
-    (shown : Option ℕ) → IsClientList size cells base ce → IsServerList size base shown se → base + (server_kept size base se).consumed ≡ (point h).consumed
-consumed-counted size cells few {base} {ce} {cf} {se} {sf} {he} h shown hers his =
-    let fit : AllFit size (client_begins base) None (client_of h.order) = subst (λ (es : List ClientEvent). AllFit size (client_begins base) None es) (sym h.client_is) (all_fit size cells base ce hers) in
-    let follow : AllFollow false (server_of h.order) = subst (λ (es : List ServerEvent). AllFollow false es) (sym h.server_is) (all_follow size base shown se his) in
-    subst (λ (es : List ServerEvent). base + (server_kept size base es).consumed ≡ (point h).consumed) h.server_is (counts_in size base few h.order h.legal fit follow).count
+pub consumed-counted : (shape : Shape) → shape.frames ≤ 65536 → {ce : List ClientEvent} {cf : List ℕ} {se : List ServerEvent} {sf : List ℕ} {he : List HandEvent} (h : HasHistory shape ce cf se sf he)
+    (shown : Option ℕ) → IsClientList shape.frames shape.cells shape.base ce → IsServerList shape shown se → shape.base + (server_kept shape se).consumed ≡ (point h).consumed
+consumed-counted shape few {ce} {cf} {se} {sf} {he} h shown hers his =
+    let fit : AllFit shape (client_begins shape.base) None (client_of h.order) = subst (λ (es : List ClientEvent). AllFit shape (client_begins shape.base) None es) (sym h.client_is) (all_fit shape ce hers) in
+    let follow : AllFollow false (server_of h.order) = subst (λ (es : List ServerEvent). AllFollow false es) (sym h.server_is) (all_follow shape shown se his) in
+    subst (λ (es : List ServerEvent). shape.base + (server_kept shape es).consumed ≡ (point h).consumed) h.server_is (counts_in shape few h.order h.legal fit follow).count
 
-module _ (size base : ℕ) (few : size ≤ 65536) where
-  own_join : (k : ServerKept) (xs ys : List ServerEvent) → AllSeeOwn size base k xs → AllSeeOwn size base (fold (server_keeps size) k xs) ys → AllSeeOwn size base k (xs ++ ys)
+module _ (shape : Shape) (few : shape.frames ≤ 65536) where
+  own_join : (k : ServerKept) (xs ys : List ServerEvent) → AllSeeOwn shape k xs → AllSeeOwn shape (fold (server_keeps shape) k xs) ys → AllSeeOwn shape k (xs ++ ys)
   own_join k [] ys h t = t
-  own_join k (x ∷ xs) ys h t = (h.0, own_join (server_keeps size k x) xs ys h.1 t)
+  own_join k (x ∷ xs) ys h t = (h.0, own_join (server_keeps shape k x) xs ys h.1 t)
 
-  sees : (k : ServerKept) (p : TrackPoint) (others : ℕ) (e : ServerEvent) → ServerMay p others e → base + k.consumed ≡ p.consumed → SeesOwn base k e
+  sees : (k : ServerKept) (p : TrackPoint) (others : ℕ) (e : ServerEvent) → ServerMay p others e → shape.base + k.consumed ≡ p.consumed → SeesOwn shape k e
   sees k p others (server.SawGain word) may is = tt
   sees k p others (server.SawFlush flush) may is = tt
   sees k p others (server.SawRear rear) may is = tt
@@ -132,19 +133,19 @@ module _ (size base : ℕ) (few : size ≤ 65536) where
   sees k p others (server.SetStatus word) may is = tt
   sees k p others (server.Learn count) may is = tt
 
-  all_own : (order : List Moment) → IsLegal (start base) order → AllFit size (client_begins base) None (client_of order) → AllFollow false (server_of order)
-      → AllSeeOwn size base (server_begins base) (server_of order)
+  all_own : (order : List Moment) → IsLegal (start shape) order → AllFit shape (client_begins shape.base) None (client_of order) → AllFollow false (server_of order)
+      → AllSeeOwn shape (server_begins shape) (server_of order)
   all_own [] h fit f = tt
-  all_own (by_client e ∷ order) h fit f = all_own order h.1 (fit_split size (client_begins base) None (client_of order) (e ∷ []) fit).0 f
+  all_own (by_client e ∷ order) h fit f = all_own order h.1 (fit_split shape (client_begins shape.base) None (client_of order) (e ∷ []) fit).0 f
   all_own (by_server e ∷ order) h fit f =
       let g = follow_split false (server_of order) (e ∷ []) f in
-      own_join (server_begins base) (server_of order) (e ∷ []) (all_own order h.1 fit g.0) (sees (server_kept size base (server_of order)) (after (start base) order) _ e h.0 (counts_in size base few order h.1 fit g.0).count, tt)
+      own_join (server_begins shape) (server_of order) (e ∷ []) (all_own order h.1 fit g.0) (sees (server_kept shape (server_of order)) (after (start shape) order) _ e h.0 (counts_in shape few order h.1 fit g.0).count, tt)
   all_own (by_hand e ∷ order) h fit f = all_own order h.1 fit f
 
 -- in a history of a block whose client keeps to its calls, each front that the server saw is its own
-pub fronts-own : (size cells : ℕ) → size ≤ 65536 → {base : ℕ} {ce : List ClientEvent} {cf : List ℕ} {se : List ServerEvent} {sf : List ℕ} {he : List HandEvent} → HasHistory base ce cf se sf he
-    → (shown : Option ℕ) → IsClientList size cells base ce → IsServerList size base shown se → AllSeeOwn size base (server_begins base) se
-fronts-own size cells few {base} {ce} {cf} {se} {sf} {he} h shown hers his =
-    let fit : AllFit size (client_begins base) None (client_of h.order) = subst (λ (es : List ClientEvent). AllFit size (client_begins base) None es) (sym h.client_is) (all_fit size cells base ce hers) in
-    let follow : AllFollow false (server_of h.order) = subst (λ (es : List ServerEvent). AllFollow false es) (sym h.server_is) (all_follow size base shown se his) in
-    subst (λ (es : List ServerEvent). AllSeeOwn size base (server_begins base) es) h.server_is (all_own size base few h.order h.legal fit follow)
+pub fronts-own : (shape : Shape) → shape.frames ≤ 65536 → {ce : List ClientEvent} {cf : List ℕ} {se : List ServerEvent} {sf : List ℕ} {he : List HandEvent} → HasHistory shape ce cf se sf he
+    → (shown : Option ℕ) → IsClientList shape.frames shape.cells shape.base ce → IsServerList shape shown se → AllSeeOwn shape (server_begins shape) se
+fronts-own shape few {ce} {cf} {se} {sf} {he} h shown hers his =
+    let fit : AllFit shape (client_begins shape.base) None (client_of h.order) = subst (λ (es : List ClientEvent). AllFit shape (client_begins shape.base) None es) (sym h.client_is) (all_fit shape ce hers) in
+    let follow : AllFollow false (server_of h.order) = subst (λ (es : List ServerEvent). AllFollow false es) (sym h.server_is) (all_follow shape shown se his) in
+    subst (λ (es : List ServerEvent). AllSeeOwn shape (server_begins shape) es) h.server_is (all_own shape few h.order h.legal fit follow)

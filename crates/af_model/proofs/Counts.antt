@@ -6,6 +6,7 @@ use Rattle.af_base.specs.declared.event.ServerEvent.{ServerEvent}
 use Rattle.af_base.specs.declared.event.ServerEvent.TheVariants as server
 use Rattle.af_base.specs.declared.event.HandEvent.{HandEvent}
 use Rattle.af_base.specs.declared.event.HandEvent.TheVariants as hand
+use Rattle.af_model.specs.declared.shape.Shape.{Shape}
 use Rattle.af_model.specs.declared.point.TrackPoint.{TrackPoint}
 use Rattle.af_model.specs.Point.{start, after_client, after_server, after_hand}
 use Rattle.af_model.specs.History.{Moment, by_client, by_server, by_hand, client_of, clients_at, after, is_tame, is_lawful, flush_in, flushes_of}
@@ -52,11 +53,11 @@ flushes_hand p (hand.SetFlags bits) = refl
 flushes_hand p (hand.Met client) = refl
 
 -- the flush count is the number of the client's flushes
-pub flushes_are : (base : ℕ) (order : List Moment) → (after (start base) order).flushes ≡ flushes_of (client_of order)
-flushes_are base [] = refl
-flushes_are base (by_client e ∷ order) = flushes_client (after (start base) order) e ∙ ap (λ n. n + flush_in e) (flushes_are base order) ∙ sym (flushes-snoc (client_of order) e)
-flushes_are base (by_server e ∷ order) = flushes_server (after (start base) order) e ∙ flushes_are base order
-flushes_are base (by_hand e ∷ order) = flushes_hand (after (start base) order) e ∙ flushes_are base order
+pub flushes_are : (shape : Shape) (order : List Moment) → (after (start shape) order).flushes ≡ flushes_of (client_of order)
+flushes_are shape [] = refl
+flushes_are shape (by_client e ∷ order) = flushes_client (after (start shape) order) e ∙ ap (λ n. n + flush_in e) (flushes_are shape order) ∙ sym (flushes-snoc (client_of order) e)
+flushes_are shape (by_server e ∷ order) = flushes_server (after (start shape) order) e ∙ flushes_are shape order
+flushes_are shape (by_hand e ∷ order) = flushes_hand (after (start shape) order) e ∙ flushes_are shape order
 
 -- it stays lawful with an event that is no poke
 pub lawful_more : (es : List ClientEvent) (e : ClientEvent) → is_tame e ≡ true → is_lawful es ≡ true → is_lawful (es ++ e ∷ []) ≡ true

@@ -3,6 +3,7 @@ use Rattle.std.proofs.Common.{◌≡◌, ℕ, ◌+◌, ◌-◌, ◌≤◌, List,
 use Rattle.af_base.specs.declared.event.ClientEvent.{ClientEvent}
 use Rattle.af_base.specs.declared.event.ServerEvent.{ServerEvent}
 use Rattle.af_base.specs.declared.event.HandEvent.{HandEvent}
+use Rattle.af_model.specs.declared.shape.Shape.{Shape}
 use Rattle.af_model.specs.History.{HasHistory, point}
 use Rattle.af_model.specs.Fates.{InTurn}
 use Rattle.af_model.specs.Spans.{Fate, mixed, discarded, queued, Span, spans_of, fates_of, Follow, frames_by, mixed_in, mixed_by, count_if, count_with}
@@ -48,14 +49,14 @@ length-mixed_by released base from to (s ∷ spans) f low high =
     let joined = length-append (mixed_in released base s) (mixed_by released base spans) in
     omega arith
 
-module _ {base : ℕ} {ce : List ClientEvent} {cf : List ℕ} {se : List ServerEvent} {sf : List ℕ} {he : List HandEvent} (h : HasHistory base ce cf se sf he) where
+module _ {shape : Shape} {ce : List ClientEvent} {cf : List ℕ} {se : List ServerEvent} {sf : List ℕ} {he : List HandEvent} (h : HasHistory shape ce cf se sf he) where
   -- what was mixed, discarded and queued is all that was released
   pub fates-counted : count_with mixed (fates_of h) + count_with discarded (fates_of h) + count_with queued (fates_of h) ≡ length cf
-  fates-counted = let a = all_of base (point h).released (fates_of h) (fates_follow h) in let b = h.released_is in omega arith
+  fates-counted = let a = all_of shape.base (point h).released (fates_of h) (fates_follow h) in let b = h.released_is in omega arith
 
   -- as many frames are mixed as the server took
-  pub mixed-counted : count_with mixed (spans_of base h.order) ≡ length sf
+  pub mixed-counted : count_with mixed (spans_of shape h.order) ≡ length sf
   mixed-counted =
-      let turn : InTurn base (point h) = in_turn base h.order h.legal in
-      let all : (point h).consumed ≤ base + length cf = (let a = turn.to_seen in let b = turn.to_released in let r = h.released_is in omega arith) in
-      sym (ap length (taken-mixed h) ∙ length-mixed_by cf base base (point h).consumed (spans_of base h.order) (spans_follow base h.order h.legal) (omega arith) all)
+      let turn : InTurn shape (point h) = in_turn shape h.order h.legal in
+      let all : (point h).consumed ≤ shape.base + length cf = (let a = turn.to_seen in let b = turn.to_released in let r = h.released_is in omega arith) in
+      sym (ap length (taken-mixed h) ∙ length-mixed_by cf shape.base shape.base (point h).consumed (spans_of shape h.order) (spans_follow shape h.order h.legal) (omega arith) all)

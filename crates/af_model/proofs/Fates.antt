@@ -6,54 +6,55 @@ use Rattle.af_base.specs.declared.event.ServerEvent.{ServerEvent}
 use Rattle.af_base.specs.declared.event.ServerEvent.TheVariants as server
 use Rattle.af_base.specs.declared.event.HandEvent.{HandEvent}
 use Rattle.af_base.specs.declared.event.HandEvent.TheVariants as hand
+use Rattle.af_model.specs.declared.shape.Shape.{Shape}
 use Rattle.af_model.specs.declared.point.TrackPoint.{TrackPoint}
 use Rattle.af_model.specs.Point.{start, ServerMay, after_client, after_server, after_hand}
 use Rattle.af_model.specs.History.{Moment, by_client, by_server, by_hand, server_of, after, IsLegal, with_taken, taken_of, HasHistory}
 use Rattle.af_model.specs.Fates.{keeps_all, drops_none, InTurn}
 use Rattle.af_model.proofs.Logic.{both_left, both_right, both_are}
 
-client_turn : (base : ℕ) (p : TrackPoint) (e : ClientEvent) → InTurn base p → InTurn base (after_client p e)
-client_turn base p (client.Release count) t = record { from_base = t.from_base; to_seen = t.to_seen; to_released = (let a = t.to_released in omega arith) }
-client_turn base p client.Flush t = record { from_base = t.from_base; to_seen = t.to_seen; to_released = t.to_released }
-client_turn base p (client.SetGain word) t = record { from_base = t.from_base; to_seen = t.to_seen; to_released = t.to_released }
-client_turn base p (client.ClearFlags old) t = record { from_base = t.from_base; to_seen = t.to_seen; to_released = t.to_released }
-client_turn base p (client.SawFlags flags) t = t
-client_turn base p (client.SawFront front) t = t
-client_turn base p (client.SawStatus word) t = t
-client_turn base p (client.Poke word value) t = t
-client_turn base p (client.Learn count) t = t
+client_turn : (shape : Shape) (p : TrackPoint) (e : ClientEvent) → InTurn shape p → InTurn shape (after_client p e)
+client_turn shape p (client.Release count) t = record { from_base = t.from_base; to_seen = t.to_seen; to_released = (let a = t.to_released in omega arith) }
+client_turn shape p client.Flush t = record { from_base = t.from_base; to_seen = t.to_seen; to_released = t.to_released }
+client_turn shape p (client.SetGain word) t = record { from_base = t.from_base; to_seen = t.to_seen; to_released = t.to_released }
+client_turn shape p (client.ClearFlags old) t = record { from_base = t.from_base; to_seen = t.to_seen; to_released = t.to_released }
+client_turn shape p (client.SawFlags flags) t = t
+client_turn shape p (client.SawFront front) t = t
+client_turn shape p (client.SawStatus word) t = t
+client_turn shape p (client.Poke word value) t = t
+client_turn shape p (client.Learn count) t = t
 
-server_turn : (base others : ℕ) (p : TrackPoint) (e : ServerEvent) → ServerMay p others e → InTurn base p → InTurn base (after_server p e)
-server_turn base others p (server.SawGain word) may t = t
-server_turn base others p (server.SawFlush flush) may t = record { from_base = t.from_base; to_seen = t.to_seen; to_released = t.to_released }
-server_turn base others p (server.SawRear rear) may t = record { from_base = t.from_base; to_seen = (let a = t.to_seen in let b = t.to_released in omega arith); to_released = omega arith }
-server_turn base others p (server.SawFront front) may t = t
-server_turn base others p (server.Drop to) may t = record { from_base = (let a = t.from_base in let b = t.to_seen in omega arith); to_seen = omega arith; to_released = t.to_released }
-server_turn base others p (server.Take count) may t = record { from_base = (let a = t.from_base in omega arith); to_seen = may; to_released = t.to_released }
-server_turn base others p (server.Tally missing) may t = record { from_base = t.from_base; to_seen = t.to_seen; to_released = t.to_released }
-server_turn base others p (server.SetFlags bits) may t = record { from_base = t.from_base; to_seen = t.to_seen; to_released = t.to_released }
-server_turn base others p (server.SetStatus word) may t = record { from_base = t.from_base; to_seen = t.to_seen; to_released = t.to_released }
-server_turn base others p (server.Learn count) may t = t
+server_turn : (shape : Shape) (others : ℕ) (p : TrackPoint) (e : ServerEvent) → ServerMay p others e → InTurn shape p → InTurn shape (after_server p e)
+server_turn shape others p (server.SawGain word) may t = t
+server_turn shape others p (server.SawFlush flush) may t = record { from_base = t.from_base; to_seen = t.to_seen; to_released = t.to_released }
+server_turn shape others p (server.SawRear rear) may t = record { from_base = t.from_base; to_seen = (let a = t.to_seen in let b = t.to_released in omega arith); to_released = omega arith }
+server_turn shape others p (server.SawFront front) may t = t
+server_turn shape others p (server.Drop to) may t = record { from_base = (let a = t.from_base in let b = t.to_seen in omega arith); to_seen = omega arith; to_released = t.to_released }
+server_turn shape others p (server.Take count) may t = record { from_base = (let a = t.from_base in omega arith); to_seen = may; to_released = t.to_released }
+server_turn shape others p (server.Tally missing) may t = record { from_base = t.from_base; to_seen = t.to_seen; to_released = t.to_released }
+server_turn shape others p (server.SetFlags bits) may t = record { from_base = t.from_base; to_seen = t.to_seen; to_released = t.to_released }
+server_turn shape others p (server.SetStatus word) may t = record { from_base = t.from_base; to_seen = t.to_seen; to_released = t.to_released }
+server_turn shape others p (server.Learn count) may t = t
 
-hand_turn : (base : ℕ) (p : TrackPoint) (e : HandEvent) → InTurn base p → InTurn base (after_hand p e)
-hand_turn base p (hand.SetFlags bits) t = record { from_base = t.from_base; to_seen = t.to_seen; to_released = t.to_released }
-hand_turn base p (hand.Met client) t = t
+hand_turn : (shape : Shape) (p : TrackPoint) (e : HandEvent) → InTurn shape p → InTurn shape (after_hand p e)
+hand_turn shape p (hand.SetFlags bits) t = record { from_base = t.from_base; to_seen = t.to_seen; to_released = t.to_released }
+hand_turn shape p (hand.Met client) t = t
 
 -- positions never pass one another
-pub in_turn : (base : ℕ) (order : List Moment) → IsLegal (start base) order → InTurn base (after (start base) order)
-in_turn base [] h = record { from_base = omega arith; to_seen = omega arith; to_released = omega arith }
-in_turn base (by_client e ∷ order) h = client_turn base _ e (in_turn base order h.1)
-in_turn base (by_server e ∷ order) h = server_turn base _ _ e h.0 (in_turn base order h.1)
-in_turn base (by_hand e ∷ order) h = hand_turn base _ e (in_turn base order h.1)
+pub in_turn : (shape : Shape) (order : List Moment) → IsLegal (start shape) order → InTurn shape (after (start shape) order)
+in_turn shape [] h = record { from_base = omega arith; to_seen = omega arith; to_released = omega arith }
+in_turn shape (by_client e ∷ order) h = client_turn shape _ e (in_turn shape order h.1)
+in_turn shape (by_server e ∷ order) h = server_turn shape _ _ e h.0 (in_turn shape order h.1)
+in_turn shape (by_hand e ∷ order) h = hand_turn shape _ e (in_turn shape order h.1)
 
 before_it : (es : List ServerEvent) (e : ServerEvent) → drops_none (es ++ e ∷ []) ≡ true → (drops_none es ≡ true) × (keeps_all e ≡ true)
 before_it [] e h = (refl, both_left (keeps_all e) true h)
 before_it (x ∷ es) e h = let r = before_it es e (both_right (keeps_all x) _ h) in let x' : keeps_all x ≡ true = both_left (keeps_all x) _ h in (ap (λ b. b && drops_none es) x' ∙ r.0, r.1)
 
-module _ (frames : List ℕ) (base : ℕ) where
+module _ (frames : List ℕ) (shape : Shape) where
   -- what was taken is what was released up to the position consumed
   abbrev pub Begins : TrackPoint → List ℕ → Type 0
-  Begins p taken = taken ≡ take (p.consumed - base) frames
+  Begins p taken = taken ≡ take (p.consumed - shape.base) frames
 
   of_client : (p : TrackPoint) (taken : List ℕ) (e : ClientEvent) → Begins p taken → Begins (after_client p e) taken
   of_client p taken (client.Release count) b = b
@@ -66,15 +67,15 @@ module _ (frames : List ℕ) (base : ℕ) where
   of_client p taken (client.Poke word value) b = b
   of_client p taken (client.Learn count) b = b
 
-  of_server : (p : TrackPoint) (taken : List ℕ) (e : ServerEvent) → base ≤ p.consumed → keeps_all e ≡ true → Begins p taken → Begins (after_server p e) (with_taken frames base p taken e)
+  of_server : (p : TrackPoint) (taken : List ℕ) (e : ServerEvent) → shape.base ≤ p.consumed → keeps_all e ≡ true → Begins p taken → Begins (after_server p e) (with_taken frames shape.base p taken e)
   of_server p taken (server.SawGain word) low k b = b
   of_server p taken (server.SawFlush flush) low k b = b
   of_server p taken (server.SawRear rear) low k b = b
   of_server p taken (server.SawFront front) low k b = b
   of_server p taken (server.Drop to) low k b = absurd (true≢false (sym k))
   of_server p taken (server.Take count) low k b =
-      let d : ℕ = p.consumed - base in
-      let next : d + count ≡ p.consumed + count - base = omega arith in
+      let d : ℕ = p.consumed - shape.base in
+      let next : d + count ≡ p.consumed + count - shape.base = omega arith in
       ap (λ (l : List ℕ). l ++ take count (drop d frames)) b ∙ sym (take-add d count frames) ∙ ap (λ (n : ℕ). take n frames) next
   of_server p taken (server.Tally missing) low k b = b
   of_server p taken (server.SetFlags bits) low k b = b
@@ -85,19 +86,19 @@ module _ (frames : List ℕ) (base : ℕ) where
   of_hand p taken (hand.SetFlags bits) b = b
   of_hand p taken (hand.Met client) b = b
 
-  pub begins : (order : List Moment) → IsLegal (start base) order → drops_none (server_of order) ≡ true → Begins (after (start base) order) (taken_of frames base order)
-  begins [] h none = let e : base - base ≡ 0 = omega arith in sym (ap (λ (n : ℕ). take n frames) e)
+  pub begins : (order : List Moment) → IsLegal (start shape) order → drops_none (server_of order) ≡ true → Begins (after (start shape) order) (taken_of frames shape order)
+  begins [] h none = let e : shape.base - shape.base ≡ 0 = omega arith in sym (ap (λ (n : ℕ). take n frames) e)
   begins (by_client e ∷ order) h none = of_client _ _ e (begins order h.1 none)
   begins (by_server e ∷ order) h none =
       let b = before_it (server_of order) e none in
-      of_server _ _ e (in_turn base order h.1).from_base b.1 (begins order h.1 b.0)
+      of_server _ _ e (in_turn shape order h.1).from_base b.1 (begins order h.1 b.0)
   begins (by_hand e ∷ order) h none = of_hand _ _ e (begins order h.1 none)
 
 -- where nothing was dropped, the frames taken begin the frames released
-pub taken_begins : (base : ℕ) (ce : List ClientEvent) (cf : List ℕ) (se : List ServerEvent) (sf : List ℕ) (he : List HandEvent) → HasHistory base ce cf se sf he → drops_none se ≡ true
+pub taken_begins : (shape : Shape) (ce : List ClientEvent) (cf : List ℕ) (se : List ServerEvent) (sf : List ℕ) (he : List HandEvent) → HasHistory shape ce cf se sf he → drops_none se ≡ true
     → (n : ℕ) × (sf ≡ take n cf)
-taken_begins base ce cf se sf he h none =
-    (_, sym h.taken_is ∙ begins cf base h.order h.legal (subst (λ es. drops_none es ≡ true) (sym h.server_is) none))
+taken_begins shape ce cf se sf he h none =
+    (_, sym h.taken_is ∙ begins cf shape h.order h.legal (subst (λ es. drops_none es ≡ true) (sym h.server_is) none))
 
 -- an event that drops nothing adds no drop
 pub drops_more : (es : List ServerEvent) (e : ServerEvent) → keeps_all e ≡ true → drops_none es ≡ true → drops_none (es ++ e ∷ []) ≡ true

@@ -5,6 +5,7 @@ use Rattle.af_base.specs.declared.event.ClientEvent.{ClientEvent}
 use Rattle.af_base.specs.declared.event.ClientEvent.TheVariants as client
 use Rattle.af_base.specs.declared.event.ServerEvent.{ServerEvent}
 use Rattle.af_base.specs.declared.event.ServerEvent.TheVariants as server
+use Rattle.af_model.specs.declared.shape.Shape.{Shape}
 use Rattle.af_model.specs.Point.{wrapped}
 use Rattle.af_model.specs.Room.{ahead, outside}
 use Rattle.af_model.specs.ClientCalls.{ClientKept, client_keeps}
@@ -75,17 +76,17 @@ client_lies frames kept (client.SawStatus word) h = h
 client_lies frames kept (client.Poke word value) h = h
 client_lies frames kept (client.Learn count) h = h
 
-server_lies : (frames : ℕ) (kept : ServerKept) (e : ServerEvent) → LieOutside frames kept.shut → LieOutside frames (server_keeps frames kept e).shut
-server_lies frames kept (server.SawGain word) h = h
-server_lies frames kept (server.SawFlush flush) h = h
-server_lies frames kept (server.SawRear rear) h = h
-server_lies frames kept (server.SawFront front) h = unless frames kept.is_new (outside frames front kept.rear) (chosen frames front kept.rear (nat_lt frames (ahead front kept.rear)) refl)
-server_lies frames kept (server.Drop to) h = h
-server_lies frames kept (server.Take count) h = h
-server_lies frames kept (server.Tally missing) h = h
-server_lies frames kept (server.SetFlags bits) h = h
-server_lies frames kept (server.SetStatus word) h = h
-server_lies frames kept (server.Learn count) h = h
+server_lies : (shape : Shape) (kept : ServerKept) (e : ServerEvent) → LieOutside shape.frames kept.shut → LieOutside shape.frames (server_keeps shape kept e).shut
+server_lies shape kept (server.SawGain word) h = h
+server_lies shape kept (server.SawFlush flush) h = h
+server_lies shape kept (server.SawRear rear) h = h
+server_lies shape kept (server.SawFront front) h = unless shape.frames kept.is_new (outside shape.frames front kept.rear) (chosen shape.frames front kept.rear (nat_lt shape.frames (ahead front kept.rear)) refl)
+server_lies shape kept (server.Drop to) h = h
+server_lies shape kept (server.Take count) h = h
+server_lies shape kept (server.Tally missing) h = h
+server_lies shape kept (server.SetFlags bits) h = h
+server_lies shape kept (server.SetStatus word) h = h
+server_lies shape kept (server.Learn count) h = h
 
 -- the words that shut a client lie outside its block, by its list
 pub client_outside : (frames : ℕ) (kept : ClientKept) (es : List ClientEvent) → LieOutside frames kept.shut → LieOutside frames (fold (client_keeps frames) kept es).shut
@@ -93,6 +94,6 @@ client_outside frames kept [] h = h
 client_outside frames kept (e ∷ es) h = client_outside frames (client_keeps frames kept e) es (client_lies frames kept e h)
 
 -- and those that shut a server
-pub server_outside : (frames : ℕ) (kept : ServerKept) (es : List ServerEvent) → LieOutside frames kept.shut → LieOutside frames (fold (server_keeps frames) kept es).shut
-server_outside frames kept [] h = h
-server_outside frames kept (e ∷ es) h = server_outside frames (server_keeps frames kept e) es (server_lies frames kept e h)
+pub server_outside : (shape : Shape) (kept : ServerKept) (es : List ServerEvent) → LieOutside shape.frames kept.shut → LieOutside shape.frames (fold (server_keeps shape) kept es).shut
+server_outside shape kept [] h = h
+server_outside shape kept (e ∷ es) h = server_outside shape (server_keeps shape kept e) es (server_lies shape kept e h)

@@ -9,6 +9,7 @@ use Rattle.af_base.specs.declared.event.ServerEvent.{ServerEvent}
 use Rattle.af_base.specs.declared.event.ServerEvent.TheVariants as server
 use Rattle.af_base.specs.declared.event.HandEvent.{HandEvent}
 use Rattle.af_base.specs.declared.event.HandEvent.TheVariants as hand
+use Rattle.af_model.specs.declared.shape.Shape.{Shape}
 use Rattle.af_model.specs.declared.point.TrackPoint.{TrackPoint}
 use Rattle.af_model.specs.Point.{start, ServerMay, after_client, after_server, after_hand}
 use Rattle.af_model.specs.History.{Moment, by_client, by_server, by_hand, after, IsLegal, with_taken, taken_of, HasHistory, point}
@@ -35,24 +36,24 @@ pub hand_consumed : (p : TrackPoint) (e : HandEvent) → (after_hand p e).consum
 hand_consumed p (hand.SetFlags bits) = refl
 hand_consumed p (hand.Met count) = refl
 
-covers : (base : ℕ) (p : TrackPoint) (others : ℕ) (e : ServerEvent) → ServerMay p others e → InTurn base p → Follow p.consumed (covered_by p e) (after_server p e).consumed
-covers base p others (server.SawGain word) may turn = refl
-covers base p others (server.SawFlush flush) may turn = refl
-covers base p others (server.SawRear rear) may turn = refl
-covers base p others (server.SawFront front) may turn = refl
-covers base p others (server.Drop to) may turn = (refl, turn.to_seen, refl)
-covers base p others (server.Take count) may turn = (refl, omega arith, refl)
-covers base p others (server.Tally missing) may turn = refl
-covers base p others (server.SetFlags bits) may turn = refl
-covers base p others (server.SetStatus word) may turn = refl
-covers base p others (server.Learn count) may turn = refl
+covers : (shape : Shape) (p : TrackPoint) (others : ℕ) (e : ServerEvent) → ServerMay p others e → InTurn shape p → Follow p.consumed (covered_by p e) (after_server p e).consumed
+covers shape p others (server.SawGain word) may turn = refl
+covers shape p others (server.SawFlush flush) may turn = refl
+covers shape p others (server.SawRear rear) may turn = refl
+covers shape p others (server.SawFront front) may turn = refl
+covers shape p others (server.Drop to) may turn = (refl, turn.to_seen, refl)
+covers shape p others (server.Take count) may turn = (refl, omega arith, refl)
+covers shape p others (server.Tally missing) may turn = refl
+covers shape p others (server.SetFlags bits) may turn = refl
+covers shape p others (server.SetStatus word) may turn = refl
+covers shape p others (server.Learn count) may turn = refl
 
-pub spans_follow : (base : ℕ) (order : List Moment) → IsLegal (start base) order → Follow base (spans_of base order) (after (start base) order).consumed
-spans_follow base [] h = refl
-spans_follow base (by_client e ∷ order) h = subst (λ (z : ℕ). Follow base (spans_of base order) z) (sym (same_consumed (after (start base) order) e)) (spans_follow base order h.1)
-spans_follow base (by_server e ∷ order) h =
-    follow_join base _ _ (spans_of base order) _ (spans_follow base order h.1) (covers base (after (start base) order) _ e h.0 (in_turn base order h.1))
-spans_follow base (by_hand e ∷ order) h = subst (λ (z : ℕ). Follow base (spans_of base order) z) (sym (hand_consumed (after (start base) order) e)) (spans_follow base order h.1)
+pub spans_follow : (shape : Shape) (order : List Moment) → IsLegal (start shape) order → Follow shape.base (spans_of shape order) (after (start shape) order).consumed
+spans_follow shape [] h = refl
+spans_follow shape (by_client e ∷ order) h = subst (λ (z : ℕ). Follow shape.base (spans_of shape order) z) (sym (same_consumed (after (start shape) order) e)) (spans_follow shape order h.1)
+spans_follow shape (by_server e ∷ order) h =
+    follow_join shape.base _ _ (spans_of shape order) _ (spans_follow shape order h.1) (covers shape (after (start shape) order) _ e h.0 (in_turn shape order h.1))
+spans_follow shape (by_hand e ∷ order) h = subst (λ (z : ℕ). Follow shape.base (spans_of shape order) z) (sym (hand_consumed (after (start shape) order) e)) (spans_follow shape order h.1)
 
 -- spans that follow one another lie past where they begin
 past : (from to : ℕ) (spans : List Span) → Follow from spans to → (place : ℕ) (s : Span) → slice_get spans place ≡ Some s → from ≤ s.from
@@ -110,28 +111,28 @@ mixes released base p taken (server.SetFlags bits) = sym (append-nil taken)
 mixes released base p taken (server.SetStatus word) = sym (append-nil taken)
 mixes released base p taken (server.Learn count) = sym (append-nil taken)
 
-taken_of-spans : (released : List ℕ) (base : ℕ) (order : List Moment) → taken_of released base order ≡ mixed_by released base (spans_of base order)
-taken_of-spans released base [] = refl
-taken_of-spans released base (by_client e ∷ order) = taken_of-spans released base order
-taken_of-spans released base (by_server e ∷ order) =
-    let p = after (start base) order in
-    mixes released base p (taken_of released base order) e
-    ∙ ap (λ (l : List ℕ). l ++ mixed_by released base (covered_by p e)) (taken_of-spans released base order)
-    ∙ sym (mixed_by-append released base (spans_of base order) (covered_by p e))
-taken_of-spans released base (by_hand e ∷ order) = taken_of-spans released base order
+taken_of-spans : (released : List ℕ) (shape : Shape) (order : List Moment) → taken_of released shape order ≡ mixed_by released shape.base (spans_of shape order)
+taken_of-spans released shape [] = refl
+taken_of-spans released shape (by_client e ∷ order) = taken_of-spans released shape order
+taken_of-spans released shape (by_server e ∷ order) =
+    let p = after (start shape) order in
+    mixes released shape.base p (taken_of released shape order) e
+    ∙ ap (λ (l : List ℕ). l ++ mixed_by released shape.base (covered_by p e)) (taken_of-spans released shape order)
+    ∙ sym (mixed_by-append released shape.base (spans_of shape order) (covered_by p e))
+taken_of-spans released shape (by_hand e ∷ order) = taken_of-spans released shape order
 
-module _ {base : ℕ} {ce : List ClientEvent} {cf : List ℕ} {se : List ServerEvent} {sf : List ℕ} {he : List HandEvent} (h : HasHistory base ce cf se sf he) where
+module _ {shape : Shape} {ce : List ClientEvent} {cf : List ℕ} {se : List ServerEvent} {sf : List ℕ} {he : List HandEvent} (h : HasHistory shape ce cf se sf he) where
   -- takes, drops and what waits follow one another from the base on up to what was released
-  pub fates_follow : Follow base (fates_of h) (point h).released
+  pub fates_follow : Follow shape.base (fates_of h) (point h).released
   fates_follow =
-      let turn : InTurn base (point h) = in_turn base h.order h.legal in
-      follow_join base (point h).consumed (point h).released (spans_of base h.order) (waiting_at (point h) ∷ []) (spans_follow base h.order h.legal)
+      let turn : InTurn shape (point h) = in_turn shape h.order h.legal in
+      follow_join shape.base (point h).consumed (point h).released (spans_of shape h.order) (waiting_at (point h) ∷ []) (spans_follow shape h.order h.legal)
       (refl, (let a = turn.to_seen in let b = turn.to_released in omega arith), refl)
 
   -- each frame that was released has one fate
-  pub one_fate : (position : ℕ) → base ≤ position → position < (point h).released → HasOneFate (fates_of h) position
-  one_fate position low high = one_place base (point h).released (fates_of h) fates_follow position low high
+  pub one_fate : (position : ℕ) → shape.base ≤ position → position < (point h).released → HasOneFate (fates_of h) position
+  one_fate position low high = one_place shape.base (point h).released (fates_of h) fates_follow position low high
 
   -- the frames that the server took are those at the positions of its takes
-  pub taken-mixed : sf ≡ mixed_by cf base (spans_of base h.order)
-  taken-mixed = sym h.taken_is ∙ taken_of-spans cf base h.order
+  pub taken-mixed : sf ≡ mixed_by cf shape.base (spans_of shape h.order)
+  taken-mixed = sym h.taken_is ∙ taken_of-spans cf shape h.order

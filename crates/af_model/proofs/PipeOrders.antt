@@ -6,6 +6,7 @@ use Rattle.af_base.specs.declared.event.ClientEvent.{ClientEvent}
 use Rattle.af_base.specs.declared.event.ClientEvent.TheVariants as client
 use Rattle.af_base.specs.declared.event.ServerEvent.{ServerEvent}
 use Rattle.af_base.specs.declared.event.ServerEvent.TheVariants as server
+use Rattle.af_model.specs.declared.shape.Shape.{Shape}
 use Rattle.af_model.specs.declared.point.TrackPoint.{TrackPoint}
 use Rattle.af_model.specs.Point.{wrapped, ClientMay, ServerMay, after_client, after_server}
 use Rattle.af_model.specs.Point.{start as block_start}
@@ -78,11 +79,11 @@ record Takes (size : ℕ) (k : PutKept) (p : TrackPoint) (puts takes : ℕ) (e :
   point_is : next (point_of p puts takes) (two e) ≡ point_of (after_server p e) puts (takes + 1)
   room : PipeHasRoom size k (after_server p e)
 
-module _ (size : ℕ) (few : size ≤ 65536) where
+module _ (shape : Shape) (size : ℕ) (few : size ≤ 65536) (from_zero : shape.base ≡ 0) where
   room-between : (put taken : ℕ) → taken ≤ put → put ≤ taken + size → room_by size put (wrapped taken) ≡ size - (put - taken)
   room-between put taken low fits = ap (λ (n : ℕ). size - n) (ahead-between taken put low (omega arith))
 
-  put_step : (k : PutKept) (p : TrackPoint) (puts takes : ℕ) (e : ClientEvent) → ClientMay p takes e → may_put size k e → InTurn 0 p → PipeHasRoom size k p → Puts size k p puts takes e
+  put_step : (k : PutKept) (p : TrackPoint) (puts takes : ℕ) (e : ClientEvent) → ClientMay p takes e → may_put size k e → InTurn shape p → PipeHasRoom size k p → Puts size k p puts takes e
   put_step k p puts takes (client.Release count) may fits turn r =
       let low : r.known ≤ p.released = (let a = r.low in let b = turn.to_seen in let d = turn.to_released in omega arith) in
       let room : room_by size k.put k.front ≡ size - (p.released - r.known) =
@@ -140,23 +141,28 @@ module _ (size : ℕ) (few : size ≤ 65536) where
   -- what holds of the events of an order so far
   record Agrees (order : List Moment) : Type 0 where
     is_legal : Legal (legal size) next start (events_of order)
-    point_is : after (legal size) next start (events_of order) ≡ point_of (block_after (block_start 0) order) (length (client_of order)) (length (server_of order))
-    room : PipeHasRoom size (put_kept size (client_of order)) (block_after (block_start 0) order)
+    point_is : after (legal size) next start (events_of order) ≡ point_of (block_after (block_start shape) order) (length (client_of order)) (length (server_of order))
+    room : PipeHasRoom size (put_kept size (client_of order)) (block_after (block_start shape) order)
 
-  agrees : (order : List Moment) → IsLegal (block_start 0) order → hand_of order ≡ [] → IsPutList size (client_of order) → IsTakeList (server_of order) → Agrees order
-  agrees [] h none puts takes = record { is_legal = tt; point_is = refl; room = record { known = 0; known_is = refl; low = omega arith; fits = omega arith; put_is = refl } }
+  agrees : (order : List Moment) → IsLegal (block_start shape) order → hand_of order ≡ [] → IsPutList size (client_of order) → IsTakeList (server_of order) → Agrees order
+  agrees [] h none puts takes =
+      record {
+        is_legal = tt;
+        point_is = ap (λ (n : ℕ). record { put = n; taken = n; shown = n; puts = 0; takes = 0 }) (sym from_zero);
+        room = record { known = shape.base; known_is = ap wrapped (sym from_zero); low = omega arith; fits = omega arith; put_is = sym from_zero };
+      }
   agrees (by_client e ∷ order) h none puts takes =
       let s = legal_at (may_put size) after_put nothing_put (client_of order) e [] puts in
       let a = agrees order h.1 none s.0 takes in
       let n : ℕ = length (client_of order) in
       let m : ℕ = length (server_of order) in
-      let step = put_step (put_kept size (client_of order)) (block_after (block_start 0) order) n m e h.0 s.1 (in_turn 0 order h.1) a.room in
+      let step = put_step (put_kept size (client_of order)) (block_after (block_start shape) order) n m e h.0 s.1 (in_turn shape order h.1) a.room in
       let count : n + 1 ≡ length (client_of order ++ e ∷ []) = sym (length-append (client_of order) (e ∷ [])) in
       record {
         is_legal = legal_end (legal size) next start (events_of order) (one e) a.is_legal (subst (λ (q : PipePoint). legal size q (one e)) (sym a.point_is) step.may);
         point_is = after_end (legal size) next start (events_of order) (one e) ∙ ap (λ (q : PipePoint). next q (one e)) a.point_is ∙ step.point_is
-            ∙ ap (λ (c : ℕ). point_of (block_after (block_start 0) (by_client e ∷ order)) c m) count;
-        room = subst (λ (k : PutKept). PipeHasRoom size k (block_after (block_start 0) (by_client e ∷ order))) (sym (after_end (may_put size) after_put nothing_put (client_of order) e)) step.room;
+            ∙ ap (λ (c : ℕ). point_of (block_after (block_start shape) (by_client e ∷ order)) c m) count;
+        room = subst (λ (k : PutKept). PipeHasRoom size k (block_after (block_start shape) (by_client e ∷ order))) (sym (after_end (may_put size) after_put nothing_put (client_of order) e)) step.room;
       }
   agrees (by_server e ∷ order) h none puts takes =
       let whole : (list_all is_taking (server_of order) && list_all is_taking (e ∷ [])) ≡ true = sym (list_all-append is_taking (server_of order) (e ∷ [])) ∙ takes in
@@ -165,31 +171,31 @@ module _ (size : ℕ) (few : size ≤ 65536) where
       let a = agrees order h.1 none puts before in
       let n : ℕ = length (client_of order) in
       let m : ℕ = length (server_of order) in
-      let step = take_step (put_kept size (client_of order)) (block_after (block_start 0) order) n m e h.0 here a.room in
+      let step = take_step (put_kept size (client_of order)) (block_after (block_start shape) order) n m e h.0 here a.room in
       let count : m + 1 ≡ length (server_of order ++ e ∷ []) = sym (length-append (server_of order) (e ∷ [])) in
       record {
         is_legal = legal_end (legal size) next start (events_of order) (two e) a.is_legal (subst (λ (q : PipePoint). legal size q (two e)) (sym a.point_is) step.may);
         point_is = after_end (legal size) next start (events_of order) (two e) ∙ ap (λ (q : PipePoint). next q (two e)) a.point_is ∙ step.point_is
-            ∙ ap (λ (c : ℕ). point_of (block_after (block_start 0) (by_server e ∷ order)) n c) count;
+            ∙ ap (λ (c : ℕ). point_of (block_after (block_start shape) (by_server e ∷ order)) n c) count;
         room = step.room;
       }
   agrees (by_hand e ∷ order) h none puts takes = let long : length (hand_of order ++ e ∷ []) ≡ 0 = ap length none in absurd (omega (arith, length-append (hand_of order) (e ∷ [])))
 
   -- where the two ends of a pipe did what ends do, their history on the block is one of the pipe
-  pub pipe_history : (ce : List ClientEvent) (cf : List ℕ) (se : List ServerEvent) (sf : List ℕ) → HasHistory 0 ce cf se sf [] → IsPutList size ce → IsTakeList se
+  pub pipe_history : (ce : List ClientEvent) (cf : List ℕ) (se : List ServerEvent) (sf : List ℕ) → HasHistory shape ce cf se sf [] → IsPutList size ce → IsTakeList se
       → HasPipeHistory size ce cf se sf
   pipe_history ce cf se sf h puts takes =
       let puts' : IsPutList size (client_of h.order) = subst (λ (es : List ClientEvent). IsPutList size es) (sym h.client_is) puts in
       let takes' : IsTakeList (server_of h.order) = subst (λ (es : List ServerEvent). IsTakeList es) (sym h.server_is) takes in
       let a = agrees h.order h.legal h.hand_is puts' takes' in
-      let p : TrackPoint = block_after (block_start 0) h.order in
-      let t = in_turn 0 h.order h.legal in
-      let taken : sf ≡ take (p.consumed - 0) cf = sym h.taken_is ∙ begins cf 0 h.order h.legal (all_kept (server_of h.order) takes') in
-      let within : p.consumed - 0 ≤ length cf = (let x = t.to_seen in let y = t.to_released in let z = h.released_is in omega arith) in
-      let many : length sf ≡ p.consumed - 0 = ap length taken ∙ length-take-le (p.consumed - 0) cf within in
+      let p : TrackPoint = block_after (block_start shape) h.order in
+      let t = in_turn shape h.order h.legal in
+      let taken : sf ≡ take (p.consumed - shape.base) cf = sym h.taken_is ∙ begins cf shape h.order h.legal (all_kept (server_of h.order) takes') in
+      let within : p.consumed - shape.base ≤ length cf = (let x = t.to_seen in let y = t.to_released in let z = h.released_is in omega arith) in
+      let many : length sf ≡ p.consumed - shape.base = ap length taken ∙ length-take-le (p.consumed - shape.base) cf within in
       record {
         history = record { order = events_of h.order; is_legal = a.is_legal; of_one = ones_of h.order ∙ h.client_is; of_two = twos_of h.order ∙ h.server_is };
-        put_is = ap (λ (q : PipePoint). q.put) a.point_is ∙ h.released_is ∙ (let e : 0 + length cf ≡ length cf = omega arith in e);
-        taken_is = ap (λ (q : PipePoint). q.taken) a.point_is ∙ sym (many ∙ (let e : p.consumed - 0 ≡ p.consumed = omega arith in e));
+        put_is = ap (λ (q : PipePoint). q.put) a.point_is ∙ h.released_is ∙ (let e : shape.base + length cf ≡ length cf = omega arith in e);
+        taken_is = ap (λ (q : PipePoint). q.taken) a.point_is ∙ sym (many ∙ (let e : p.consumed - shape.base ≡ p.consumed = omega arith in e));
         begins = taken ∙ ap (λ (n : ℕ). take n cf) (sym many);
       }

@@ -9,6 +9,7 @@ use Rattle.af_base.specs.declared.event.ServerEvent.{ServerEvent}
 use Rattle.af_base.specs.declared.event.ServerEvent.TheVariants as server
 use Rattle.af_base.specs.declared.event.HandEvent.{HandEvent}
 use Rattle.af_base.specs.declared.event.HandEvent.TheVariants as hand
+use Rattle.af_model.specs.declared.shape.Shape.{Shape}
 use Rattle.af_model.specs.declared.point.TrackPoint.{TrackPoint}
 use Rattle.af_model.specs.Point.{wrapped, start, ClientMay, ServerMay, after_client, after_server, after_hand}
 use Rattle.af_model.specs.History.{Moment, by_client, by_server, by_hand, client_of, server_of, after, IsLegal, HasHistory, point}
@@ -19,7 +20,7 @@ use Rattle.af_model.specs.ServerCalls.{ServerKept, server_keeps, server_begins, 
 use Rattle.af_model.proofs.Fates.{in_turn}
 use Rattle.af_model.proofs.Logic.{nat_lt-no, ahead-between}
 
-module _ (frames : ℕ) where
+module _ (shape : Shape) where
   -- the front that the last event saw, if it saw one
   abbrev pub open_after : Option ℕ → ClientEvent → Option ℕ
   open_after o (client.SawFront front) = Some front
@@ -27,24 +28,24 @@ module _ (frames : ℕ) where
 
   -- a release follows a look at front by which there is room for it
   abbrev pub FitsRoom : ClientKept → Option ℕ → ClientEvent → Type 0
-  FitsRoom k o (client.Release count) = (front : ℕ) × (o ≡ Some front) × (filled_by k front + count ≤ frames)
+  FitsRoom k o (client.Release count) = (front : ℕ) × (o ≡ Some front) × (filled_by k front + count ≤ shape.frames)
   FitsRoom k o _ = Unit {0}
 
   abbrev pub AllFit : ClientKept → Option ℕ → List ClientEvent → Type 0
   AllFit k o [] = Unit {0}
-  AllFit k o (e ∷ es) = FitsRoom k o e × AllFit (client_keeps frames k e) (open_after o e) es
+  AllFit k o (e ∷ es) = FitsRoom k o e × AllFit (client_keeps shape.frames k e) (open_after o e) es
 
   pub fit_split : (k : ClientKept) (o : Option ℕ) (xs ys : List ClientEvent) → AllFit k o (xs ++ ys)
-      → AllFit k o xs × AllFit (fold (client_keeps frames) k xs) (fold open_after o xs) ys
+      → AllFit k o xs × AllFit (fold (client_keeps shape.frames) k xs) (fold open_after o xs) ys
   fit_split k o [] ys h = (tt, h)
-  fit_split k o (x ∷ xs) ys h = let r = fit_split (client_keeps frames k x) (open_after o x) xs ys h.1 in ((h.0, r.0), r.1)
+  fit_split k o (x ∷ xs) ys h = let r = fit_split (client_keeps shape.frames k x) (open_after o x) xs ys h.1 in ((h.0, r.0), r.1)
 
-  fit_join : (k : ClientKept) (o : Option ℕ) (xs ys : List ClientEvent) → AllFit k o xs → AllFit (fold (client_keeps frames) k xs) (fold open_after o xs) ys
+  fit_join : (k : ClientKept) (o : Option ℕ) (xs ys : List ClientEvent) → AllFit k o xs → AllFit (fold (client_keeps shape.frames) k xs) (fold open_after o xs) ys
       → AllFit k o (xs ++ ys)
   fit_join k o [] ys h t = t
-  fit_join k o (x ∷ xs) ys h t = (h.0, fit_join (client_keeps frames k x) (open_after o x) xs ys h.1 t)
+  fit_join k o (x ∷ xs) ys h t = (h.0, fit_join (client_keeps shape.frames k x) (open_after o x) xs ys h.1 t)
 
-  put_fits : (filled asked end count : ℕ) → filled < frames → count ≡ min asked (min (frames - filled) end) → filled + count ≤ frames
+  put_fits : (filled asked end count : ℕ) → filled < shape.frames → count ≡ min asked (min (shape.frames - filled) end) → filled + count ≤ shape.frames
   put_fits filled asked end count room is = omega arith
 
   -- a look that releases nothing
@@ -52,52 +53,52 @@ module _ (frames : ℕ) where
   looks_fit k o true front = tt
   looks_fit k o false front = (tt, (tt, tt))
 
-  call_fits : (cells base : ℕ) (es : List ClientEvent) (asked : ℕ) (o : Option ℕ) (answer : ClientCall) → ClientAnswers frames cells base es asked answer
-      → AllFit (client_kept frames base es) o (client_events_of frames base es answer)
-  call_fits cells base es asked o (call.Put front count) a = (tt, (tt, ((front, refl, put_fits _ asked _ count a.0.1 a.2), tt)))
-  call_fits cells base es asked o (call.Full front) a = (tt, (tt, tt))
-  call_fits cells base es asked o (call.Dead flags) a = (tt, tt)
-  call_fits cells base es asked o (call.Corrupt front rear) a = looks_fit _ o (is_some (client_kept frames base es).shut) front
-  call_fits cells base es asked o (call.Cleared flags) a = (tt, tt)
-  call_fits cells base es asked o (call.Flush count) a = (tt, tt)
-  call_fits cells base es asked o (call.Gain word) a = (tt, tt)
-  call_fits cells base es asked o (call.Sent front code argument) a = (tt, (tt, ((front, refl, a.1), tt)))
-  call_fits cells base es asked o (call.SendFull front) a = (tt, (tt, tt))
-  call_fits cells base es asked o (call.SendDead flags) a = (tt, tt)
-  call_fits cells base es asked o (call.SendCorrupt front rear) a = looks_fit _ o (is_some (client_kept frames base es).shut) front
-  call_fits cells base es asked o (call.Status word) a = (tt, tt)
-  call_fits cells base es asked o (call.Poke command word value) a = (tt, tt)
+  call_fits : (es : List ClientEvent) (asked : ℕ) (o : Option ℕ) (answer : ClientCall) → ClientAnswers shape.frames shape.cells shape.base es asked answer
+      → AllFit (client_kept shape.frames shape.base es) o (client_events_of shape.frames shape.base es answer)
+  call_fits es asked o (call.Put front count) a = (tt, (tt, ((front, refl, put_fits _ asked _ count a.0.1 a.2), tt)))
+  call_fits es asked o (call.Full front) a = (tt, (tt, tt))
+  call_fits es asked o (call.Dead flags) a = (tt, tt)
+  call_fits es asked o (call.Corrupt front rear) a = looks_fit _ o (is_some (client_kept shape.frames shape.base es).shut) front
+  call_fits es asked o (call.Cleared flags) a = (tt, tt)
+  call_fits es asked o (call.Flush count) a = (tt, tt)
+  call_fits es asked o (call.Gain word) a = (tt, tt)
+  call_fits es asked o (call.Sent front code argument) a = (tt, (tt, ((front, refl, a.1), tt)))
+  call_fits es asked o (call.SendFull front) a = (tt, (tt, tt))
+  call_fits es asked o (call.SendDead flags) a = (tt, tt)
+  call_fits es asked o (call.SendCorrupt front rear) a = looks_fit _ o (is_some (client_kept shape.frames shape.base es).shut) front
+  call_fits es asked o (call.Status word) a = (tt, tt)
+  call_fits es asked o (call.Poke command word value) a = (tt, tt)
 
   -- the releases of calls fit the room
-  pub all_fit : (cells base : ℕ) (es : List ClientEvent) → IsClientList frames cells base es → AllFit (client_begins base) None es
-  all_fit cells base _ begins = tt
-  all_fit cells base _ (calls es asked answer before a) = fit_join (client_begins base) None es _ (all_fit cells base es before) (call_fits cells base es asked _ answer a)
-  all_fit cells base _ (meets es count before) = fit_join (client_begins base) None es _ (all_fit cells base es before) (tt, tt)
+  pub all_fit : (es : List ClientEvent) → IsClientList shape.frames shape.cells shape.base es → AllFit (client_begins shape.base) None es
+  all_fit _ begins = tt
+  all_fit _ (calls es asked answer before a) = fit_join (client_begins shape.base) None es _ (all_fit es before) (call_fits es asked _ answer a)
+  all_fit _ (meets es count before) = fit_join (client_begins shape.base) None es _ (all_fit es before) (tt, tt)
 
   -- what the client saw is a front of before, by which the frames have room
   abbrev pub SeenIn : Option ℕ → ℕ → ℕ → Type 0
-  SeenIn o consumed released = MatchOption o (Unit {0}) (λ front. (known : ℕ) × (wrapped known ≡ front) × (known ≤ consumed) × (released ≤ known + frames))
+  SeenIn o consumed released = MatchOption o (Unit {0}) (λ front. (known : ℕ) × (wrapped known ≡ front) × (known ≤ consumed) × (released ≤ known + shape.frames))
 
   pub record FrontHasRoom (k : ClientKept) (o : Option ℕ) (p : TrackPoint) : Type 0 where
     pub position_is : k.position ≡ p.released
     pub unshut : k.shut ≡ None
-    pub fits : p.released ≤ p.consumed + frames
+    pub fits : p.released ≤ p.consumed + shape.frames
     pub seen : SeenIn o p.consumed p.released
 
-  module _ (few : frames ≤ 65536) (base : ℕ) where
-    outside_none : (consumed released : ℕ) → consumed ≤ released → released ≤ consumed + frames → outside frames (wrapped consumed) (wrapped released) ≡ None
+  module _ (few : shape.frames ≤ 65536) where
+    outside_none : (consumed released : ℕ) → consumed ≤ released → released ≤ consumed + shape.frames → outside shape.frames (wrapped consumed) (wrapped released) ≡ None
     outside_none consumed released low high =
         let e : ahead (wrapped consumed) (wrapped released) ≡ released - consumed = ahead-between consumed released low (omega arith) in
-        let f : nat_lt frames (ahead (wrapped consumed) (wrapped released)) ≡ false = nat_lt-no _ _ (omega arith) in
+        let f : nat_lt shape.frames (ahead (wrapped consumed) (wrapped released)) ≡ false = nat_lt-no _ _ (omega arith) in
         ap (λ (b : Bool). if b then Some (wrapped consumed, wrapped released) else None) f
 
-    released_fits : (o : Option ℕ) (consumed released count front : ℕ) → o ≡ Some front → ahead front (wrapped released) + count ≤ frames → consumed ≤ released
-        → SeenIn o consumed released → released + count ≤ consumed + frames
+    released_fits : (o : Option ℕ) (consumed released count front : ℕ) → o ≡ Some front → ahead front (wrapped released) + count ≤ shape.frames → consumed ≤ released
+        → SeenIn o consumed released → released + count ≤ consumed + shape.frames
     released_fits o consumed released count front is fit low seen =
         let s = subst (λ (x : Option ℕ). SeenIn x consumed released) is seen in
         let known : ℕ = s.0 in
         let below : known ≤ consumed = s.2 in
-        let near : released ≤ known + frames = s.3 in
+        let near : released ≤ known + shape.frames = s.3 in
         let far : ahead (wrapped known) (wrapped released) ≡ released - known = ahead-between known released (omega arith) (omega arith) in
         let filled : ahead front (wrapped released) ≡ released - known = ap (λ (z : ℕ). ahead z (wrapped released)) (sym s.1) ∙ far in
         omega arith
@@ -126,11 +127,11 @@ module _ (frames : ℕ) where
           seen = tt;
         }
 
-    client_room : (k : ClientKept) (o : Option ℕ) (p : TrackPoint) (others : ℕ) (e : ClientEvent) → ClientMay p others e → FitsRoom k o e → InTurn base p → FrontHasRoom k o p
-        → FrontHasRoom (client_keeps frames k e) (open_after o e) (after_client p e)
+    client_room : (k : ClientKept) (o : Option ℕ) (p : TrackPoint) (others : ℕ) (e : ClientEvent) → ClientMay p others e → FitsRoom k o e → InTurn shape p → FrontHasRoom k o p
+        → FrontHasRoom (client_keeps shape.frames k e) (open_after o e) (after_client p e)
     client_room k o p others (client.Release count) may fit turn r =
         let low : p.consumed ≤ p.released = (let a = turn.to_seen in let b = turn.to_released in omega arith) in
-        let fit' : ahead fit.0 (wrapped p.released) + count ≤ frames = subst (λ (z : ℕ). ahead fit.0 (wrapped z) + count ≤ frames) r.position_is fit.2 in
+        let fit' : ahead fit.0 (wrapped p.released) + count ≤ shape.frames = subst (λ (z : ℕ). ahead fit.0 (wrapped z) + count ≤ shape.frames) r.position_is fit.2 in
         record {
           position_is = ap (λ (z : ℕ). z + count) r.position_is;
           unshut = r.unshut;
@@ -145,7 +146,7 @@ module _ (frames : ℕ) where
         let low : p.consumed ≤ p.released = (let a = turn.to_seen in let b = turn.to_released in omega arith) in
         record {
           position_is = r.position_is;
-          unshut = ap (λ (x : ℕ × ℕ). outside frames x.0 (wrapped x.1)) (λ i. (may i, r.position_is i)) ∙ outside_none p.consumed p.released low r.fits;
+          unshut = ap (λ (x : ℕ × ℕ). outside shape.frames x.0 (wrapped x.1)) (λ i. (may i, r.position_is i)) ∙ outside_none p.consumed p.released low r.fits;
           fits = r.fits;
           seen = (p.consumed, sym may, omega arith, r.fits);
         }
@@ -153,7 +154,7 @@ module _ (frames : ℕ) where
     client_room k o p others (client.Poke word value) may fit turn r = absurd may
     client_room k o p others (client.Learn count) may fit turn r = closed k o p p refl (omega arith) r
 
-    server_grows : (p : TrackPoint) (others : ℕ) (e : ServerEvent) → ServerMay p others e → InTurn base p
+    server_grows : (p : TrackPoint) (others : ℕ) (e : ServerEvent) → ServerMay p others e → InTurn shape p
         → ((after_server p e).released ≡ p.released) × (p.consumed ≤ (after_server p e).consumed)
     server_grows p others (server.SawGain word) may turn = (refl, omega arith)
     server_grows p others (server.SawFlush flush) may turn = (refl, omega arith)
@@ -170,20 +171,20 @@ module _ (frames : ℕ) where
     hand_keeps p (hand.SetFlags bits) = (refl, omega arith)
     hand_keeps p (hand.Met count) = (refl, omega arith)
 
-    pub room_in : (order : List Moment) → IsLegal (start base) order → AllFit (client_begins base) None (client_of order)
-        → FrontHasRoom (client_kept frames base (client_of order)) (fold open_after None (client_of order)) (after (start base) order)
+    pub room_in : (order : List Moment) → IsLegal (start shape) order → AllFit (client_begins shape.base) None (client_of order)
+        → FrontHasRoom (client_kept shape.frames shape.base (client_of order)) (fold open_after None (client_of order)) (after (start shape) order)
     room_in [] h fit = record { position_is = refl; unshut = refl; fits = omega arith; seen = tt }
     room_in (by_client e ∷ order) h fit =
-        let f = fit_split (client_begins base) None (client_of order) (e ∷ []) fit in
-        let now = client_room _ _ _ _ e h.0 f.1.0 (in_turn base order h.1) (room_in order h.1 f.0) in
-        subst (λ (x : ClientKept × Option ℕ). FrontHasRoom x.0 x.1 (after (start base) (by_client e ∷ order)))
-        (λ i. (sym (fold-append (client_keeps frames) (client_begins base) (client_of order) (e ∷ [])) i, sym (fold-append open_after None (client_of order) (e ∷ [])) i)) now
+        let f = fit_split (client_begins shape.base) None (client_of order) (e ∷ []) fit in
+        let now = client_room _ _ _ _ e h.0 f.1.0 (in_turn shape order h.1) (room_in order h.1 f.0) in
+        subst (λ (x : ClientKept × Option ℕ). FrontHasRoom x.0 x.1 (after (start shape) (by_client e ∷ order)))
+        (λ i. (sym (fold-append (client_keeps shape.frames) (client_begins shape.base) (client_of order) (e ∷ [])) i, sym (fold-append open_after None (client_of order) (e ∷ [])) i)) now
     room_in (by_server e ∷ order) h fit =
-        let g = server_grows (after (start base) order) _ e h.0 (in_turn base order h.1) in
-        stays _ _ (after (start base) order) _ g.0 g.1 (room_in order h.1 fit)
+        let g = server_grows (after (start shape) order) _ e h.0 (in_turn shape order h.1) in
+        stays _ _ (after (start shape) order) _ g.0 g.1 (room_in order h.1 fit)
     room_in (by_hand e ∷ order) h fit =
-        let g = hand_keeps (after (start base) order) e in
-        stays _ _ (after (start base) order) _ g.0 g.1 (room_in order h.1 fit)
+        let g = hand_keeps (after (start shape) order) e in
+        stays _ _ (after (start shape) order) _ g.0 g.1 (room_in order h.1 fit)
 
     -- ## The server
 
@@ -195,8 +196,8 @@ module _ (frames : ℕ) where
     either_none true o is = refl
     either_none false o is = is
 
-    server_sees : (k : ServerKept) (p : TrackPoint) (others : ℕ) (e : ServerEvent) → ServerMay p others e → InTurn base p → p.released ≤ p.consumed + frames → SeesRoom k p
-        → SeesRoom (server_keeps frames k e) (after_server p e)
+    server_sees : (k : ServerKept) (p : TrackPoint) (others : ℕ) (e : ServerEvent) → ServerMay p others e → InTurn shape p → p.released ≤ p.consumed + shape.frames → SeesRoom k p
+        → SeesRoom (server_keeps shape k e) (after_server p e)
     server_sees k p others (server.SawGain word) may turn fits s = s
     server_sees k p others (server.SawFlush flush) may turn fits s = record { rear_is = s.rear_is; unshut = s.unshut }
     server_sees k p others (server.SawRear rear) may turn fits s = record { rear_is = may; unshut = s.unshut }
@@ -204,7 +205,7 @@ module _ (frames : ℕ) where
         record {
           rear_is = s.rear_is;
           unshut = either_none k.is_new _ (
-              ap (λ (x : ℕ × ℕ). outside frames x.0 x.1) (λ i. (may i, s.rear_is i))
+              ap (λ (x : ℕ × ℕ). outside shape.frames x.0 x.1) (λ i. (may i, s.rear_is i))
               ∙ outside_none p.consumed p.rear_seen turn.to_seen (let a = turn.to_released in omega arith)
               );
         }
@@ -230,29 +231,29 @@ module _ (frames : ℕ) where
     client_leaves k p (client.Poke word value) s = s
     client_leaves k p (client.Learn count) s = s
 
-    sees_in : (order : List Moment) → IsLegal (start base) order → AllFit (client_begins base) None (client_of order)
-        → SeesRoom (server_kept frames base (server_of order)) (after (start base) order)
+    sees_in : (order : List Moment) → IsLegal (start shape) order → AllFit (client_begins shape.base) None (client_of order)
+        → SeesRoom (server_kept shape (server_of order)) (after (start shape) order)
     sees_in [] h fit = record { rear_is = refl; unshut = refl }
-    sees_in (by_client e ∷ order) h fit = client_leaves _ (after (start base) order) e (sees_in order h.1 (fit_split (client_begins base) None (client_of order) (e ∷ []) fit).0)
+    sees_in (by_client e ∷ order) h fit = client_leaves _ (after (start shape) order) e (sees_in order h.1 (fit_split (client_begins shape.base) None (client_of order) (e ∷ []) fit).0)
     sees_in (by_server e ∷ order) h fit =
-        let now = server_sees (server_kept frames base (server_of order)) (after (start base) order) _ e h.0 (in_turn base order h.1) (room_in order h.1 fit).fits (sees_in order h.1 fit) in
-        subst (λ (x : ServerKept). SeesRoom x (after (start base) (by_server e ∷ order))) (sym (fold-append (server_keeps frames) (server_begins base) (server_of order) (e ∷ []))) now
-    sees_in (by_hand e ∷ order) h fit = hand_leaves _ (after (start base) order) e (sees_in order h.1 fit)
+        let now = server_sees (server_kept shape (server_of order)) (after (start shape) order) _ e h.0 (in_turn shape order h.1) (room_in order h.1 fit).fits (sees_in order h.1 fit) in
+        subst (λ (x : ServerKept). SeesRoom x (after (start shape) (by_server e ∷ order))) (sym (fold-append (server_keeps shape) (server_begins shape) (server_of order) (e ∷ []))) now
+    sees_in (by_hand e ∷ order) h fit = hand_leaves _ (after (start shape) order) e (sees_in order h.1 fit)
 
   -- ## What a history tells
 
-  module _ (few : frames ≤ 65536) (cells : ℕ) {base : ℕ} {ce : List ClientEvent} {cf : List ℕ} {se : List ServerEvent} {sf : List ℕ} {he : List HandEvent} (h : HasHistory base ce cf se sf he) (spelled : IsClientList frames cells base ce) where
-    fit_all : AllFit (client_begins base) None (client_of h.order)
-    fit_all = subst (λ (es : List ClientEvent). AllFit (client_begins base) None es) (sym h.client_is) (all_fit cells base ce spelled)
+  module _ (few : shape.frames ≤ 65536) {ce : List ClientEvent} {cf : List ℕ} {se : List ServerEvent} {sf : List ℕ} {he : List HandEvent} (h : HasHistory shape ce cf se sf he) (spelled : IsClientList shape.frames shape.cells shape.base ce) where
+    fit_all : AllFit (client_begins shape.base) None (client_of h.order)
+    fit_all = subst (λ (es : List ClientEvent). AllFit (client_begins shape.base) None es) (sym h.client_is) (all_fit ce spelled)
 
     -- no more frames lie in the block than it may hold
-    pub room_kept : (point h).released ≤ (point h).consumed + frames
-    room_kept = (room_in few base h.order h.legal fit_all).fits
+    pub room_kept : (point h).released ≤ (point h).consumed + shape.frames
+    room_kept = (room_in few h.order h.legal fit_all).fits
 
     -- a client that has a history is never shut
-    pub never_corrupt : (client_kept frames base ce).shut ≡ None
-    never_corrupt = subst (λ (es : List ClientEvent). (client_kept frames base es).shut ≡ None) h.client_is (room_in few base h.order h.legal fit_all).unshut
+    pub never_corrupt : (client_kept shape.frames shape.base ce).shut ≡ None
+    never_corrupt = subst (λ (es : List ClientEvent). (client_kept shape.frames shape.base es).shut ≡ None) h.client_is (room_in few h.order h.legal fit_all).unshut
 
     -- nor is its server
-    pub never_shut : (server_kept frames base se).shut ≡ None
-    never_shut = subst (λ (es : List ServerEvent). (server_kept frames base es).shut ≡ None) h.server_is (sees_in few base h.order h.legal fit_all).unshut
+    pub never_shut : (server_kept shape se).shut ≡ None
+    never_shut = subst (λ (es : List ServerEvent). (server_kept shape es).shut ≡ None) h.server_is (sees_in few h.order h.legal fit_all).unshut

@@ -4,6 +4,7 @@ use Rattle.std.proofs.lemmas.Grind.{fold-append}
 use Rattle.af_base.specs.declared.event.ClientCall.{ClientCall}
 use Rattle.af_base.specs.declared.event.ClientEvent.{ClientEvent}
 use Rattle.af_base.specs.declared.event.ServerEvent.{ServerEvent}
+use Rattle.af_model.specs.declared.shape.Shape.{Shape}
 use Rattle.af_model.specs.ClientCalls.{ClientKept, client_keeps, client_begins, client_kept, ClientAnswers, client_call_events, IsClientList, calls, meets}
 use Rattle.af_model.specs.ServerCalls.{ServerKept, server_keeps, server_begins, server_kept, look_events, shown_by, IsServerList}
 use Rattle.af_model.specs.ServerCalls as list
@@ -31,17 +32,17 @@ module _ (kind : Kind) (frames cells base : ℕ) where
       (ap (λ (k : ClientKept). (events ++ es) ++ client_spells kind frames k steps) (fold-append (client_keeps frames) (client_begins base) events es)
       ∙ append_assoc events es (client_spells kind frames (fold (client_keeps frames) (client_kept frames base events) es) steps)) on
 
-module _ (size base : ℕ) where
-  look_adds : (events : List ServerEvent) (shown : Option ℕ) (asked flush rear front : ℕ) (o : Option (ℕ × ℕ)) → (server_kept size base events).shut ≡ o → 1 ≤ asked → IsServerList size base shown events
-      → IsServerList size base (if is_some o then None else shown_by (sight_of size (server_kept size base events) asked flush rear front))
-      (events ++ (if is_some o then [] else look_events (sight_of size (server_kept size base events) asked flush rear front) flush rear front))
+module _ (shape : Shape) where
+  look_adds : (events : List ServerEvent) (shown : Option ℕ) (asked flush rear front : ℕ) (o : Option (ℕ × ℕ)) → (server_kept shape events).shut ≡ o → 1 ≤ asked → IsServerList shape shown events
+      → IsServerList shape (if is_some o then None else shown_by (sight_of shape (server_kept shape events) asked flush rear front))
+      (events ++ (if is_some o then [] else look_events (sight_of shape (server_kept shape events) asked flush rear front) flush rear front))
   look_adds events shown asked flush rear front None e some is = list.looks events shown asked flush rear front is e some
-  look_adds events shown asked flush rear front (Some words) e some is = subst (IsServerList size base None) (sym (append-nil events)) (list.rests events shown is)
+  look_adds events shown asked flush rear front (Some words) e some is = subst (IsServerList shape None) (sym (append-nil events)) (list.rests events shown is)
 
-  served : (events : List ServerEvent) (shown : Option ℕ) (s : ServerStep) → StepMay shown s → IsServerList size base shown events
-      → IsServerList size base (shown_after size (server_kept size base events) shown s) (events ++ server_step_events size (server_kept size base events) s)
-  served events shown (looked asked flush rear front) may is = look_adds events shown asked flush rear front (server_kept size base events).shut refl may is
-  served events shown (took count) may is = list.takes events count (subst (λ (o : Option ℕ). IsServerList size base o events) may is)
+  served : (events : List ServerEvent) (shown : Option ℕ) (s : ServerStep) → StepMay shown s → IsServerList shape shown events
+      → IsServerList shape (shown_after shape (server_kept shape events) shown s) (events ++ server_step_events shape (server_kept shape events) s)
+  served events shown (looked asked flush rear front) may is = look_adds events shown asked flush rear front (server_kept shape events).shut refl may is
+  served events shown (took count) may is = list.takes events count (subst (λ (o : Option ℕ). IsServerList shape o events) may is)
   served events shown (read_gains word) may is = list.reads_gains events shown word is
   served events shown (tallied missing) may is = list.tallies events shown missing is may
   served events shown (set_flags bits) may is = list.sets_flags events shown bits is
@@ -49,18 +50,18 @@ module _ (size base : ℕ) where
   served events shown (met_client count) may is = list.meets events shown count is
 
   -- a list that such steps add to is a server's list on
-  pub server_spells-list : (events : List ServerEvent) (shown : Option ℕ) (steps : List ServerStep) → AllMay size (server_kept size base events) shown steps → IsServerList size base shown events
-      → IsServerList size base (shown_at_end size (server_kept size base events) shown steps) (events ++ server_spells size (server_kept size base events) steps)
-  server_spells-list events shown [] may is = subst (IsServerList size base shown) (sym (append-nil events)) is
+  pub server_spells-list : (events : List ServerEvent) (shown : Option ℕ) (steps : List ServerStep) → AllMay shape (server_kept shape events) shown steps → IsServerList shape shown events
+      → IsServerList shape (shown_at_end shape (server_kept shape events) shown steps) (events ++ server_spells shape (server_kept shape events) steps)
+  server_spells-list events shown [] may is = subst (IsServerList shape shown) (sym (append-nil events)) is
   server_spells-list events shown (s ∷ steps) may is =
-      let k = server_kept size base events in
-      let es = server_step_events size k s in
-      let after : server_kept size base (events ++ es) ≡ fold (server_keeps size) k es = fold-append (server_keeps size) (server_begins base) events es in
-      let shown' = shown_after size k shown s in
-      let on = server_spells-list (events ++ es) shown' steps (subst (λ (x : ServerKept). AllMay size x shown' steps) (sym after) may.1) (served events shown s may.0 is) in
-      let whole : IsServerList size base (shown_at_end size (fold (server_keeps size) k es) shown' steps) ((events ++ es) ++ server_spells size (fold (server_keeps size) k es) steps) =
-      subst (λ (x : ServerKept). IsServerList size base (shown_at_end size x shown' steps) ((events ++ es) ++ server_spells size x steps)) after on in
-      subst (IsServerList size base (shown_at_end size (fold (server_keeps size) k es) shown' steps)) (append_assoc events es (server_spells size (fold (server_keeps size) k es) steps)) whole
+      let k = server_kept shape events in
+      let es = server_step_events shape k s in
+      let after : server_kept shape (events ++ es) ≡ fold (server_keeps shape) k es = fold-append (server_keeps shape) (server_begins shape) events es in
+      let shown' = shown_after shape k shown s in
+      let on = server_spells-list (events ++ es) shown' steps (subst (λ (x : ServerKept). AllMay shape x shown' steps) (sym after) may.1) (served events shown s may.0 is) in
+      let whole : IsServerList shape (shown_at_end shape (fold (server_keeps shape) k es) shown' steps) ((events ++ es) ++ server_spells shape (fold (server_keeps shape) k es) steps) =
+      subst (λ (x : ServerKept). IsServerList shape (shown_at_end shape x shown' steps) ((events ++ es) ++ server_spells shape x steps)) after on in
+      subst (IsServerList shape (shown_at_end shape (fold (server_keeps shape) k es) shown' steps)) (append_assoc events es (server_spells shape (fold (server_keeps shape) k es) steps)) whole
 
 -- ## More steps at the end
 
@@ -76,14 +77,14 @@ module _ (kind : Kind) (frames : ℕ) where
       ∙ sym (append_assoc es more (client_spells kind frames (fold (client_keeps frames) next more) ys))
       ∙ ap (λ (k : ClientKept). (es ++ more) ++ client_spells kind frames k ys) (sym (fold-append (client_keeps frames) kept es more))
 
-module _ (size : ℕ) where
+module _ (shape : Shape) where
   pub server_spells-append : (kept : ServerKept) (xs ys : List ServerStep)
-      → server_spells size kept (xs ++ ys) ≡ server_spells size kept xs ++ server_spells size (fold (server_keeps size) kept (server_spells size kept xs)) ys
+      → server_spells shape kept (xs ++ ys) ≡ server_spells shape kept xs ++ server_spells shape (fold (server_keeps shape) kept (server_spells shape kept xs)) ys
   server_spells-append kept [] ys = refl
   server_spells-append kept (s ∷ xs) ys =
-      let es = server_step_events size kept s in
-      let next = fold (server_keeps size) kept es in
-      let more = server_spells size next xs in
+      let es = server_step_events shape kept s in
+      let next = fold (server_keeps shape) kept es in
+      let more = server_spells shape next xs in
       ap (λ (l : List ServerEvent). es ++ l) (server_spells-append next xs ys)
-      ∙ sym (append_assoc es more (server_spells size (fold (server_keeps size) next more) ys))
-      ∙ ap (λ (k : ServerKept). (es ++ more) ++ server_spells size k ys) (sym (fold-append (server_keeps size) kept es more))
+      ∙ sym (append_assoc es more (server_spells shape (fold (server_keeps shape) next more) ys))
+      ∙ ap (λ (k : ServerKept). (es ++ more) ++ server_spells shape k ys) (sym (fold-append (server_keeps shape) kept es more))

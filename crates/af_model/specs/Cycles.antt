@@ -12,6 +12,7 @@ use Rattle.af_base.specs.declared.state.Command.{Command}
 use Rattle.af_base.specs.declared.state.Command.TheVariants.{ColdIdle, Exit, MixWrite}
 use Rattle.af_base.specs.declared.state.FastState.{FastState}
 use Rattle.af_base.specs.Log.{slots, absent, entry_slot, count_seen}
+use Rattle.af_model.specs.declared.shape.Shape.{Shape}
 use Rattle.af_model.specs.Room.{ahead}
 use Rattle.af_model.specs.ServerCalls.{ServerKept, server_kept, look_at, look_events}
 use Rattle.af_model.specs.StateQueue.{slot_of, carries}
@@ -88,20 +89,19 @@ pub record SubmixSlot (asked : ℕ) (before after : List ServerEvent) (slot : Sl
   pub shows : slot ≡ submix_slot asked front slot.rear slot.first
   pub list : after ≡ before ++ server.SawRear slot.rear ∷ server.SawFront front ∷ takes_shown slot.seen
 
--- a server before a cycle: the frames and the base of its block, and its list
+-- a server before a cycle: the shape of its block, and its list
 pub record Listed : Type 0 where
-  pub size : ℕ
-  pub base : ℕ
+  pub shape : Shape
   pub events : List ServerEvent
 
 -- what its list tells of it
 abbrev pub kept : Listed → ServerKept
-kept s = server_kept s.size s.base s.events
+kept s = server_kept s.shape s.events
 
 -- The look of a slot answers by the words seen and the server's own list before. A server that was shut answers the words that shut it, and the flush count of that look
 abbrev pub LooksBy : ℕ → Listed → SlotEntry → ℕ → Type 0
 LooksBy asked s slot front = MatchOption (kept s).shut
-    (slot.seen ≡ look_at s.size (kept s).flush asked slot.flush slot.rear front)
+    (slot.seen ≡ look_at s.shape (kept s).flush asked slot.flush slot.rear front)
     (λ words. (slot.seen ≡ seen.Shut words.0 words.1) × (slot.flush ≡ (kept s).flush) × (slot.rear ≡ words.1))
 
 -- missing frames are tallied, where there are some

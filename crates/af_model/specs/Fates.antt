@@ -3,6 +3,7 @@ use Rattle.std.specs.Prelude.{ℕ, ◌≤◌, Bool, true, false, ◌&&◌, List,
 use Rattle.af_base.specs.declared.event.ServerEvent.{ServerEvent}
 use Rattle.af_base.specs.declared.event.ServerEvent.TheVariants as server
 use Rattle.af_model.specs.declared.point.TrackPoint.{TrackPoint}
+use Rattle.af_model.specs.declared.shape.Shape.{Shape}
 
 abbrev pub keeps_all : ServerEvent → Bool
 keeps_all (server.Drop to) = false
@@ -13,7 +14,8 @@ abbrev pub drops_none : List ServerEvent → Bool
 drops_none [] = true
 drops_none (e ∷ es) = keeps_all e && drops_none es
 
-pub record InTurn (base : ℕ) (p : TrackPoint) : Type 0 where
-  pub from_base : base ≤ p.consumed
+-- positions of a block of this shape never pass one another
+pub record InTurn (k : Shape) (p : TrackPoint) : Type 0 where
+  pub from_base : k.base ≤ p.consumed
   pub to_seen : p.consumed ≤ p.rear_seen
   pub to_released : p.rear_seen ≤ p.released

@@ -7,6 +7,7 @@ use Rattle.af_base.specs.declared.event.ServerEvent.TheVariants as server
 use Rattle.af_base.specs.declared.event.HandEvent.{HandEvent}
 use Rattle.af_base.specs.declared.event.HandEvent.TheVariants as hand
 use Rattle.af_model.specs.declared.point.TrackPoint.{TrackPoint}
+use Rattle.af_model.specs.declared.shape.Shape.{Shape}
 use Rattle.af_model.specs.Point.{start, ClientMay, ServerMay, HandMay, after_client, after_server, after_hand}
 
 -- no event is a poke
@@ -90,22 +91,22 @@ with_taken frames base p taken (server.Take count) = taken ++ take count (drop (
 with_taken frames base p taken _ = taken
 
 -- the frames, of those released, that the takes cover
-abbrev pub taken_of : List ℕ → ℕ → List Moment → List ℕ
-taken_of frames base [] = []
-taken_of frames base (by_client e ∷ order) = taken_of frames base order
-taken_of frames base (by_server e ∷ order) = with_taken frames base (after (start base) order) (taken_of frames base order) e
-taken_of frames base (by_hand e ∷ order) = taken_of frames base order
+abbrev pub taken_of : List ℕ → Shape → List Moment → List ℕ
+taken_of frames k [] = []
+taken_of frames k (by_client e ∷ order) = taken_of frames k order
+taken_of frames k (by_server e ∷ order) = with_taken frames k.base (after (start k) order) (taken_of frames k order) e
+taken_of frames k (by_hand e ∷ order) = taken_of frames k order
 
--- There is a legal order of the client's, the server's and the hand's list. The frames released are as many as the releases say, and those taken are those released at their positions
-pub record HasHistory (base : ℕ) (client : List ClientEvent) (released : List ℕ) (server : List ServerEvent) (taken : List ℕ) (hand : List HandEvent) : Type 0 where
+-- There is a legal order of the client's, the server's and the hand's list of a block of this shape. The frames released are as many as the releases say, and those taken are those released at their positions
+pub record HasHistory (k : Shape) (client : List ClientEvent) (released : List ℕ) (server : List ServerEvent) (taken : List ℕ) (hand : List HandEvent) : Type 0 where
   pub order : List Moment
-  pub legal : IsLegal (start base) order
+  pub legal : IsLegal (start k) order
   pub client_is : client_of order ≡ client
   pub server_is : server_of order ≡ server
   pub hand_is : hand_of order ≡ hand
-  pub released_is : (after (start base) order).released ≡ base + length released
-  pub taken_is : taken_of released base order ≡ taken
+  pub released_is : (after (start k) order).released ≡ k.base + length released
+  pub taken_is : taken_of released k order ≡ taken
 
 -- the point that a history leads to
-abbrev pub point : {base : ℕ} {client : List ClientEvent} {released : List ℕ} {server : List ServerEvent} {taken : List ℕ} {hand : List HandEvent} → HasHistory base client released server taken hand → TrackPoint
-point {base} h = after (start base) h.order
+abbrev pub point : {k : Shape} {client : List ClientEvent} {released : List ℕ} {server : List ServerEvent} {taken : List ℕ} {hand : List HandEvent} → HasHistory k client released server taken hand → TrackPoint
+point {k} h = after (start k) h.order

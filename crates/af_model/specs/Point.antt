@@ -7,19 +7,21 @@ use Rattle.af_base.specs.declared.event.ServerEvent.TheVariants as server
 use Rattle.af_base.specs.declared.event.HandEvent.{HandEvent}
 use Rattle.af_base.specs.declared.event.HandEvent.TheVariants as hand
 use Rattle.af_model.specs.declared.point.TrackPoint.{TrackPoint}
+use Rattle.af_model.specs.declared.shape.Shape.{Shape}
 
 -- the word of a number
 abbrev pub wrapped : ℕ → ℕ
 wrapped n = n % 2 ^ 32
 
-abbrev pub start : ℕ → TrackPoint
-start base =
+-- before any event, on a block of this shape
+abbrev pub start : Shape → TrackPoint
+start k =
     record {
-      released = base;
-      consumed = base;
+      released = k.base;
+      consumed = k.base;
       flushes = 0;
       flush_seen = 0;
-      rear_seen = base;
+      rear_seen = k.base;
       gains = 268439552;
       flags = 0;
       status = 0;

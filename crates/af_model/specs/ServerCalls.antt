@@ -1,9 +1,10 @@
--- How the calls of a server's proxy spell its list, on a block of so many frames whose first position is the base.
+-- How the calls of a server's proxy spell its list, on a block of a shape.
 use Rattle.std.specs.Prelude.{◌≡◌, ℕ, ◌+◌, ◌≤◌, ◌==◌, nat_lt, min, Bool, false, not, if◌then◌else◌, fold, List, [], ◌∷◌, ◌++◌, Option, Some, None}
 use Rattle.af_base.specs.declared.event.ServerEvent.{ServerEvent}
 use Rattle.af_base.specs.declared.event.ServerEvent.TheVariants as server
 use Rattle.af_base.specs.declared.seen.Seen.{Seen}
 use Rattle.af_base.specs.declared.seen.Seen.TheVariants as seen
+use Rattle.af_model.specs.declared.shape.Shape.{Shape}
 use Rattle.af_model.specs.Point.{wrapped}
 use Rattle.af_model.specs.Room.{ahead, outside}
 
@@ -17,27 +18,27 @@ pub record ServerKept : Type 0 where
   pub shut : Option (ℕ × ℕ)
 
 -- what is known after one event more: a front outside the room shuts the server, unless a new flush was seen
-abbrev pub server_keeps : ℕ → ServerKept → ServerEvent → ServerKept
-server_keeps frames kept (server.SawFlush flush) = record kept { flush = flush; is_new = not (flush == kept.flush) }
-server_keeps frames kept (server.SawRear rear) = record kept { rear = rear }
-server_keeps frames kept (server.SawFront front) = record kept { front = front; shut = if kept.is_new then None else outside frames front kept.rear }
-server_keeps frames kept (server.Drop to) = record kept { consumed = kept.consumed + ahead kept.front to }
-server_keeps frames kept (server.Take count) = record kept { consumed = kept.consumed + count }
-server_keeps frames kept _ = kept
+abbrev pub server_keeps : Shape → ServerKept → ServerEvent → ServerKept
+server_keeps k kept (server.SawFlush flush) = record kept { flush = flush; is_new = not (flush == kept.flush) }
+server_keeps k kept (server.SawRear rear) = record kept { rear = rear }
+server_keeps k kept (server.SawFront front) = record kept { front = front; shut = if kept.is_new then None else outside k.frames front kept.rear }
+server_keeps k kept (server.Drop to) = record kept { consumed = kept.consumed + ahead kept.front to }
+server_keeps k kept (server.Take count) = record kept { consumed = kept.consumed + count }
+server_keeps k kept _ = kept
 
 -- before its first event
-abbrev pub server_begins : ℕ → ServerKept
-server_begins base = record { flush = 0; is_new = false; rear = wrapped base; front = wrapped base; consumed = 0; shut = None }
+abbrev pub server_begins : Shape → ServerKept
+server_begins k = record { flush = 0; is_new = false; rear = wrapped k.base; front = wrapped k.base; consumed = 0; shut = None }
 
 -- what these events tell of the server
-abbrev pub server_kept : ℕ → ℕ → List ServerEvent → ServerKept
-server_kept frames base events = fold (server_keeps frames) (server_begins base) events
+abbrev pub server_kept : Shape → List ServerEvent → ServerKept
+server_kept k events = fold (server_keeps k) (server_begins k) events
 
 -- What a look for `asked` frames shows, by the three words seen and the flush count kept before: a new flush first, then whether the words fit the block
-abbrev pub look_at : (size kept asked flush rear front : ℕ) → Seen
-look_at size kept asked flush rear front =
+abbrev pub look_at : Shape → (kept asked flush rear front : ℕ) → Seen
+look_at k kept asked flush rear front =
     if not (flush == kept) then seen.Flushed (ahead front rear)
-    else if nat_lt size (ahead front rear) then seen.Shut front rear
+    else if nat_lt k.frames (ahead front rear) then seen.Shut front rear
     else if rear == front then seen.Empty
     else seen.Frames (min asked (ahead front rear))
 
@@ -57,16 +58,16 @@ shown_by _ = None
 
 -- A server's list is what calls and meetings add, one after the other. `shown` is how many frames may be taken: those that the last call showed, where it was a look that showed some.
 -- A server that was shut looks no more
-pub data IsServerList (size base : ℕ) : (shown : Option ℕ) → List ServerEvent → Type 0 where
-  begins : IsServerList size base None []
-  looks : (events : List ServerEvent) (shown : Option ℕ) (asked flush rear front : ℕ) → IsServerList size base shown events → (server_kept size base events).shut ≡ None → 1 ≤ asked
-      → IsServerList size base (shown_by (look_at size (server_kept size base events).flush asked flush rear front))
-      (events ++ look_events (look_at size (server_kept size base events).flush asked flush rear front) flush rear front)
-  takes : (events : List ServerEvent) (count : ℕ) → IsServerList size base (Some count) events → IsServerList size base None (events ++ server.Take count ∷ [])
-  reads_gains : (events : List ServerEvent) (shown : Option ℕ) (word : ℕ) → IsServerList size base shown events → IsServerList size base None (events ++ server.SawGain word ∷ [])
-  tallies : (events : List ServerEvent) (shown : Option ℕ) (missing : ℕ) → IsServerList size base shown events → 1 ≤ missing
-      → IsServerList size base None (events ++ server.Tally missing ∷ server.SetFlags 1 ∷ [])
-  sets_flags : (events : List ServerEvent) (shown : Option ℕ) (bits : ℕ) → IsServerList size base shown events → IsServerList size base None (events ++ server.SetFlags bits ∷ [])
-  sets_status : (events : List ServerEvent) (shown : Option ℕ) (word : ℕ) → IsServerList size base shown events → IsServerList size base None (events ++ server.SetStatus word ∷ [])
-  rests : (events : List ServerEvent) (shown : Option ℕ) → IsServerList size base shown events → IsServerList size base None events
-  meets : (events : List ServerEvent) (shown : Option ℕ) (count : ℕ) → IsServerList size base shown events → IsServerList size base shown (events ++ server.Learn count ∷ [])
+pub data IsServerList (k : Shape) : (shown : Option ℕ) → List ServerEvent → Type 0 where
+  begins : IsServerList k None []
+  looks : (events : List ServerEvent) (shown : Option ℕ) (asked flush rear front : ℕ) → IsServerList k shown events → (server_kept k events).shut ≡ None → 1 ≤ asked
+      → IsServerList k (shown_by (look_at k (server_kept k events).flush asked flush rear front))
+      (events ++ look_events (look_at k (server_kept k events).flush asked flush rear front) flush rear front)
+  takes : (events : List ServerEvent) (count : ℕ) → IsServerList k (Some count) events → IsServerList k None (events ++ server.Take count ∷ [])
+  reads_gains : (events : List ServerEvent) (shown : Option ℕ) (word : ℕ) → IsServerList k shown events → IsServerList k None (events ++ server.SawGain word ∷ [])
+  tallies : (events : List ServerEvent) (shown : Option ℕ) (missing : ℕ) → IsServerList k shown events → 1 ≤ missing
+      → IsServerList k None (events ++ server.Tally missing ∷ server.SetFlags 1 ∷ [])
+  sets_flags : (events : List ServerEvent) (shown : Option ℕ) (bits : ℕ) → IsServerList k shown events → IsServerList k None (events ++ server.SetFlags bits ∷ [])
+  sets_status : (events : List ServerEvent) (shown : Option ℕ) (word : ℕ) → IsServerList k shown events → IsServerList k None (events ++ server.SetStatus word ∷ [])
+  rests : (events : List ServerEvent) (shown : Option ℕ) → IsServerList k shown events → IsServerList k None events
+  meets : (events : List ServerEvent) (shown : Option ℕ) (count : ℕ) → IsServerList k shown events → IsServerList k shown (events ++ server.Learn count ∷ [])

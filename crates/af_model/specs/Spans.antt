@@ -5,6 +5,7 @@ use Rattle.af_base.specs.declared.event.ServerEvent.{ServerEvent}
 use Rattle.af_base.specs.declared.event.ServerEvent.TheVariants as server
 use Rattle.af_base.specs.declared.event.HandEvent.{HandEvent}
 use Rattle.af_model.specs.declared.point.TrackPoint.{TrackPoint}
+use Rattle.af_model.specs.declared.shape.Shape.{Shape}
 use Rattle.af_model.specs.Point.{start}
 use Rattle.af_model.specs.History.{Moment, by_client, by_server, by_hand, after, HasHistory, point}
 
@@ -27,19 +28,19 @@ covered_by p (server.Drop to) = record { fate = discarded; from = p.consumed; to
 covered_by p _ = []
 
 -- the takes and drops of an order, oldest first
-abbrev pub spans_of : ℕ → List Moment → List Span
-spans_of base [] = []
-spans_of base (by_client e ∷ order) = spans_of base order
-spans_of base (by_server e ∷ order) = spans_of base order ++ covered_by (after (start base) order) e
-spans_of base (by_hand e ∷ order) = spans_of base order
+abbrev pub spans_of : Shape → List Moment → List Span
+spans_of k [] = []
+spans_of k (by_client e ∷ order) = spans_of k order
+spans_of k (by_server e ∷ order) = spans_of k order ++ covered_by (after (start k) order) e
+spans_of k (by_hand e ∷ order) = spans_of k order
 
 -- the frames from what was consumed last up to what was released are queued
 abbrev pub waiting_at : TrackPoint → Span
 waiting_at p = record { fate = queued; from = p.consumed; to = p.released }
 
 -- what becomes of all frames that were released
-abbrev pub fates_of : {base : ℕ} {client : List ClientEvent} {released : List ℕ} {server : List ServerEvent} {taken : List ℕ} {hand : List HandEvent} → HasHistory base client released server taken hand → List Span
-fates_of {base} h = spans_of base h.order ++ waiting_at (point h) ∷ []
+abbrev pub fates_of : {k : Shape} {client : List ClientEvent} {released : List ℕ} {server : List ServerEvent} {taken : List ℕ} {hand : List HandEvent} → HasHistory k client released server taken hand → List Span
+fates_of {k} h = spans_of k h.order ++ waiting_at (point h) ∷ []
 
 -- the spans follow one another from one position to another, without gap or overlap
 abbrev pub Follow : ℕ → List Span → ℕ → Type 0

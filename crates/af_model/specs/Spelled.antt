@@ -7,6 +7,7 @@ use Rattle.af_base.specs.declared.event.ClientEvent.TheVariants as client
 use Rattle.af_base.specs.declared.event.ServerEvent.{ServerEvent}
 use Rattle.af_base.specs.declared.event.ServerEvent.TheVariants as server
 use Rattle.af_base.specs.declared.seen.Seen.{Seen}
+use Rattle.af_model.specs.declared.shape.Shape.{Shape}
 use Rattle.af_model.specs.Point.{wrapped}
 use Rattle.af_model.specs.ClientCalls.{ClientKept, client_keeps, client_begins, client_kept, ClientAnswers, client_call_events}
 use Rattle.af_model.specs.ServerCalls.{ServerKept, server_keeps, server_begins, look_at, look_events, shown_by}
@@ -80,33 +81,33 @@ pub data ServerStep : Type 0 where
   met_client : (count : ℕ) → ServerStep
 
 -- what a look shows by the words seen and what was kept
-abbrev pub sight_of : (size : ℕ) → ServerKept → (asked flush rear front : ℕ) → Seen
-sight_of size kept asked flush rear front = look_at size kept.flush asked flush rear front
+abbrev pub sight_of : Shape → ServerKept → (asked flush rear front : ℕ) → Seen
+sight_of k kept asked flush rear front = look_at k kept.flush asked flush rear front
 
 -- the events of a step. A server that was shut looks no more
-abbrev pub server_step_events : (size : ℕ) → ServerKept → ServerStep → List ServerEvent
-server_step_events size kept (looked asked flush rear front) = if is_some kept.shut then [] else look_events (sight_of size kept asked flush rear front) flush rear front
-server_step_events size kept (took count) = server.Take count ∷ []
-server_step_events size kept (read_gains word) = server.SawGain word ∷ []
-server_step_events size kept (tallied missing) = server.Tally missing ∷ server.SetFlags 1 ∷ []
-server_step_events size kept (set_flags bits) = server.SetFlags bits ∷ []
-server_step_events size kept (set_status word) = server.SetStatus word ∷ []
-server_step_events size kept (met_client count) = server.Learn count ∷ []
+abbrev pub server_step_events : Shape → ServerKept → ServerStep → List ServerEvent
+server_step_events k kept (looked asked flush rear front) = if is_some kept.shut then [] else look_events (sight_of k kept asked flush rear front) flush rear front
+server_step_events k kept (took count) = server.Take count ∷ []
+server_step_events k kept (read_gains word) = server.SawGain word ∷ []
+server_step_events k kept (tallied missing) = server.Tally missing ∷ server.SetFlags 1 ∷ []
+server_step_events k kept (set_flags bits) = server.SetFlags bits ∷ []
+server_step_events k kept (set_status word) = server.SetStatus word ∷ []
+server_step_events k kept (met_client count) = server.Learn count ∷ []
 
 -- the events of some steps, after what is kept
-abbrev pub server_spells : (size : ℕ) → ServerKept → List ServerStep → List ServerEvent
-server_spells size kept [] = []
-server_spells size kept (s ∷ steps) = server_step_events size kept s ++ server_spells size (fold (server_keeps size) kept (server_step_events size kept s)) steps
+abbrev pub server_spells : Shape → ServerKept → List ServerStep → List ServerEvent
+server_spells k kept [] = []
+server_spells k kept (s ∷ steps) = server_step_events k kept s ++ server_spells k (fold (server_keeps k) kept (server_step_events k kept s)) steps
 
 -- the list of a server that took these steps
-abbrev pub server_spelled : (size base : ℕ) → List ServerStep → List ServerEvent
-server_spelled size base steps = server_spells size (server_begins base) steps
+abbrev pub server_spelled : Shape → List ServerStep → List ServerEvent
+server_spelled k steps = server_spells k (server_begins k) steps
 
 -- how many frames may be taken after a step: those that it showed, where it was a look that showed some
-abbrev pub shown_after : (size : ℕ) → ServerKept → Option ℕ → ServerStep → Option ℕ
-shown_after size kept shown (looked asked flush rear front) = if is_some kept.shut then None else shown_by (sight_of size kept asked flush rear front)
-shown_after size kept shown (met_client count) = shown
-shown_after size kept shown _ = None
+abbrev pub shown_after : Shape → ServerKept → Option ℕ → ServerStep → Option ℕ
+shown_after k kept shown (looked asked flush rear front) = if is_some kept.shut then None else shown_by (sight_of k kept asked flush rear front)
+shown_after k kept shown (met_client count) = shown
+shown_after k kept shown _ = None
 
 -- a look asks for some frames, a take takes all that were shown, and a tally counts some
 abbrev pub StepMay : Option ℕ → ServerStep → Type 0
@@ -116,27 +117,27 @@ StepMay shown (tallied missing) = 1 ≤ missing
 StepMay shown _ = Unit {0}
 
 -- each step may follow those before it
-abbrev pub AllMay : (size : ℕ) → ServerKept → Option ℕ → List ServerStep → Type 0
-AllMay size kept shown [] = Unit {0}
-AllMay size kept shown (s ∷ steps) = StepMay shown s × AllMay size (fold (server_keeps size) kept (server_step_events size kept s)) (shown_after size kept shown s) steps
+abbrev pub AllMay : Shape → ServerKept → Option ℕ → List ServerStep → Type 0
+AllMay k kept shown [] = Unit {0}
+AllMay k kept shown (s ∷ steps) = StepMay shown s × AllMay k (fold (server_keeps k) kept (server_step_events k kept s)) (shown_after k kept shown s) steps
 
 -- how many frames may be taken after some steps
-abbrev pub shown_at_end : (size : ℕ) → ServerKept → Option ℕ → List ServerStep → Option ℕ
-shown_at_end size kept shown [] = shown
-shown_at_end size kept shown (s ∷ steps) = shown_at_end size (fold (server_keeps size) kept (server_step_events size kept s)) (shown_after size kept shown s) steps
+abbrev pub shown_at_end : Shape → ServerKept → Option ℕ → List ServerStep → Option ℕ
+shown_at_end k kept shown [] = shown
+shown_at_end k kept shown (s ∷ steps) = shown_at_end k (fold (server_keeps k) kept (server_step_events k kept s)) (shown_after k kept shown s) steps
 
 -- ## Fronts
 
 -- the server's own front, by its list: the word of the position that it took and dropped up to
-abbrev pub own_front : ℕ → ServerKept → ℕ
-own_front base kept = wrapped (base + kept.consumed)
+abbrev pub own_front : Shape → ServerKept → ℕ
+own_front k kept = wrapped (k.base + kept.consumed)
 
 -- a look sees the server's own front
-abbrev pub SeesOwn : ℕ → ServerKept → ServerEvent → Type 0
-SeesOwn base kept (server.SawFront front) = front ≡ own_front base kept
-SeesOwn base kept _ = Unit {0}
+abbrev pub SeesOwn : Shape → ServerKept → ServerEvent → Type 0
+SeesOwn k kept (server.SawFront front) = front ≡ own_front k kept
+SeesOwn k kept _ = Unit {0}
 
 -- each look does
-abbrev pub AllSeeOwn : (size base : ℕ) → ServerKept → List ServerEvent → Type 0
-AllSeeOwn size base kept [] = Unit {0}
-AllSeeOwn size base kept (e ∷ es) = SeesOwn base kept e × AllSeeOwn size base (server_keeps size kept e) es
+abbrev pub AllSeeOwn : Shape → ServerKept → List ServerEvent → Type 0
+AllSeeOwn k kept [] = Unit {0}
+AllSeeOwn k kept (e ∷ es) = SeesOwn k kept e × AllSeeOwn k (server_keeps k kept e) es

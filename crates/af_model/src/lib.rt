@@ -11,6 +11,7 @@ mod plain_places;
 mod plain_queue;
 mod point;
 mod search;
+mod shape;
 mod states;
 mod step;
 
@@ -20,4 +21,5 @@ pub use newest::{ReaderEvent, WriterEvent};
 pub use plain_calls::{Move, Place, Poll, QueueAnswer, QueueCall, Readiness, carries_item};
 pub use plain_queue::{PlainQueue, first_state};
 pub use point::TrackPoint;
+pub use shape::Shape;
 pub use states::{MutatorEvent, ObserverEvent};

@@ -5,7 +5,7 @@ use Rattle.af_base.specs.declared.event.ServerEvent.{ServerEvent}
 use Rattle.af_base.specs.declared.event.ServerEvent.TheVariants as server
 use Rattle.af_model.specs.ServerCalls.{ServerKept, server_keeps, server_begins, server_kept, IsServerList, begins, tallies, rests, meets}
 use Rattle.af_cblk.specs.declared.view.ServerPart.{ServerPart}
-use Rattle.af_cblk.specs.declared.view.Shape.{Shape}
+use Rattle.af_model.specs.declared.shape.Shape.{Shape}
 use Rattle.af_cblk.specs.Parts.{server_did}
 use Rattle.af_cblk.specs.Rule.{new_server}
 use Rattle.af_cblk.specs.Sides.{ServerSide, ServerIs}
@@ -22,12 +22,12 @@ new_keeps k s front new =
     record { spelled = begins; flush_is = refl; seen_is = refl; settled = refl; consumed_is = refl; shut_is = refl; ready = tt })
 
 -- the values that a list gives, after further events
-pub kept-more : (size base : ℕ) (es more : List ServerEvent) → server_kept size base (es ++ more) ≡ fold (server_keeps size) (server_kept size base es) more
-kept-more size base es more = fold-append (server_keeps size) (server_begins base) es more
+pub kept-more : (shape : Shape) (es more : List ServerEvent) → server_kept shape (es ++ more) ≡ fold (server_keeps shape) (server_kept shape es) more
+kept-more shape es more = fold-append (server_keeps shape) (server_begins shape) es more
 
 -- the list goes on, and gives the kept values of before
 same_values : (s t : ServerPart) (flush front : ℕ) (shown shown' : Option ℕ) (consumed : ℕ) (shut : Option (ℕ × ℕ)) → Keeps s flush front shown consumed shut
-    → server_kept_of t ≡ server_kept_of s → (t.flush ≡ s.flush) × (t.noticed ≡ s.noticed) → IsServerList t.shape.frames t.shape.base shown' t.events
+    → server_kept_of t ≡ server_kept_of s → (t.flush ≡ s.flush) × (t.noticed ≡ s.noticed) → IsServerList t.shape shown' t.events
     → MatchOption shown' (Unit {0}) (λ count. IsReady t front count) → Keeps t flush front shown' consumed shut
 same_values s t flush front shown shown' consumed shut k now same list ready =
     record {
@@ -42,13 +42,13 @@ same_values s t flush front shown shown' consumed shut k now same list ready =
 
 -- an event that changes no kept value
 quiet : (s : ServerPart) (flush front : ℕ) (shown : Option ℕ) (consumed : ℕ) (shut : Option (ℕ × ℕ)) (e : ServerEvent) → Keeps s flush front shown consumed shut
-    → server_keeps s.shape.frames (server_kept_of s) e ≡ server_kept_of s → IsServerList s.shape.frames s.shape.base None (s.events ++ e ∷ []) → Keeps (server_did s e) flush front None consumed shut
+    → server_keeps s.shape (server_kept_of s) e ≡ server_kept_of s → IsServerList s.shape None (s.events ++ e ∷ []) → Keeps (server_did s e) flush front None consumed shut
 quiet s flush front shown consumed shut e k same list =
-    same_values s (server_did s e) flush front shown None consumed shut k (kept-more s.shape.frames s.shape.base s.events (e ∷ []) ∙ same) (refl, refl) list tt
+    same_values s (server_did s e) flush front shown None consumed shut k (kept-more s.shape s.events (e ∷ []) ∙ same) (refl, refl) list tt
 
 -- a call with one such event, on a value that was opened
-pub word_keeps : (c i : ServerState) (pass : ServerSide) (e : ServerEvent) → IsInOrder c → server_keeps c.pass.part.shape.frames (server_kept_of c.pass.part) e ≡ server_kept_of c.pass.part
-    → IsServerList c.pass.part.shape.frames c.pass.part.shape.base None (c.pass.part.events ++ e ∷ [])
+pub word_keeps : (c i : ServerState) (pass : ServerSide) (e : ServerEvent) → IsInOrder c → server_keeps c.pass.part.shape (server_kept_of c.pass.part) e ≡ server_kept_of c.pass.part
+    → IsServerList c.pass.part.shape None (c.pass.part.events ++ e ∷ [])
     → i ≡ c → ServerIs (server_did i.pass.part e) i.pass pass → Keeps pass.part i.flush i.front None i.consumed i.shut
 word_keeps c i pass e k same list opened did =
     let now : Keeps (server_did c.pass.part e) c.flush c.front None c.consumed c.shut = quiet c.pass.part c.flush c.front c.shown c.consumed c.shut e k same list in
@@ -61,12 +61,12 @@ pub tally_keeps : (c i : ServerState) (mid pass : ServerSide) (missing : ℕ) �
 tally_keeps c i mid pass missing k some opened first second =
     let s : ServerPart = c.pass.part in
     let t : ServerPart = server_did s (server.Tally missing) in
-    let list : IsServerList s.shape.frames s.shape.base None (s.events ++ server.Tally missing ∷ server.SetFlags 1 ∷ []) = tallies s.events c.shown missing k.spelled some in
+    let list : IsServerList s.shape None (s.events ++ server.Tally missing ∷ server.SetFlags 1 ∷ []) = tallies s.events c.shown missing k.spelled some in
     let same : (s.events ++ server.Tally missing ∷ []) ++ server.SetFlags 1 ∷ [] ≡ s.events ++ server.Tally missing ∷ server.SetFlags 1 ∷ [] = append_assoc s.events (server.Tally missing ∷ []) (server.SetFlags 1 ∷ []) in
     let kept : server_kept_of (server_did t (server.SetFlags 1)) ≡ server_kept_of s =
-    kept-more s.shape.frames s.shape.base (s.events ++ server.Tally missing ∷ []) (server.SetFlags 1 ∷ []) ∙ kept-more s.shape.frames s.shape.base s.events (server.Tally missing ∷ []) in
+    kept-more s.shape (s.events ++ server.Tally missing ∷ []) (server.SetFlags 1 ∷ []) ∙ kept-more s.shape s.events (server.Tally missing ∷ []) in
     let done : Keeps (server_did t (server.SetFlags 1)) c.flush c.front None c.consumed c.shut =
-    same_values s (server_did t (server.SetFlags 1)) c.flush c.front c.shown None c.consumed c.shut k kept (refl, refl) (subst (λ (es : List ServerEvent). IsServerList s.shape.frames s.shape.base None es) (sym same) list) tt in
+    same_values s (server_did t (server.SetFlags 1)) c.flush c.front c.shown None c.consumed c.shut k kept (refl, refl) (subst (λ (es : List ServerEvent). IsServerList s.shape None es) (sym same) list) tt in
     let there : Keeps (server_did (server_did i.pass.part (server.Tally missing)) (server.SetFlags 1)) i.flush i.front None i.consumed i.shut =
     subst (λ (x : ServerState). Keeps (server_did (server_did x.pass.part (server.Tally missing)) (server.SetFlags 1)) x.flush x.front None x.consumed x.shut) (sym opened) done in
     let parts : pass.part ≡ server_did (server_did i.pass.part (server.Tally missing)) (server.SetFlags 1) =
@@ -95,6 +95,6 @@ pub met_keeps : (s t : ServerPart) (flush front : ℕ) (shown : Option ℕ) (con
     → t ≡ server_did s (server.Learn count) → Keeps t flush front shown consumed shut
 met_keeps s t flush front shown consumed shut count k is =
     let u : ServerPart = server_did s (server.Learn count) in
-    let now : server_kept_of u ≡ server_kept_of s = kept-more s.shape.frames s.shape.base s.events (server.Learn count ∷ []) in
+    let now : server_kept_of u ≡ server_kept_of s = kept-more s.shape s.events (server.Learn count ∷ []) in
     subst (λ (x : ServerPart). Keeps x flush front shown consumed shut) (sym is)
     (same_values s u flush front shown shown consumed shut k now (refl, refl) (meets s.events shown count k.spelled) (still_ready s front shown (server.Learn count) k.ready))

@@ -35,13 +35,13 @@ looks_clean c asked look d looks clean = by c.shut looks
         → MatchOption o
         (
         (front : ℕ)
-        × (let shows = look_at c.pass.part.shape.frames c.flush asked look.flush look.rear front in
+        × (let shows = look_at c.pass.part.shape c.flush asked look.flush look.rear front in
         (look.seen ≡ shows) × (d.shown ≡ shown_by shows) × (d.pass.part.events ≡ c.pass.part.events ++ look_events shows look.flush look.rear front)))
         (λ words. (look.seen ≡ seen.Shut words.0 words.1) × (look.flush ≡ c.flush) × (look.rear ≡ words.1) × (d ≡ (record c { shown = None })))
         → IsFlushed look.seen ⊎ (drops_none d.pass.part.events ≡ true)
     by None h =
         subst (λ (x : Seen × List ServerEvent). IsFlushed x.0 ⊎ (drops_none x.1 ≡ true)) (λ i. (sym h.1.0 i, sym h.1.2 i)) (
-        look_drops c.pass.part.events (look_at c.pass.part.shape.frames c.flush asked look.flush look.rear h.0) look.flush look.rear h.0 clean)
+        look_drops c.pass.part.events (look_at c.pass.part.shape c.flush asked look.flush look.rear h.0) look.flush look.rear h.0 clean)
     by (Some words) h = inr (subst (λ (x : ServerState). drops_none x.pass.part.events ≡ true) (sym h.3) clean)
 
 -- a beginning of a beginning

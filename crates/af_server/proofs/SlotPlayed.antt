@@ -36,7 +36,7 @@ module _ (asked first : ℕ) (s u v : ServerState) (gains : ℕ) (look : Look) (
 
   -- what the look says where no words had shut the server
   abbrev Opens : Type 0
-  Opens = (front : ℕ) × (let shows = look_at s.pass.part.shape.frames s.flush asked look.flush look.rear front in
+  Opens = (front : ℕ) × (let shows = look_at s.pass.part.shape s.flush asked look.flush look.rear front in
       (look.seen ≡ shows) × (u.shown ≡ shown_by shows) × (u.pass.part.events ≡ (before ++ server.SawGain gains ∷ []) ++ look_events shows look.flush look.rear front))
 
   -- and where these words had shut it
@@ -47,12 +47,12 @@ module _ (asked first : ℕ) (s u v : ServerState) (gains : ℕ) (look : Look) (
   by_words None open_is =
       let found : Opens = subst (λ (o : Option (ℕ × ℕ)). MatchOption o Opens Stays) open_is looks in
       let front : ℕ = found.0 in
-      let flushed : look.seen ≡ look_at s.pass.part.shape.frames (kept (listed s)).flush asked look.flush look.rear front =
-      found.1.0 ∙ ap (λ (flush : ℕ). look_at s.pass.part.shape.frames flush asked look.flush look.rear front) order.flush_is in
+      let flushed : look.seen ≡ look_at s.pass.part.shape (kept (listed s)).flush asked look.flush look.rear front =
+      found.1.0 ∙ ap (λ (flush : ℕ). look_at s.pass.part.shape flush asked look.flush look.rear front) order.flush_is in
       record {
         front = front;
         looks = subst (λ (o : Option (ℕ × ℕ)). MatchOption o
-            (look.seen ≡ look_at s.pass.part.shape.frames (kept (listed s)).flush asked look.flush look.rear front)
+            (look.seen ≡ look_at s.pass.part.shape (kept (listed s)).flush asked look.flush look.rear front)
             (λ words. (look.seen ≡ seen.Shut words.0 words.1) × (look.flush ≡ (kept (listed s)).flush) × (look.rear ≡ words.1))) (sym open_is ∙ order.shut_is) flushed;
         list = list_of front (found.1.2
             ∙ ap (λ (x : Seen). (before ++ server.SawGain gains ∷ []) ++ look_events x look.flush look.rear front) (sym found.1.0)
@@ -63,7 +63,7 @@ module _ (asked first : ℕ) (s u v : ServerState) (gains : ℕ) (look : Look) (
       record {
         front = 0;
         looks = subst (λ (o : Option (ℕ × ℕ)). MatchOption o
-            (look.seen ≡ look_at s.pass.part.shape.frames (kept (listed s)).flush asked look.flush look.rear 0)
+            (look.seen ≡ look_at s.pass.part.shape (kept (listed s)).flush asked look.flush look.rear 0)
             (λ w. (look.seen ≡ seen.Shut w.0 w.1) × (look.flush ≡ (kept (listed s)).flush) × (look.rear ≡ w.1))) (sym shut_is ∙ order.shut_is) (found.0, found.1 ∙ order.flush_is, found.2);
         list = list_of 0 (ap (λ (x : ServerState). x.pass.part.events) found.3
             ∙ sym (append-nil (before ++ server.SawGain gains ∷ []))

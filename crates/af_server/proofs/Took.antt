@@ -69,10 +69,10 @@ pub take_keeps : (c : ServerState) (q : ServerPart) (front n consumed : ℕ) (wo
 take_keeps c q front n consumed words k shown is count =
     let s : ServerPart = c.pass.part in
     let now : server_kept_of (record s { events = s.events ++ server.Take n ∷ []; frames = s.frames ++ words; front = front; fresh = false; loaded = [] }) ≡ (record (server_kept_of s) { consumed = (server_kept_of s).consumed + n }) =
-    kept-more s.shape.frames s.shape.base s.events (server.Take n ∷ []) in
+    kept-more s.shape s.events (server.Take n ∷ []) in
     subst (λ (x : ServerPart). Keeps x c.flush c.front None consumed c.shut) (sym is) (
     record {
-      spelled = takes s.events n (subst (λ (o : Option ℕ). IsServerList s.shape.frames s.shape.base o s.events) shown k.spelled);
+      spelled = takes s.events n (subst (λ (o : Option ℕ). IsServerList s.shape o s.events) shown k.spelled);
       flush_is = k.flush_is ∙ sym (ap (λ (x : ServerKept). x.flush) now);
       seen_is = k.seen_is ∙ sym (ap (λ (x : ServerKept). x.flush) now);
       settled = k.settled;

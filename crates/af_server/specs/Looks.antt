@@ -20,7 +20,7 @@ Looks c asked look d =
     MatchOption c.shut
     (
     (front : ℕ)
-    × (let shows = look_at c.pass.part.shape.frames c.flush asked look.flush look.rear front in
+    × (let shows = look_at c.pass.part.shape c.flush asked look.flush look.rear front in
     (look.seen ≡ shows) × (d.shown ≡ shown_by shows) × (d.pass.part.events ≡ c.pass.part.events ++ look_events shows look.flush look.rear front)))
     (λ words. (look.seen ≡ seen.Shut words.0 words.1) × (look.flush ≡ c.flush) × (look.rear ≡ words.1) × (d ≡ (record c { shown = None })))
 

@@ -18,7 +18,7 @@ pub record ServerState : Type 0 where
 
 -- what the list of a server's events tells
 abbrev pub server_kept_of : ServerPart → ServerKept
-server_kept_of s = server_kept s.shape.frames s.shape.base s.events
+server_kept_of s = server_kept s.shape s.events
 
 -- the consumed count ends at 2 ^ 63 - 1
 abbrev pub counted : ℕ → ℕ
@@ -33,7 +33,7 @@ pub record IsReady (s : ServerPart) (front count : ℕ) : Type 0 where
 
 -- The list of events is spelled by calls, and the kept values are those that it gives. No new flush waits for its drop
 pub record Keeps (s : ServerPart) (flush front : ℕ) (shown : Option ℕ) (consumed : ℕ) (shut : Option (ℕ × ℕ)) : Type 0 where
-  pub spelled : IsServerList s.shape.frames s.shape.base shown s.events
+  pub spelled : IsServerList s.shape shown s.events
   pub flush_is : flush ≡ (server_kept_of s).flush
   pub seen_is : s.flush ≡ (server_kept_of s).flush
   pub settled : s.noticed ≡ false

@@ -10,7 +10,7 @@ use Rattle.af_server.specs.Order.{ServerState}
 
 -- a server with its list, as a cycle finds it
 abbrev pub listed : ServerState → Listed
-listed s = record { size = s.pass.part.shape.frames; base = s.pass.part.shape.base; events = s.pass.part.events }
+listed s = record { shape = s.pass.part.shape; events = s.pass.part.events }
 
 -- the server has done these events more, and taken these frames
 pub record HasDone (s : ServerState) (events : List ServerEvent) (frames : List Frame) (t : ServerState) : Type 0 where

@@ -62,15 +62,15 @@ impl Server {
     }
 
     // What the words show where no new flush was seen.
-    fn judge(&mut self, size: u32, ask: u32, words: Words) -> Seen
+    fn judge(&mut self, block: &Block, ask: u32, words: Words) -> Seen
         requires same { words.flush ≡ self.old.flush }
         requires open { (self.old.shown ≡ None) × (self.old.shut ≡ None) }
-        ensures seen { result ≡ look_at size self.old.flush ask words.flush words.rear words.front }
+        ensures seen { result ≡ look_at block.now.shape self.old.flush ask words.flush words.rear words.front }
         ensures kept { self.new ≡ (record self.old { shown = shown_by result; shut = shut_of result }) }
     {
         let Words { rear, front, .. } = words;
         let there = rear.wrapping_sub(front);
-        if there > size {
+        if there > block.frames() {
             self.shut = Some((front, rear));
             return Seen::Shut { front, rear };
         }
@@ -110,7 +110,7 @@ impl Server {
         let seen = if words.flush != self.flush {
             self.discard(block, words, steps)
         } else {
-            self.judge(block.frames(), ask, words)
+            self.judge(block, ask, words)
         };
         Look {
             flush: words.flush,

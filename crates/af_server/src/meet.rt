@@ -28,7 +28,7 @@ impl Server {
         ensures server { self.new ≡ (record self.old { pass = record self.old.pass { part = server_did self.old.pass.part (server_event.Learn (length client.old.part.events)) } }) }
         ensures history { is_lawful client.old.part.events ≡ true
             → (hand : List HandEvent) × (self.old.pass.has_hand ≡ true → hand ≡ [])
-            × HasHistory block.now.shape.base client.new.part.events client.new.part.frames self.new.pass.part.events self.new.pass.part.frames hand }
+            × HasHistory block.now.shape client.new.part.events client.new.part.frames self.new.pass.part.events self.new.pass.part.frames hand }
         ensures unshut { is_lawful client.old.part.events ≡ true → self.new.shut ≡ None }
         ensures begins { is_lawful client.old.part.events ≡ true → drops_none self.old.pass.part.events ≡ true
             → (n : ℕ) × (self.new.pass.part.frames ≡ take n client.new.part.frames) }

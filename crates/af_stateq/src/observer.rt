@@ -60,7 +60,7 @@ impl<P: Drop, N: Fits<P>> Observer<P, N> {
         ensures answer { WasPolled self.old result self.new steps.old steps.new }
         ensures order { InOrder N.fits self.new }
         ensures same { (self.new.past.queue ≡ self.old.past.queue) × (self.new.past.key ≡ self.old.past.key) × (self.new.past.number ≤ self.old.past.number + 1) }
-        ensures bound { steps.new ≤ steps.old + 9 }
+        ensures bound { steps.new ≤ steps.old + 2 }
     {
         let Observer {
             end,

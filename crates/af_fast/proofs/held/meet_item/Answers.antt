@@ -33,7 +33,7 @@ returns g c =
           hand = e.hand;
           others = ((e.ready.0.0 ∙ sym of.0, e.ready.0.1), e.ready.2 ∙ sym of.0);
           history = (λ lawful.
-              subst (λ (x : Made × ServerState). HasHistory x.0.shape.base c.meet_all.new.client.pass.part.events c.meet_all.new.client.pass.part.frames x.1.pass.part.events x.1.pass.part.frames c.meet_all.new.hand.part.events)
+              subst (λ (x : Made × ServerState). HasHistory x.0.shape c.meet_all.new.client.pass.part.events c.meet_all.new.client.pass.part.frames x.1.pass.part.events x.1.pass.part.frames c.meet_all.new.hand.part.events)
               (λ i. (sym of.0 i, e.server i)) (e.history lawful));
           unshut = (λ lawful. sym (ap (λ (t : ServerState). t.shut) e.server) ∙ e.unshut lawful);
         },

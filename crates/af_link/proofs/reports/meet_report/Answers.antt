@@ -1,7 +1,7 @@
 use Rattle.std.proofs.Common.{List, length, sym, ◌∙◌, subst}
 use Rattle.af_model.specs.declared.newest.WriterEvent.{WriterEvent}
 use Rattle.af_base.specs.declared.report.Report.{Report}
-use Rattle.af_link.specs.Reports.{no_report, Rises, CyclesNeverFall}
+use Rattle.af_link.specs.Reports.{no_report, Rises}
 use Rattle.af_link.proofs.Cycles.{rises_met, cycles_never_fall}
 use Rattle.af_link.proofs.reports.meet_report.Goals as goal
 

@@ -1,10 +1,10 @@
-use Rattle.std.proofs.Common.{◌≡◌, ◌<◌, ◌&&◌, ◌==◌, true, map, length, take, drop, ℕ, ◌+◌, ◌-◌, ◌*◌, ◌≤◌}
-use Rattle.std.specs.Int.{bit_at}
-use Rattle.af_base.specs.Log.{slots, entry_at, slot_take, takes_of}
-use Rattle.af_base.specs.Mix.{mix}
-use Rattle.af_base.specs.Part.{take_of}
-use Rattle.af_model.specs.Cycles.{is_mixed}
+use Rattle.std.proofs.Common.{◌≡◌, ℕ, ◌<◌, length, map, slice_index_or}
+use Rattle.af_base.specs.Log.{slots, slot_take}
+use Rattle.af_base.specs.Part.{take_of, no_part}
 use Rattle.af_model.proofs.mixing.parts_of.Given as goal
 
 abbrev pub invariant-loop-slot : goal.invariant-loop-slot
-invariant-loop-slot l = ?
+invariant-loop-slot l = record {
+  whole : length l.parts ≡ slots;
+  each : (k : ℕ) → k < l.slot → slice_index_or (map take_of l.parts) k (take_of no_part) ≡ slot_take l.frames l.entry k;
+}

@@ -8,7 +8,7 @@ use Rattle.af_cblk.specs.Plays.{Meeting}
 use Rattle.af_cblk.specs.Sides.{Made}
 use Rattle.af_cblk.proofs.Calls.{learns_by_client, learns_by_server}
 use Rattle.af_cblk.proofs.Parting.{one_less}
-use Rattle.af_cblk.specs.declared.view.Shape.{Shape}
+use Rattle.af_model.specs.declared.shape.Shape.{Shape}
 use Rattle.af_cblk.specs.Unshut.{NeitherShut}
 use Rattle.af_cblk.proofs.NoneShut.{neither_shut}
 use Rattle.af_cblk.proofs.block.Block.learn_both.Goals as goal

@@ -2,7 +2,7 @@ use Rattle.std.proofs.Common.{arith, rules, ◌≡◌, ℕ, ◌+◌, ◌≤◌, 
 use Rattle.af_base.specs.declared.event.ClientEvent.TheVariants as client
 use Rattle.af_model.specs.Point.{wrapped}
 use Rattle.af_model.specs.PipeHistory.{releases_of}
-use Rattle.af_cblk.specs.declared.view.Shape.{Shape}
+use Rattle.af_model.specs.declared.shape.Shape.{Shape}
 use Rattle.af_cblk.specs.Sides.{Made}
 use Rattle.af_link.specs.PipeEnds.{InSide}
 use Rattle.af_link.proofs.Releases.{put_whole, put_parts, whole_put, parts_put, reach}

@@ -1,4 +1,5 @@
 use Rattle.std.proofs.Common.{rules, ◌≡◌, ◌≢◌, ℕ, ◌+◌, None, sym, ap, ◌∙◌, subst}
+use Rattle.af_model.specs.declared.shape.Shape.{Shape}
 use Rattle.af_model.specs.Room.{ahead}
 use Rattle.af_model.specs.ServerCalls.{look_at, shown_by}
 use Rattle.af_cblk.specs.Parts.{front_stored}
@@ -42,9 +43,9 @@ returns-else-words-self-clause-ready g c =
     let rear : ℕ = words.result.rear in
     let front : ℕ = words.result.front in
     let e = c.judge-seen.ensures.kept in
-    let size : c.frames.result ≡ old.pass.part.shape.frames = c.frames.ensures.value ∙ ap (λ (x : Made). x.shape.frames) (sym c.requires.ready.0) in
-    let seen : c.judge-seen.result ≡ look_at old.pass.part.shape.frames old.flush c.args.ask flush rear front =
-    c.judge-seen.ensures.seen ∙ ap (λ (x : ℕ × ℕ). look_at x.0 x.1 c.args.ask flush rear front) (λ i. (size i, (c.self.view_is i).flush)) in
+    let size : c.args.block.now.shape ≡ old.pass.part.shape = ap (λ (x : Made). x.shape) (sym c.requires.ready.0) in
+    let seen : c.judge-seen.result ≡ look_at old.pass.part.shape old.flush c.args.ask flush rear front =
+    c.judge-seen.ensures.seen ∙ ap (λ (x : Shape × ℕ). look_at x.0 x.1 c.args.ask flush rear front) (λ i. (size i, (c.self.view_is i).flush)) in
     let part : c.judge-seen.new.self.pass.part ≡ saw_all old.pass.part flush rear front =
     ap (λ (x : ServerState). x.pass.part) e ∙ ap (λ (x : ServerSide). x.part) words.ensures.saw ∙ ap (λ (x : ServerState). saw_all x.pass.part flush rear front) c.self.view_is in
     let same : flush ≡ old.flush = c.if-words-self.false ∙ ap (λ (x : ServerState). x.flush) c.self.view_is in (

@@ -1,0 +1,10 @@
+/// The sizes of a block.
+#[derive(Clone, Copy, Drop)]
+pub struct Shape {
+    /// How many frames may lie in it.
+    pub frames: u32,
+    /// How many cells it has.
+    pub cells: u32,
+    /// The position of the first frame.
+    pub base: u32,
+}
