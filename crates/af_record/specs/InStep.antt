@@ -8,12 +8,12 @@ use Rattle.af_model.specs.PipeHistory.{HasPipeHistory}
 use Rattle.af_cblk.specs.Sides.{Made}
 use Rattle.af_record.specs.Ends.{CaptureState, ListenerState, capture_made, listener_made}
 
--- for how many frames there is room in all, the words of those that are queued, and how many were supplied and read
+-- for how many frames there is room in all, the words of those that are queued and of those that were read, and how many were supplied
 pub record HandState : Type 0 where
   pub size : ℕ
   pub queued : List ℕ
+  pub read : List ℕ
   pub supplied : ℕ
-  pub total : ℕ
 
 -- the words of the frames that were put and not read
 abbrev pub queued_in : CaptureState → ListenerState → List ℕ
@@ -24,6 +24,7 @@ pub record IsInStep (block : Made) (c : CaptureState) (l : ListenerState) : Type
   pub from : capture_made c ≡ block
   pub to : listener_made l ≡ block
   pub small : block.shape.frames ≤ 8192
+  pub total_is : l.total ≡ length l.pass.part.frames
   pub clients : List ClientEvent
   pub servers : List ServerEvent
   pub clients_are : c.pass.part.events ≡ clients ++ client.Learn (length servers) ∷ []
