@@ -1,5 +1,5 @@
 -- The words after the program's name, as a simple command of `clap` reads them.
-use Rattle.std.specs.Prelude.{ℕ, Bool, true, false, List, [], ◌∷◌, codes, Option, Some, None, option_and_then, if◌then◌else◌}
+use Rattle.std.specs.Prelude.{ℕ, Bool, true, false, List, [], ◌∷◌, ◌++◌, codes, Option, Some, None, option_and_then, if◌then◌else◌}
 use Rattle.std.specs.Str.{bytes_eq}
 use Rattle.clap.specs.Walk.{Row, Rule, Text, first_of}
 use Rattle.clap.specs.Simple.{App, Shape, new_rule, new_shape}
@@ -8,6 +8,10 @@ use Rattle.af_player.specs.Requests.{Request, render_request, record_request}
 -- an argument that can't be left out
 abbrev pub needed : List ℕ → Rule
 needed id = record (new_rule id) { required = true }
+
+-- a command with more arguments
+abbrev pub with_rules : Shape → List Rule → Shape
+with_rules shape rules = record shape { rules = shape.rules ++ rules }
 
 -- the subcommand `render SCRIPT OUT`
 abbrev pub render_words : Shape

@@ -1,12 +1,13 @@
 //! The words after the program's name, read by a simple command of `clap` with subcommands.
-ghost use Rattle.std.specs.Prelude.{◌≡◌, false, map, option_map, IfOk, string_bytes};
+ghost use Rattle.std.specs.Prelude.{◌≡◌, ◌∷◌, [], false, map, option_map, IfOk, IfSome, string_bytes};
 ghost use Rattle.std.specs.List.{list_any};
 ghost use Rattle.clap.specs.Words.{app_of, first_of, found_of, rows_of, rule_of, shape_of, subcommand_rows_of};
 ghost use Rattle.clap.specs.declared.builder.command.Command.TheViews.{out-Command};
-ghost use Rattle.af_player.specs.Asking.{request_view};
+ghost use Rattle.af_player.specs.Asking.{request_view, IsSound};
+ghost use Rattle.af_player.specs.Captured.{AreSizes};
 ghost use Rattle.af_player.specs.Dash.{begins_dash};
 ghost use Rattle.af_player.specs.Requests.{request_of, sizes_of, two_names};
-ghost use Rattle.af_player.specs.Words.{needed, render_words, record_words, player_words, render_met, record_met, matched_request};
+ghost use Rattle.af_player.specs.Words.{needed, with_rules, render_words, record_words, player_words, render_met, record_met, matched_request};
 
 use crate::request::{Request, Sizes};
 use af_script::{is_name, number_within};
@@ -49,22 +50,29 @@ fn render_command<'a>(alloc: Global) -> Result<Command<'a>, AllocError>
     Command::new(alloc, "render").arg(script)?.arg(out)
 }
 
+/// A command with one more argument that can't be left out.
+fn with_needed<'a>(
+    alloc: Global,
+    command: Command<'a>,
+    id: &'a str,
+) -> Result<Command<'a>, AllocError>
+    requires { (out-Command command).has_globals ≡ false }
+    ensures shape { IfOk result (λ more. shape_of more ≡ with_rules (shape_of command.entry) (needed id.entry.now ∷ [])) }
+    ensures local { IfOk result (λ more. (out-Command more).has_globals ≡ false) }
+{
+    command.arg(needed(alloc, id))
+}
+
 /// The subcommand `record IN OUT N F K`.
 fn record_command<'a>(alloc: Global) -> Result<Command<'a>, AllocError>
     ensures shape { IfOk result (λ command. shape_of command ≡ record_words) }
     ensures local { IfOk result (λ command. (out-Command command).has_globals ≡ false) }
 {
-    let input = needed(alloc, "in");
-    let out = needed(alloc, "out");
-    let room = needed(alloc, "room");
-    let supply = needed(alloc, "supply");
-    let read = needed(alloc, "read");
-    Command::new(alloc, "record")
-        .arg(input)?
-        .arg(out)?
-        .arg(room)?
-        .arg(supply)?
-        .arg(read)
+    let command = with_needed(alloc, Command::new(alloc, "record"), "in")?;
+    let command = with_needed(alloc, command, "out")?;
+    let command = with_needed(alloc, command, "room")?;
+    let command = with_needed(alloc, command, "supply")?;
+    with_needed(alloc, command, "read")
 }
 
 /// The command with its subcommands, without help.
@@ -95,7 +103,8 @@ fn two_names<'a>(first: &'a str, second: &'a str) -> Option<(&'a str, &'a str)>
 
 /// The sizes of a recording that these words spell.
 fn sizes_of(room: &str, supply: &str, read: &str) -> Option<Sizes>
-    ensures { result ≡ sizes_of room.now supply.now read.now }
+    ensures value { result ≡ sizes_of room.now supply.now read.now }
+    ensures sound { IfSome result AreSizes }
 {
     let room = number_within(room, 1, 8192)?;
     let supply = number_within(supply, 1, 1024)?;
@@ -119,7 +128,8 @@ fn met<'a, 'm>(matches: &'m ArgMatches<'a>) -> Option<(&'a str, &'m ArgMatches<'
 
 /// The request among the matches of `render`.
 fn render_met<'a>(matches: &ArgMatches<'a>) -> Option<Request<'a>>
-    ensures { option_map request_view result ≡ render_met (rows_of (found_of matches.now)) }
+    ensures value { option_map request_view result ≡ render_met (rows_of (found_of matches.now)) }
+    ensures sound { IfSome result IsSound }
 {
     let script = value_of(matches, "script")?;
     let target = value_of(matches, "out")?;
@@ -129,7 +139,8 @@ fn render_met<'a>(matches: &ArgMatches<'a>) -> Option<Request<'a>>
 
 /// The request among the matches of `record`.
 fn record_met<'a>(matches: &ArgMatches<'a>) -> Option<Request<'a>>
-    ensures { option_map request_view result ≡ record_met (rows_of (found_of matches.now)) }
+    ensures value { option_map request_view result ≡ record_met (rows_of (found_of matches.now)) }
+    ensures sound { IfSome result IsSound }
 {
     let input = value_of(matches, "in")?;
     let target = value_of(matches, "out")?;
@@ -147,7 +158,8 @@ fn record_met<'a>(matches: &ArgMatches<'a>) -> Option<Request<'a>>
 
 /// The request among the matches of a subcommand.
 fn matched_request<'a>(matches: &ArgMatches<'a>) -> Option<Request<'a>>
-    ensures { option_map request_view result ≡ matched_request (subcommand_rows_of matches.now) }
+    ensures value { option_map request_view result ≡ matched_request (subcommand_rows_of matches.now) }
+    ensures sound { IfSome result IsSound }
 {
     let (name, inner) = met(matches)?;
     if name == "render" {
@@ -164,7 +176,8 @@ pub fn request_of<'a>(
     alloc: Global,
     words: &'a [String],
 ) -> Result<Option<Request<'a>>, AllocError>
-    ensures { IfOk result (λ found. option_map request_view found ≡ request_of (map string_bytes words.now)) }
+    ensures value { IfOk result (λ found. option_map request_view found ≡ request_of (map string_bytes words.now)) }
+    ensures sound { IfOk result (λ found. IfSome found IsSound) }
 {
     if any_dash(words) {
         return Ok(None);
