@@ -118,6 +118,7 @@ words_stray (word ∷ rest) plain fails = go (bytes_eq word (codes "render")) re
   where
     behind : list_any begins_dash rest ≡ false
     behind = (neither (begins_dash word) (list_any begins_dash rest) plain).1
+
     go : (a : Bool) → bytes_eq word (codes "render") ≡ a → (b : Bool) → bytes_eq word (codes "record") ≡ b → command_request (word ∷ rest) ≡ None
     go false a false b = rw (a, b) refl
     go false a true b =

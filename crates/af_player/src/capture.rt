@@ -48,11 +48,7 @@ fn counts_line(alloc: Global, counts: &Counted) -> Result<String, AllocError>
 }
 
 /// Reads once, and adds the bytes of what was read. How many frames.
-fn read_once(
-    hand: &mut InHand,
-    places: &mut [Frame],
-    bytes: &mut Vec<u8>,
-) -> Result<u32, Memory>
+fn read_once(hand: &mut InHand, places: &mut [Frame], bytes: &mut Vec<u8>) -> Result<u32, Memory>
     requires places { (1 ≤ length places.old) × (length places.old ≤ 1024) }
     requires few { length hand.old.read ≤ 2097152 }
     ensures count { IfOk result (λ count. count ≡ min (length places.old) (length hand.old.queued)) }

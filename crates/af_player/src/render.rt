@@ -81,11 +81,7 @@ fn summary_of(plan: &Prepared, peak: u32) -> Summary
 }
 
 /// Loads what a script plays, and plays it. Nothing is written yet.
-pub fn render_output<S: Store>(
-    alloc: Global,
-    store: &mut S,
-    script: &str,
-) -> Result<Output, Stop>
+pub fn render_output<S: Store>(alloc: Global, store: &mut S, script: &str) -> Result<Output, Stop>
     ensures made { (target : List ℕ) → S.told store.old → Meets (output_job target) result (render_asked (S.files store.old) script.now target) }
     ensures line { IfOk result (λ output. (plan : Plan) × (string_bytes output.line ≡ totals_text (totals_of_plan plan))) }
     ensures same { S.told store.old → SameFiles (S.files store.old) (S.files store.new) }

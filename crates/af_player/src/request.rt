@@ -14,7 +14,10 @@ pub struct Sizes {
 #[derive(Clone, Copy, Debug, PartialEq, Eq)]
 pub enum Request<'a> {
     /// A script, and the output that it is rendered to.
-    Render { script: &'a str, target: &'a str },
+    Render {
+        script: &'a str,
+        target: &'a str,
+    },
     /// A file that is recorded, the output, and the sizes of the recording.
     Record {
         input: &'a str,

@@ -172,10 +172,7 @@ fn matched_request<'a>(matches: &ArgMatches<'a>) -> Option<Request<'a>>
 }
 
 /// What the words ask for, none where they don't fit.
-pub fn request_of<'a>(
-    alloc: Global,
-    words: &'a [String],
-) -> Result<Option<Request<'a>>, AllocError>
+pub fn request_of<'a>(alloc: Global, words: &'a [String]) -> Result<Option<Request<'a>>, AllocError>
     ensures value { IfOk result (λ found. option_map request_view found ≡ request_of (map string_bytes words.now)) }
     ensures sound { IfOk result (λ found. IfSome found IsSound) }
 {
