@@ -1,5 +1,5 @@
 -- What each step on the table asks, for a seat of this block.
-use Rattle.std.proofs.Common.{◌≡◌, ℕ, ◌+◌, ◌-◌, ◌%◌, ◌^◌, ◌<◌, if◌then◌else◌, Bool, true, false, bit_and, bit_or, ◌∷◌, ◌++◌, length, get_or, set, sym, refl, ap, ◌∙◌, subst, arith, mod-lt, length-append}
+use Rattle.std.proofs.Common.{◌≡◌, ◌≢◌, ℕ, ◌+◌, ◌-◌, ◌%◌, ◌^◌, ◌<◌, if◌then◌else◌, Bool, true, false, bit_and, bit_or, ◌∷◌, ◌++◌, length, get_or, set, sym, refl, ap, ◌∙◌, subst, arith, mod-lt, length-append}
 use mathlib.Core.Option.{none}
 use Rattle.atomic_table.specs.Table.{Me, step, Allows}
 use Rattle.af_base.specs.declared.event.ClientEvent.TheVariants as client
@@ -11,15 +11,15 @@ use Rattle.af_model.specs.declared.shape.Shape.{Shape}
 use Rattle.af_cblk.specs.declared.view.ClientPart.{ClientPart}
 use Rattle.af_cblk.specs.declared.view.ServerPart.{ServerPart}
 use Rattle.af_cblk.specs.declared.view.View.{View}
-use Rattle.af_cblk.specs.Shape.{IsShape}
-use Rattle.af_cblk.specs.Parts.{ahead, released, room, Has, run_of, client_did, client_saw_front, cell_stored, stored_at, rear_stored, recorded, client_met, server_did, saw_flush, saw_rear, server_saw_front, saw_cell, took, dropped, front_stored, MayStoreFront, hand_set, hand_met}
+use Rattle.af_cblk.specs.Shape.{IsShape, most_flushes}
+use Rattle.af_cblk.specs.Parts.{ahead, released, room, Has, run_of, client_did, client_flushed, flush_amount, client_saw_front, cell_stored, stored_at, rear_stored, recorded, client_met, server_did, saw_flush, saw_rear, server_saw_front, saw_cell, took, dropped, front_stored, MayStoreFront, hand_set, hand_met}
 use Rattle.af_cblk.specs.Rule.{Stands, Holds}
 use Rattle.af_cblk.specs.Plays.{ClientSeesFront, CellIsStored, RearIsStored, ClientSeesFlags, ClientSeesStatus, Flushes, GainIsStored, FlagsAreCleared, Pokes, SeesFlush, SeesRear, ServerSeesFront, SeesCell, FrontIsStored, SeesGain, Tallies, FlagsAreSet, StatusIsStored, HandSets, ClientLearns, ServerLearns, HandMeets}
-use Rattle.af_cblk.proofs.Sized.{IsSized, sized}
+use Rattle.af_cblk.proofs.Sized.{IsSized, sized, IsWrapped, wrapped_by}
 use Rattle.af_cblk.proofs.Numbers.{ahead_of, ahead_is}
 use Rattle.af_cblk.proofs.Rows.{run_length}
 use Rattle.af_cblk.proofs.Seats.{client_steps, server_steps, hand_steps, pair_steps, client_hand_steps}
-use Rattle.af_cblk.proofs.ClientSteps.{number_is, filled_fits, client_loads_front, client_stores_cell, client_stores_rear, flags_seen, client_loads_flags, client_loads_status, flushes_seen, client_flushes, client_stores_gain, client_clears_flags}
+use Rattle.af_cblk.proofs.ClientSteps.{number_is, filled_fits, client_loads_front, client_stores_cell, client_stores_rear, flags_seen, client_loads_flags, client_loads_status, client_flushes, client_stores_gain, client_clears_flags}
 use Rattle.af_cblk.proofs.ServerSteps.{server_loads_flush, server_loads_rear, server_loads_front, server_loads_cell, server_takes, server_drops, server_loads_gain, server_tallies, server_sets_flags, server_stores_status}
 use Rattle.af_cblk.proofs.MeetingSteps.{hand_sets, client_learns, server_learns, hand_meets}
 
@@ -97,12 +97,13 @@ module _ (key shape : Shape) (keyed : key ≡ shape) (slots id : ℕ) (me : Mine
           refl,
         )))
 
-    pub flush_by_client : flushes_of c.events < 4294967294 → Allows (Holds key) slots id me 2 (λ n. (n + 1) % 2 ^ 64) (Flushes (step slots 2 1 0 none) me)
-    flush_by_client few =
-        let told = Flushes (step slots 2 1 0 none) me in
-        moved c.shape same 2 (λ n. (n + 1) % 2 ^ 64) told (client_steps c.shape slots id 2 me (λ n. (n + 1) % 2 ^ 64) told (λ n. client_did c client.Flush) is (λ words s h stands. (
-          (λ ok. client_flushes words c s h (stands (lawful_before c.events _ ok)) few),
-          (refl, (λ ok. flushes_seen words c s h (stands ok))),
+    pub flush_by_client : flushes_of c.events < most_flushes c.shape.wrap → (amount : ℕ) → amount ≡ flush_amount c
+        → Allows (Holds key) slots id me 2 (λ n. (n + amount) % 2 ^ 64) (Flushes (step slots 2 amount 0 none) me)
+    flush_by_client few amount is_amount =
+        let told = Flushes (step slots 2 amount 0 none) me in
+        moved c.shape same 2 (λ n. (n + amount) % 2 ^ 64) told (client_steps c.shape slots id 2 me (λ n. (n + amount) % 2 ^ 64) told (λ n. client_flushed c) is (λ words s h stands. (
+          (λ ok. client_flushes words c s h (stands (lawful_before c.events _ ok)) few amount is_amount),
+          refl,
         )))
 
     pub gain_by_client : (word : ℕ) → word < 2 ^ 32 → Allows (Holds key) slots id me 5 (λ _. word) (λ _. GainIsStored (step slots 5 word 0 none) me word)
@@ -157,14 +158,14 @@ module _ (key shape : Shape) (keyed : key ≡ shape) (slots id : ℕ) (me : Mine
         moved s.shape same 0 (λ n. n) told (server_steps s.shape slots id 0 me (λ n. n) told (λ n. server_saw_front s (wrapped n)) is (λ words c h stands. ((λ ok. server_loads_front words c s h (stands ok)), refl)))
 
     cell_seen_there : IsShape shape → (position : ℕ) → Allows (Holds key) slots id me (7 + position % shape.cells) (λ n. n) (SeesCell (step slots (7 + position % shape.cells) 0 0 none) me)
-    cell_seen_there ok position =
-        let old : IsSized s.shape = sized s.shape (subst IsShape (sym same) ok) in
+    cell_seen_there ok' position =
+        let old : IsSized s.shape = sized s.shape (subst IsShape (sym same) ok') in
         let j : ℕ = position % s.shape.cells in
         let told : Shape → ℕ → Mine → Type 0 = λ k. SeesCell (step slots (7 + position % k.cells) 0 0 none) me in
         subst (λ (k : Shape). Allows (Holds k) slots id me (7 + position % shape.cells) (λ n. n) (told shape)) (sym keyed)
         (subst (λ (k : Shape). Allows (Holds k) slots id me (7 + position % k.cells) (λ n. n) (told k)) same
         (server_steps s.shape slots id (7 + j) me (λ n. n) (told s.shape) (λ n. saw_cell s j (wrapped n)) is (λ words c h stands. (
-          (λ ok. server_loads_cell words c s h (stands ok) old position),
+          (λ ok. server_loads_cell words c s h (stands ok) old (wrapped_by s.shape (subst IsShape (sym same) ok')) position),
           ap (λ (n : ℕ). (record me.0 { server = saw_cell s n (wrapped (get_or words (7 + j) 0)) }, me.1)) (sym (seven_off j)),
         ))))
 
@@ -174,18 +175,18 @@ module _ (key shape : Shape) (keyed : key ≡ shape) (slots id : ℕ) (me : Mine
 
     pub front_stored_by_server : IsShape shape → (front : ℕ) → front < 2 ^ 32 → MayStoreFront s front
         → Allows (Holds key) slots id me 0 (λ _. front) (λ _. FrontIsStored (step slots 0 front 0 none) me front)
-    front_stored_by_server ok front small may =
-        let old : IsSized s.shape = sized s.shape (subst IsShape (sym same) ok) in
+    front_stored_by_server ok' front small may =
+        let old : IsSized s.shape = sized s.shape (subst IsShape (sym same) ok') in
         let told : ℕ → Mine → Type 0 = λ _. FrontIsStored (step slots 0 front 0 none) me front in
         moved s.shape same 0 (λ _. front) told (server_steps s.shape slots id 0 me (λ _. front) told (λ n. front_stored s front) is (λ words c h stands. (
-          (λ ok. by_case words c h (stands ok) old s.noticed refl),
+          (λ ok. by_case words c h (stands ok) old (wrapped_by s.shape (subst IsShape (sym same) ok')) s.noticed refl),
           refl,
         )))
       where
-        by_case : (words : _) (c : _) (h : _) → Stands s.shape words c s h → IsSized s.shape → (b : Bool) → s.noticed ≡ b
+        by_case : (words : _) (c : _) (h : _) → Stands s.shape words c s h → IsSized s.shape → (s.shape.wrap ≢ 0 → IsWrapped s.shape) → (b : Bool) → s.noticed ≡ b
             → Stands s.shape (set words 0 front) c (if b then dropped s front else took s front) h
-        by_case words c h now old true is = server_drops words c s h now front (may.0 is).1
-        by_case words c h now old false is = let m = may.1 is in server_takes words c s h now old front small m.1 m.2
+        by_case words c h now old wrap true is = server_drops words c s h now old wrap front is (may.0 is)
+        by_case words c h now old wrap false is = server_takes words c s h now old wrap front small is (may.1 is)
 
     pub gain_by_server : Allows (Holds key) slots id me 5 (λ n. n) (SeesGain (step slots 5 0 0 none) me)
     gain_by_server =

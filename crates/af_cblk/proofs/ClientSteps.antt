@@ -4,16 +4,18 @@ use Rattle.std.proofs.lemmas.Nat.{and_le_l}
 use mathlib.Core.Logic.{dite}
 use native.Mathlib.Decide.{dec_le, ℕ_discrete}
 use Rattle.af_base.specs.declared.event.ClientEvent.TheVariants as client
-use Rattle.af_model.specs.Point.{wrapped}
+use Rattle.af_model.specs.Point.{wrapped, flush_number}
 use Rattle.af_model.specs.History.{taken_of, flushes_of, point}
 use Rattle.af_model.proofs.Grows.{client_adds, client_releases}
 use Rattle.af_model.proofs.Counts.{flushes_are}
 use Rattle.af_cblk.specs.declared.view.ClientPart.{ClientPart}
 use Rattle.af_cblk.specs.declared.view.ServerPart.{ServerPart}
 use Rattle.af_cblk.specs.declared.view.HandPart.{HandPart}
-use Rattle.af_cblk.specs.Parts.{ahead, released, filled, room, number_at, Has, word_at, run_of, client_did, client_saw_front, cell_stored, rear_stored, recorded}
+use Rattle.af_cblk.specs.Parts.{ahead, released, filled, room, number_at, Has, word_at, run_of, client_did, client_flushed, flush_amount, client_saw_front, cell_stored, rear_stored, recorded}
 use Rattle.af_cblk.specs.Rule.{words_of, Stands}
+use Rattle.af_cblk.specs.Shape.{most_flushes}
 use Rattle.af_cblk.proofs.Sized.{IsSized}
+use Rattle.af_cblk.proofs.Flushes.{flush_adds, word_fits, flush_asked}
 use Rattle.af_cblk.proofs.Numbers.{twice, same_cell, ahead_is, apart, back, between, one_place}
 use Rattle.af_cblk.proofs.Rows.{small_set, set_cell, run_length, run_at, run_fits, get_front, part_front}
 use Rattle.af_cblk.proofs.QuietSteps.{at, turn_of, longer, quiet_client, same_word}
@@ -35,6 +37,8 @@ module _ (words : List ℕ) (c : ClientPart) (s : ServerPart) (h : HandPart) (i 
         small = i.small;
         mets = longer i.history.order (client.SawFront (wrapped n)) i.mets;
         learnt = i.learnt;
+        flushed = i.flushed;
+        flush_known = i.flush_known;
         client_knows = record {
           known = p.consumed;
           known_is = sym is;
@@ -56,7 +60,7 @@ module _ (words : List ℕ) (c : ClientPart) (s : ServerPart) (h : HandPart) (i 
       let r = i.history.released_is in
       let t = turn_of i in
       let front : wrapped y.known ≡ c.front = y.known_is in
-      let low : y.known ≤ released c = (let a = y.known_low in let b = t.to_seen in let d = t.to_released in omega arith) in
+      let low : y.known ≤ released c = (let a = y.known_low in let b = t.within in omega arith) in
       let few : c.shape.frames ≤ 65536 = (let a = shape.1 in let b = shape.2 in omega arith) in
       let high : released c ≤ y.known + 65536 = (let a = y.known_room in omega arith) in
       ap (λ (z : ℕ). ahead z (wrapped (released c))) (sym front) ∙ between y.known (released c) low high
@@ -70,8 +74,7 @@ module _ (words : List ℕ) (c : ClientPart) (s : ServerPart) (h : HandPart) (i 
       let r = i.history.released_is in
       let a = i.client_knows.known_room in
       let b = i.client_knows.known_low in
-      let d = (turn_of i).to_seen in
-      let f = (turn_of i).to_released in
+      let d = (turn_of i).within in
       omega arith
 
 pub number_is : (c : ClientPart) → IsSized c.shape → (position : ℕ) → position < 2 ^ 32 → ahead (released c) position < room c
@@ -108,6 +111,8 @@ module _ (words : List ℕ) (c : ClientPart) (s : ServerPart) (h : HandPart) (i 
         small = i.small;
         mets = i.mets;
         learnt = i.learnt;
+        flushed = i.flushed;
+        flush_known = i.flush_known;
         client_knows = record {
           known = y.known;
           known_is = y.known_is;
@@ -126,8 +131,8 @@ module _ (words : List ℕ) (c : ClientPart) (s : ServerPart) (h : HandPart) (i 
               let high : k.base + z < y.known + k.frames = y.stored_room z old in
               let q : ℕ = k.base + z in
               let r = i.history.released_is in
-              let low' : y.known ≤ q = (let a = y.known_low in let b = t.to_seen in let d = t.to_released in omega arith) in
-              let other : q % k.cells ≢ j = (λ e. not (let same : q ≡ released c + x = one_place q (released c + x) k.cells y.known k.frames shape.1 low' high (let a = y.known_low in let b = t.to_seen in let d = t.to_released in omega arith) near (e ∙ sym here) in let g : z ≡ length c.frames + x = omega arith in g ∙ sym number)) in
+              let low' : y.known ≤ q = (let a = y.known_low in let b = t.within in omega arith) in
+              let other : q % k.cells ≢ j = (λ e. not (let same : q ≡ released c + x = one_place q (released c + x) k.cells y.known k.frames shape.1 low' high (let a = y.known_low in let b = t.within in omega arith) near (e ∙ sym here) in let g : z ≡ length c.frames + x = omega arith in g ∙ sym number)) in
               get_or-set_other i.cells j (q % k.cells) word 0 other ∙ y.pending z low old
               ∙ ap (λ (b : Bool). if b then word else word_at c.stored z) (sym (ne_eqb z (number_at c j) not))));
           live = (λ q low high.
@@ -162,6 +167,8 @@ module _ (words : List ℕ) (c : ClientPart) (s : ServerPart) (h : HandPart) (i 
         small = i.small;
         mets = longer i.history.order (client.Release count) i.mets;
         learnt = i.learnt;
+        flushed = i.flushed;
+        flush_known = i.flush_known;
         client_knows = record {
           known = y.known;
           known_is = y.known_is;
@@ -198,7 +205,7 @@ module _ (words : List ℕ) (c : ClientPart) (s : ServerPart) (h : HandPart) (i 
   pub client_loads_flags : Stands c.shape (set words 4 (at words 4)) (client_did c (client.SawFlags (recorded (wrapped (at words 4))))) s h
   client_loads_flags =
       let p = point i.history in
-      quiet_client c.shape words (set words 4 (at words 4)) c s h i (client.SawFlags (recorded (wrapped (at words 4)))) (noted (wrapped (at words 4)) p.flags flags_seen (bit_and (wrapped (at words 4)) 4 == 0) refl) (refl, refl, refl)
+      quiet_client c.shape words (set words 4 (at words 4)) c s h i (client.SawFlags (recorded (wrapped (at words 4)))) (noted (wrapped (at words 4)) p.flags flags_seen (bit_and (wrapped (at words 4)) 4 == 0) refl) refl
       (i.tally, same_word 4 words ∙ i.words_are, i.tally_is, i.small)
     where
       noted : (f flags : ℕ) → f ≡ flags → (b : Bool) → (bit_and f 4 == 0) ≡ b
@@ -210,42 +217,58 @@ module _ (words : List ℕ) (c : ClientPart) (s : ServerPart) (h : HandPart) (i 
   client_loads_status =
       let p = point i.history in
       let held : at words 6 ≡ p.status = ap (λ (ws : List ℕ). at ws 6) i.words_are in
-      quiet_client c.shape words (set words 6 (at words 6)) c s h i (client.SawStatus (wrapped (at words 6))) (ap wrapped held ∙ mod-eq_of_lt i.small.status_fit) (refl, refl, refl)
+      quiet_client c.shape words (set words 6 (at words 6)) c s h i (client.SawStatus (wrapped (at words 6))) (ap wrapped held ∙ mod-eq_of_lt i.small.status_fit) refl
       (i.tally, same_word 6 words ∙ i.words_are, i.tally_is, i.small)
 
-  -- the flush count is that of the client's list
-  pub flushes_seen : at words 2 ≡ flushes_of c.events
-  flushes_seen = ap (λ (ws : List ℕ). at ws 2) i.words_are ∙ flushes_are c.shape i.history.order ∙ ap flushes_of i.history.client_is
-
-  pub client_flushes : flushes_of c.events < 4294967294 → Stands c.shape (set words 2 ((at words 2 + 1) % 2 ^ 64)) (client_did c client.Flush) s h
-  client_flushes few =
+  pub client_flushes : flushes_of c.events < most_flushes c.shape.wrap → (amount : ℕ) → amount ≡ flush_amount c → Stands c.shape (set words 2 ((at words 2 + amount) % 2 ^ 64)) (client_flushed c) s h
+  client_flushes few amount is =
+      let k = c.shape in
       let p = point i.history in
-      let held : at words 2 ≡ p.flushes = ap (λ (ws : List ℕ). at ws 2) i.words_are in
-      let seen : at words 2 ≡ flushes_of c.events = flushes_seen in
-      let next : (at words 2 + 1) % 2 ^ 64 ≡ p.flushes + 1 = omega arith in
-      quiet_client c.shape words (set words 2 ((at words 2 + 1) % 2 ^ 64)) c s h i client.Flush tt (refl, refl, refl) (
-        i.tally,
-        ap (λ (z : ℕ). set words 2 z) next ∙ ap (λ (ws : List ℕ). set ws 2 (p.flushes + 1)) i.words_are,
-        i.tally_is,
-        record { flushes_fit = omega arith; flags_fit = i.small.flags_fit; gains_fit = i.small.gains_fit; status_fit = i.small.status_fit },
-      )
+      let t = turn_of i in
+      let r : p.released ≡ released c = i.history.released_is in
+      let count : p.flushes ≡ flushes_of c.events = flushes_are k i.history.order ∙ ap flushes_of i.history.client_is in
+      let room : p.flushes < most_flushes k.wrap = subst (λ (n : ℕ). n < most_flushes k.wrap) (sym count) few in
+      let held : at words 2 ≡ flush_number k.wrap p.flushes c.flush_at = ap (λ (ws : List ℕ). at ws 2) i.words_are ∙ ap (λ (x : ℕ × ℕ). flush_number x.0 p.flushes x.1) (λ n. (t.wrap_is n, i.flushed n)) in
+      let next : (at words 2 + amount) % 2 ^ 64 ≡ flush_number p.wrap (p.flushes + 1) p.released =
+      ap (λ (x : ℕ × ℕ). (x.0 + x.1) % 2 ^ 64) (λ n. (held n, is n)) ∙ flush_adds k.wrap p.flushes c.flush_at (released c) room
+      ∙ ap (λ (x : ℕ × ℕ). flush_number x.0 (p.flushes + 1) x.1) (λ n. (sym t.wrap_is n, sym r n)) in
+      record {
+        history = client_adds i.history client.Flush tt refl;
+        settled = i.settled;
+        tally = i.tally;
+        cells = i.cells;
+        words_are = ap (λ (z : ℕ). set words 2 z) next ∙ ap (λ (ws : List ℕ). set ws 2 (flush_number p.wrap (p.flushes + 1) p.released)) i.words_are;
+        tally_is = i.tally_is;
+        small = record {
+          flush_fits = subst (λ (w : ℕ). flush_number w (p.flushes + 1) p.released < 2 ^ 32) (sym t.wrap_is) (word_fits k.wrap p.flushes p.released room);
+          flags_fit = i.small.flags_fit;
+          gains_fit = i.small.gains_fit;
+          status_fit = i.small.status_fit;
+        };
+        mets = longer i.history.order client.Flush i.mets;
+        learnt = i.learnt;
+        flushed = r;
+        flush_known = (λ placed. flush_asked k _ _ _ _ _ _ _ _ _ _ (i.flush_known placed) p.released t.within);
+        client_knows = i.client_knows;
+        server_knows = i.server_knows;
+      }
 
   pub client_stores_gain : (word : ℕ) → word < 2 ^ 32 → Stands c.shape (set words 5 word) (client_did c (client.SetGain word)) s h
   client_stores_gain word fits =
-      quiet_client c.shape words (set words 5 word) c s h i (client.SetGain word) tt (refl, refl, refl) (
+      quiet_client c.shape words (set words 5 word) c s h i (client.SetGain word) tt refl (
         i.tally,
         ap (λ (ws : List ℕ). set ws 5 word) i.words_are,
         i.tally_is,
-        record { flushes_fit = i.small.flushes_fit; flags_fit = i.small.flags_fit; gains_fit = fits; status_fit = i.small.status_fit },
+        record { flush_fits = i.small.flush_fits; flags_fit = i.small.flags_fit; gains_fit = fits; status_fit = i.small.status_fit },
       )
 
   pub client_clears_flags : Stands c.shape (set words 4 (bit_and (at words 4) 4294967287)) (client_did c (client.ClearFlags (wrapped (at words 4)))) s h
   client_clears_flags =
       let p = point i.history in
       let held : at words 4 ≡ p.flags = ap (λ (ws : List ℕ). at ws 4) i.words_are in
-      quiet_client c.shape words (set words 4 (bit_and (at words 4) 4294967287)) c s h i (client.ClearFlags (wrapped (at words 4))) (ap wrapped held ∙ mod-eq_of_lt i.small.flags_fit) (refl, refl, refl) (
+      quiet_client c.shape words (set words 4 (bit_and (at words 4) 4294967287)) c s h i (client.ClearFlags (wrapped (at words 4))) (ap wrapped held ∙ mod-eq_of_lt i.small.flags_fit) refl (
         i.tally,
         ap (λ (ws : List ℕ). set ws 4 (bit_and (at ws 4) 4294967287)) i.words_are,
         i.tally_is,
-        record { flushes_fit = i.small.flushes_fit; flags_fit = (let a = and_le_l p.flags 4294967287 in let b = i.small.flags_fit in omega arith); gains_fit = i.small.gains_fit; status_fit = i.small.status_fit },
+        record { flush_fits = i.small.flush_fits; flags_fit = (let a = and_le_l p.flags 4294967287 in let b = i.small.flags_fit in omega arith); gains_fit = i.small.gains_fit; status_fit = i.small.status_fit },
       )

@@ -19,11 +19,11 @@ module _ (k : Shape) (words : List ℕ) (c : ClientPart) (s : ServerPart) (h : H
   pub hand_sets : Stands k (set words 4 (bit_or (at words 4) 8)) c s (hand_set h)
   hand_sets =
       let p = point i.history in
-      quiet_hand k words (set words 4 (bit_or (at words 4) 8)) c s h i (hand.SetFlags 8) i.mets (omega arith) (refl, refl, refl) (
+      quiet_hand k words (set words 4 (bit_or (at words 4) 8)) c s h i (hand.SetFlags 8) i.mets (omega arith) refl (
         i.tally,
         ap (λ (ws : List ℕ). set ws 4 (bit_or (at ws 4) 8)) i.words_are,
         i.tally_is,
-        record { flushes_fit = i.small.flushes_fit; flags_fit = or_of_32 p.flags 8 i.small.flags_fit (let e : 8 < 2 ^ 32 = omega arith in e); gains_fit = i.small.gains_fit; status_fit = i.small.status_fit },
+        record { flush_fits = i.small.flush_fits; flags_fit = or_of_32 p.flags 8 i.small.flags_fit (let e : 8 < 2 ^ 32 = omega arith in e); gains_fit = i.small.gains_fit; status_fit = i.small.status_fit },
       )
 
   -- ## Meetings
@@ -40,16 +40,18 @@ module _ (k : Shape) (words : List ℕ) (c : ClientPart) (s : ServerPart) (h : H
         small = i.small;
         mets = longer i.history.order (client.Learn (length s.events)) i.mets;
         learnt = ([], append-nil s.events);
+        flushed = i.flushed;
+        flush_known = i.flush_known;
         client_knows = i.client_knows;
         server_knows = i.server_knows;
       }
 
   pub server_learns : Stands k (set words 0 (at words 0)) c (server_did s (server.Learn (length c.events - 1))) h
   server_learns =
-      quiet_server k words (set words 0 (at words 0)) c s h i (server.Learn (length c.events - 1)) (let e = ap length i.history.client_is in omega arith) (refl, refl, refl) (λ _ _ _ _. refl)
+      quiet_server k words (set words 0 (at words 0)) c s h i (server.Learn (length c.events - 1)) (let e = ap length i.history.client_is in omega arith) refl (λ _ _ _ _. refl)
       (i.tally, same_word 0 words ∙ i.words_are, i.tally_is, i.small)
 
   pub hand_meets : Stands k (set words 0 (at words 0)) c s (hand_met h (length c.events))
   hand_meets =
-      quiet_hand k words (set words 0 (at words 0)) c s h i (hand.Met (length c.events)) (i.mets, (let a = clients_at_most i.history.order in let b = ap length i.history.client_is in omega arith)) (let b = ap length i.history.client_is in omega arith) (refl, refl, refl)
+      quiet_hand k words (set words 0 (at words 0)) c s h i (hand.Met (length c.events)) (i.mets, (let a = clients_at_most i.history.order in let b = ap length i.history.client_is in omega arith)) (let b = ap length i.history.client_is in omega arith) refl
       (i.tally, same_word 0 words ∙ i.words_are, i.tally_is, i.small)

@@ -1,9 +1,10 @@
 -- A new block.
-use Rattle.std.proofs.Common.{◌≡◌, ℕ, zero, suc, ◌+◌, ◌-◌, ◌^◌, ◌<◌, ◌≤◌, List, [], ◌∷◌, length, get_or, drop, replicate, sym, refl, ap, ◌∙◌, subst, arith, mod-eq_of_lt}
+use Rattle.std.proofs.Common.{◌≡◌, true≢false, ℕ, zero, suc, ◌+◌, ◌-◌, ◌^◌, ◌<◌, ◌≤◌, List, [], ◌∷◌, length, get_or, drop, replicate, sym, refl, ap, ◌∙◌, subst, arith, mod-eq_of_lt}
 use mathlib.Core.Option.{some, some-injective, some-ne-none}
 use lib.ListN.{get_elem?}
 use lib.ListN.{length-replicate}
 use Rattle.af_cblk.proofs.Rows.{take_none}
+use Rattle.af_cblk.proofs.Flushes.{flush_none}
 use Rattle.atomic_table.specs.Table.{opening}
 use Rattle.af_model.specs.Point.{wrapped}
 use Rattle.af_model.specs.declared.shape.Shape.{Shape}
@@ -22,10 +23,23 @@ begins k fits words are =
         settled = (λ more. refl);
         tally = 0;
         cells = replicate k.cells 0;
-        words_are = are ∙ ap (λ (b : ℕ). b ∷ b ∷ 0 ∷ 0 ∷ 0 ∷ 268439552 ∷ 0 ∷ replicate k.cells 0) (sym base);
+        words_are = are ∙ ap (λ (x : ℕ × ℕ). x.0 ∷ x.0 ∷ x.1 ∷ 0 ∷ 0 ∷ 268439552 ∷ 0 ∷ replicate k.cells 0) (λ n. (sym base n, flush_none k.wrap n));
         tally_is = refl;
-        small = record { flushes_fit = below; flags_fit = below; gains_fit = unity; status_fit = below };
+        small = record { flush_fits = subst (λ (z : ℕ). z < 2 ^ 32) (flush_none k.wrap) below; flags_fit = below; gains_fit = unity; status_fit = below };
         learnt = ([], refl);
+        flushed = refl;
+        flush_known = (λ placed. record {
+          flush_is = flush_none k.wrap;
+          few = omega arith;
+          mark = k.base;
+          mark_low = omega arith;
+          mark_near = omega arith;
+          mark_now = (λ _. refl);
+          later = (λ e. absurd (e refl));
+          same = (λ _. refl);
+          near = (λ e. absurd (true≢false (sym e)));
+          shows = (λ e. absurd (true≢false (sym e)));
+        });
         mets = (let e : 0 ≤ 0 = omega arith in e);
         client_knows = record {
           known = k.base;

@@ -1,10 +1,10 @@
 -- Steps that change no position, where the client has not poked.
-use Rattle.std.proofs.Common.{max, ◌≡◌, ℕ, ◌+◌, ◌≤◌, List, [], ◌∷◌, ◌++◌, length, get_or, set, sym, ap, ◌∙◌, subst, arith, length-append, append_assoc}
+use Rattle.std.proofs.Common.{max, ◌≡◌, ◌≢◌, ℕ, ◌+◌, ◌≤◌, List, [], ◌∷◌, ◌++◌, length, get_or, set, sym, ap, ◌∙◌, subst, arith, length-append, append_assoc}
 use Rattle.af_base.specs.declared.event.ClientEvent.{ClientEvent}
 use Rattle.af_base.specs.declared.event.ServerEvent.{ServerEvent}
 use Rattle.af_model.specs.declared.point.TrackPoint.{TrackPoint}
 use Rattle.af_base.specs.declared.event.HandEvent.{HandEvent}
-use Rattle.af_model.specs.Point.{wrapped, ClientMay, ServerMay, HandMay, after_client, after_server, after_hand}
+use Rattle.af_model.specs.Point.{wrapped, flush_word, ClientMay, ServerMay, HandMay, after_client, after_server, after_hand}
 use Rattle.af_model.specs.History.{Moment, client_of, server_of, met_by, met_in, clients_at, with_taken, taken_of, point}
 use Rattle.af_model.specs.Fates.{InTurn}
 use Rattle.af_model.proofs.Fates.{in_turn}
@@ -14,7 +14,7 @@ use Rattle.af_cblk.specs.declared.view.ClientPart.{ClientPart}
 use Rattle.af_cblk.specs.declared.view.ServerPart.{ServerPart}
 use Rattle.af_cblk.specs.declared.view.HandPart.{HandPart}
 use Rattle.af_cblk.specs.Parts.{client_did, server_did}
-use Rattle.af_cblk.specs.Rule.{words_of, Small, ClientKnows, ServerKnows, StartsWith, Stands}
+use Rattle.af_cblk.specs.Rule.{words_of, Small, ClientKnows, ServerKnows, KnowsFlush, FlushKnown, StartsWith, Stands}
 use Rattle.af_cblk.proofs.Rows.{set_back}
 
 abbrev pub at : List ℕ → ℕ → ℕ
@@ -34,18 +34,29 @@ both_fit a b n x y = omega arith
 -- ## Steps that change no position
 
 module _ (k : Shape) (words words' : List ℕ) (c : ClientPart) (s : ServerPart) (h : HandPart) (i : Stands k words c s h) where
+  -- the positions of a point, and what it tells of flushes
+  abbrev pub places : TrackPoint → ℕ × ℕ × ℕ × ℕ × ℕ × ℕ × ℕ
+  places p = (p.released, p.consumed, p.rear_seen, p.flushes, p.flush_seen, p.flush_at, p.drop_to)
+
   abbrev pub Same : TrackPoint → Type 0
-  Same p = let o = point i.history in (p.released ≡ o.released) × (p.consumed ≡ o.consumed) × (p.rear_seen ≡ o.rear_seen)
+  Same p = places p ≡ places (point i.history)
 
   abbrev pub StandFor : TrackPoint → Type 0
-  StandFor p = (tally : ℕ) × (words' ≡ words_of p tally i.cells) × (wrapped tally ≡ p.underruns) × Small p.flushes p.flags p.gains p.status
+  StandFor p = (tally : ℕ) × (words' ≡ words_of p tally i.cells) × (wrapped tally ≡ p.underruns) × Small (flush_word p) p.flags p.gains p.status
 
   -- where the positions are as before, the parties know as much
   pub client_at : (p : TrackPoint) → Same p → ClientKnows k p.consumed p.released c.frames i.cells c.stored c.front
-  client_at p same = subst (λ (x : ℕ × ℕ). ClientKnows k x.0 x.1 c.frames i.cells c.stored c.front) (λ n. (sym same.1 n, sym same.0 n)) i.client_knows
+  client_at p same = subst (λ (x : ℕ × ℕ × ℕ × ℕ × ℕ × ℕ × ℕ). ClientKnows k x.1 x.0 c.frames i.cells c.stored c.front) (sym same) i.client_knows
 
   pub server_at : (p : TrackPoint) → Same p → ServerKnows k.base p.consumed p.rear_seen c.frames s.rear s.front s.loaded
-  server_at p same = subst (λ (x : ℕ × ℕ). ServerKnows k.base x.0 x.1 c.frames s.rear s.front s.loaded) (λ n. (sym same.1 n, sym same.2 n)) i.server_knows
+  server_at p same = subst (λ (x : ℕ × ℕ × ℕ × ℕ × ℕ × ℕ × ℕ). ServerKnows k.base x.1 x.2 c.frames s.rear s.front s.loaded) (sym same) i.server_knows
+
+  pub flushed_at : (p : TrackPoint) → Same p → p.flush_at ≡ c.flush_at
+  flushed_at p same = ap (λ (x : ℕ × ℕ × ℕ × ℕ × ℕ × ℕ × ℕ). x.5) same ∙ i.flushed
+
+  pub flush_known_at : (p : TrackPoint) → Same p → k.wrap ≢ 0 → FlushKnown k p s
+  flush_known_at p same placed =
+      subst (λ (x : ℕ × ℕ × ℕ × ℕ × ℕ × ℕ × ℕ). KnowsFlush k x.1 x.2 x.3 x.4 x.5 x.6 s.flush s.noticed s.flush_fresh s.rear_fresh) (sym same) (i.flush_known placed)
 
   pub more_events : (e : ServerEvent) → StartsWith (s.events ++ e ∷ []) c.learnt
   more_events e = (i.learnt.0 ++ e ∷ [], sym (append_assoc c.learnt i.learnt.0 (e ∷ [])) ∙ ap (λ es. es ++ e ∷ []) i.learnt.1)
@@ -55,7 +66,7 @@ module _ (k : Shape) (words words' : List ℕ) (c : ClientPart) (s : ServerPart)
   quiet_client e may same now =
       let p = after_client (point i.history) e in
       record {
-        history = client_adds i.history e may same.0;
+        history = client_adds i.history e may (ap (λ (x : ℕ × ℕ × ℕ × ℕ × ℕ × ℕ × ℕ). x.0) same);
         settled = i.settled;
         tally = now.0;
         cells = i.cells;
@@ -64,6 +75,8 @@ module _ (k : Shape) (words words' : List ℕ) (c : ClientPart) (s : ServerPart)
         small = now.3;
         mets = longer i.history.order e i.mets;
         learnt = i.learnt;
+        flushed = flushed_at p same;
+        flush_known = flush_known_at p same;
         client_knows = client_at p same;
         server_knows = server_at p same;
       }
@@ -75,7 +88,7 @@ module _ (k : Shape) (words words' : List ℕ) (c : ClientPart) (s : ServerPart)
   quiet_server e may same none now =
       let p = after_server (point i.history) e in
       record {
-        history = server_adds i.history e s.frames may same.0 (none c.frames k.base (point i.history) s.frames);
+        history = server_adds i.history e s.frames may (ap (λ (x : ℕ × ℕ × ℕ × ℕ × ℕ × ℕ × ℕ). x.0) same) (none c.frames k.base (point i.history) s.frames);
         settled = (λ more. none (c.frames ++ more) k.base (point i.history) (taken_of (c.frames ++ more) k i.history.order) ∙ i.settled more ∙ sym (none c.frames k.base (point i.history) (taken_of c.frames k i.history.order)));
         tally = now.0;
         cells = i.cells;
@@ -84,6 +97,8 @@ module _ (k : Shape) (words words' : List ℕ) (c : ClientPart) (s : ServerPart)
         small = now.3;
         mets = i.mets;
         learnt = more_events e;
+        flushed = flushed_at p same;
+        flush_known = flush_known_at p same;
         client_knows = client_at p same;
         server_knows = server_at p same;
       }
@@ -96,7 +111,7 @@ module _ (k : Shape) (words words' : List ℕ) (c : ClientPart) (s : ServerPart)
   quiet_hand e may few same now =
       let p = after_hand (point i.history) e in
       record {
-        history = hand_adds i.history e may same.0;
+        history = hand_adds i.history e may (ap (λ (x : ℕ × ℕ × ℕ × ℕ × ℕ × ℕ × ℕ). x.0) same);
         settled = i.settled;
         tally = now.0;
         cells = i.cells;
@@ -105,6 +120,8 @@ module _ (k : Shape) (words words' : List ℕ) (c : ClientPart) (s : ServerPart)
         small = now.3;
         mets = both_fit (met_by e) (met_in i.history.order) (length (client_of i.history.order)) few i.mets;
         learnt = i.learnt;
+        flushed = flushed_at p same;
+        flush_known = flush_known_at p same;
         client_knows = client_at p same;
         server_knows = server_at p same;
       }

@@ -1,5 +1,5 @@
 -- What each step makes of a party's part.
-use Rattle.std.specs.Prelude.{◌≡◌, ℕ, zero, suc, ◌+◌, ◌-◌, ◌%◌, ◌≤◌, ◌<◌, ◌==◌, ◌||◌, ◌&&◌, ◌⊎◌, if◌then◌else◌, not, true, false, List, [], ◌∷◌, ◌++◌, length, take, bit_and}
+use Rattle.std.specs.Prelude.{◌≡◌, ◌≢◌, ℕ, zero, suc, ◌+◌, ◌-◌, ◌%◌, ◌≤◌, ◌<◌, ◌==◌, ◌||◌, ◌&&◌, ◌⊎◌, if◌then◌else◌, not, true, false, List, [], ◌∷◌, ◌++◌, length, take, bit_and}
 use Rattle.af_base.specs.declared.event.ClientEvent.{ClientEvent}
 use Rattle.af_base.specs.declared.event.ClientEvent.TheVariants as client
 use Rattle.af_base.specs.declared.event.ServerEvent.{ServerEvent}
@@ -7,6 +7,7 @@ use Rattle.af_base.specs.declared.event.ServerEvent.TheVariants as server
 use Rattle.af_base.specs.declared.event.HandEvent.TheVariants as hand
 use Rattle.af_model.specs.Point.{wrapped}
 pub use Rattle.af_model.specs.Room.{ahead}
+use Rattle.af_model.specs.ServerCalls.{flush_position, past_front}
 use Rattle.af_cblk.specs.declared.view.ClientPart.{ClientPart}
 use Rattle.af_cblk.specs.declared.view.ServerPart.{ServerPart}
 use Rattle.af_cblk.specs.declared.view.HandPart.{HandPart}
@@ -48,6 +49,14 @@ run_of stored x (suc count) = word_at stored x ∷ run_of stored (suc x) count
 abbrev pub client_did : ClientPart → ClientEvent → ClientPart
 client_did c e = record c { events = c.events ++ e ∷ [] }
 
+-- the client has asked for a flush of all frames released so far
+abbrev pub client_flushed : ClientPart → ClientPart
+client_flushed c = record c { events = c.events ++ client.Flush ∷ []; flush_at = released c }
+
+-- what a flush adds to the flush word: one, or a wrap and the way from the place of the last flush in a wrap to that of this one
+abbrev pub flush_amount : ClientPart → ℕ
+flush_amount c = if c.shape.wrap == 0 then 1 else c.shape.wrap + released c % c.shape.wrap - c.flush_at % c.shape.wrap
+
 -- the client has seen this front
 abbrev pub client_saw_front : ClientPart → ℕ → ClientPart
 client_saw_front c front = record c { events = c.events ++ client.SawFront front ∷ []; front = front }
@@ -86,7 +95,7 @@ client_met c events = record c { events = c.events ++ client.Learn (length event
 abbrev pub server_did : ServerPart → ServerEvent → ServerPart
 server_did s e = record s { events = s.events ++ e ∷ [] }
 
--- The server has seen this flush count. One that differs from the last is a new flush, after which no rear was seen yet
+-- The server has seen this flush word. One that differs from the last is a new flush, after which no rear was seen yet
 abbrev pub saw_flush : ServerPart → ℕ → ServerPart
 saw_flush s flush =
     record s {
@@ -94,12 +103,14 @@ saw_flush s flush =
       flush = flush;
       noticed = s.noticed || not (flush == s.flush);
       rear_after = s.rear_after && (flush == s.flush);
+      flush_fresh = true;
+      rear_fresh = false;
     }
 
 -- the server has seen this rear, and front not since
 abbrev pub saw_rear : ServerPart → ℕ → ServerPart
 saw_rear s rear =
-    record s { events = s.events ++ server.SawRear rear ∷ []; rear = rear; rear_after = true; fresh = false; loaded = [] }
+    record s { events = s.events ++ server.SawRear rear ∷ []; rear = rear; rear_after = true; rear_fresh = s.flush_fresh; fresh = false; loaded = [] }
 
 -- the server has seen this front, and no cells from it on
 abbrev pub server_saw_front : ServerPart → ℕ → ServerPart
@@ -121,6 +132,8 @@ took s front =
       frames = s.frames ++ take (ahead s.front front) s.loaded;
       front = front;
       fresh = false;
+      flush_fresh = false;
+      rear_fresh = false;
       loaded = [];
     }
 
@@ -133,6 +146,8 @@ dropped s front =
       rear_after = false;
       front = front;
       fresh = false;
+      flush_fresh = false;
+      rear_fresh = false;
       loaded = [];
     }
 
@@ -140,13 +155,22 @@ dropped s front =
 abbrev pub front_stored : ServerPart → ℕ → ServerPart
 front_stored s front = if s.noticed then dropped s front else took s front
 
--- front may become the rear that was seen after the new flush
-abbrev pub MayDrop : ServerPart → ℕ → Type 0
-MayDrop s front = (s.rear_after ≡ true) × (front ≡ s.rear)
+-- the flush word was loaded since front was stored last, then rear, and then front
+abbrev pub SawInOrder : ServerPart → Type 0
+SawInOrder s = (s.rear_fresh ≡ true) × (s.fresh ≡ true)
 
--- Front may become a position up to which the cells from the front last seen on were loaded, and which does not lie past the rear. Front was loaded after that rear, and not stored since
+-- where a new flush drops to: for wrap 0 the rear last seen, and else the later of the front last seen and the position of the flush
+abbrev pub drop_front : ServerPart → ℕ
+drop_front s = if s.shape.wrap == 0 then s.rear else wrapped (s.front + past_front s.front (flush_position s.shape.wrap s.flush s.rear))
+
+-- front may become where the new flush drops to, after a rear that was seen after it, and on a positional block a front after that
+abbrev pub MayDrop : ServerPart → ℕ → Type 0
+MayDrop s front = (s.shape.wrap ≡ 0 → s.rear_after ≡ true) × (s.shape.wrap ≢ 0 → SawInOrder s) × (front ≡ drop_front s)
+
+-- Front may become a position up to which the cells from the front last seen on were loaded, and which does not lie past the rear. Front was loaded after that rear, and not stored since, and on a positional block the flush word before that rear, since front was stored
 abbrev pub MayTake : ServerPart → ℕ → Type 0
-MayTake s front = (s.fresh ≡ true) × (ahead s.front front ≤ ahead s.front s.rear) × (ahead s.front front ≤ length s.loaded)
+MayTake s front =
+    (s.fresh ≡ true) × (ahead s.front front ≤ ahead s.front s.rear) × (ahead s.front front ≤ length s.loaded) × (s.shape.wrap ≢ 0 → SawInOrder s)
 
 -- after a new flush the frames are dropped, and else taken
 abbrev pub MayStoreFront : ServerPart → ℕ → Type 0

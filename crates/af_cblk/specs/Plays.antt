@@ -6,11 +6,11 @@ use Rattle.af_base.specs.declared.event.ServerEvent.{ServerEvent}
 use Rattle.af_base.specs.declared.event.ServerEvent.TheVariants as server
 use Rattle.af_base.specs.declared.event.HandEvent.{HandEvent}
 use Rattle.af_model.specs.Point.{wrapped}
-use Rattle.af_model.specs.History.{is_lawful, flushes_of, HasHistory, point}
+use Rattle.af_model.specs.History.{is_lawful, HasHistory, point}
 use Rattle.af_cblk.specs.declared.view.ClientPart.{ClientPart}
 use Rattle.af_cblk.specs.declared.view.ServerPart.{ServerPart}
 use Rattle.af_cblk.specs.declared.view.View.{View}
-use Rattle.af_cblk.specs.Parts.{ahead, released, filled, client_did, client_saw_front, cell_stored, rear_stored, recorded, client_met, server_did, saw_flush, saw_rear, server_saw_front, saw_cell, front_stored, hand_set, hand_met}
+use Rattle.af_cblk.specs.Parts.{ahead, released, filled, client_did, client_flushed, client_saw_front, cell_stored, rear_stored, recorded, client_met, server_did, saw_flush, saw_rear, server_saw_front, saw_cell, front_stored, hand_set, hand_met}
 use Rattle.af_cblk.specs.Rule.{StartsWith}
 
 -- a seat with its view
@@ -52,8 +52,7 @@ abbrev pub ClientSeesStatus : Told
 ClientSeesStatus st m n m' = WithClient (client_did m.0.client (client.SawStatus (wrapped n))) m m'
 
 abbrev pub Flushes : Told
-Flushes st m n m' =
-    WithClient (client_did m.0.client client.Flush) m m' × (is_lawful m.0.client.events ≡ true → n ≡ flushes_of m.0.client.events)
+Flushes st m n m' = WithClient (client_flushed m.0.client) m m'
 
 abbrev pub GainIsStored : Told
 GainIsStored st m n m' = WithClient (client_did m.0.client (client.SetGain st.first)) m m'

@@ -1,11 +1,11 @@
 -- The rule of the table. Where the client has not poked, there is one legal order of the parties' events, and the words stand for its last point.
-use Rattle.std.specs.Prelude.{◌≡◌, ℕ, ◌+◌, ◌-◌, ◌%◌, ◌^◌, ◌<◌, ◌≤◌, true, false, List, [], ◌∷◌, ◌++◌, length, take, drop, slice_index}
+use Rattle.std.specs.Prelude.{◌≡◌, ◌≢◌, Bool, ℕ, ◌+◌, ◌-◌, ◌%◌, ◌^◌, ◌<◌, ◌≤◌, true, false, List, [], ◌∷◌, ◌++◌, length, take, drop, slice_index}
 use mathlib.Core.Option.{some}
 use lib.ListN.{get_elem?}
 use Rattle.atomic_table.specs.Table.{State}
 use Rattle.af_base.specs.declared.event.ServerEvent.{ServerEvent}
 use Rattle.af_model.specs.declared.point.TrackPoint.{TrackPoint}
-use Rattle.af_model.specs.Point.{wrapped}
+use Rattle.af_model.specs.Point.{wrapped, flush_number, flush_word}
 use Rattle.af_model.specs.History.{taken_of, is_lawful, HasHistory, point, client_of, met_in}
 use Rattle.af_model.specs.declared.shape.Shape.{Shape}
 use Rattle.af_cblk.specs.declared.view.ClientPart.{ClientPart}
@@ -17,11 +17,11 @@ use Rattle.af_cblk.specs.Parts.{Has, word_at}
 -- the words that stand for a point. Of `tally`, the sum that the server adds to, only the low 32 bits count
 abbrev pub words_of : TrackPoint → ℕ → List ℕ → List ℕ
 words_of p tally cells =
-    wrapped p.consumed ∷ wrapped p.released ∷ p.flushes ∷ tally ∷ p.flags ∷ p.gains ∷ p.status ∷ cells
+    wrapped p.consumed ∷ wrapped p.released ∷ flush_word p ∷ tally ∷ p.flags ∷ p.gains ∷ p.status ∷ cells
 
 -- the numbers that a word holds whole fit it
-pub record Small (flushes flags gains status : ℕ) : Type 0 where
-  pub flushes_fit : flushes < 2 ^ 32
+pub record Small (flush flags gains status : ℕ) : Type 0 where
+  pub flush_fits : flush < 2 ^ 32
   pub flags_fit : flags < 2 ^ 32
   pub gains_fit : gains < 2 ^ 32
   pub status_fit : status < 2 ^ 32
@@ -45,6 +45,24 @@ pub record ServerKnows (base consumed rear_seen : ℕ) (frames : List ℕ) (rear
   pub front_is : front ≡ wrapped consumed
   pub loaded_is : (n : ℕ) → n ≤ length loaded → consumed + n ≤ rear_seen → take n loaded ≡ take n (drop (consumed - base) frames)
 
+-- What the server knows of flushes on a positional block, where it loaded the flush word at `mark`: since then it stored front at most once. A flush that it has not seen lies past the mark, and one that it noticed at most a room before what is consumed.
+-- A rear that it loaded after the flush word lies past the flush that it saw, and past what is consumed
+pub record KnowsFlush (k : Shape) (consumed rear_seen flushes flush_seen flush_at drop_to flush : ℕ) (noticed flush_fresh rear_fresh : Bool) : Type 0 where
+  pub flush_is : flush ≡ flush_number k.wrap flush_seen drop_to
+  pub few : flush_seen ≤ flushes
+  pub mark : ℕ
+  pub mark_low : mark ≤ consumed
+  pub mark_near : consumed ≤ mark + k.frames
+  pub mark_now : flush_fresh ≡ true → mark ≡ consumed
+  pub later : flushes ≢ flush_seen → mark ≤ flush_at
+  pub same : flushes ≡ flush_seen → flush_at ≡ drop_to
+  pub near : noticed ≡ true → consumed ≤ drop_to + k.frames
+  pub shows : rear_fresh ≡ true → (drop_to ≤ rear_seen) × (consumed ≤ rear_seen) × (flush_fresh ≡ true)
+
+-- the same at a point, of a server's part
+abbrev pub FlushKnown : Shape → TrackPoint → ServerPart → Type 0
+FlushKnown k p s = KnowsFlush k p.consumed p.rear_seen p.flushes p.flush_seen p.flush_at p.drop_to s.flush s.noticed s.flush_fresh s.rear_fresh
+
 -- the list goes on as this one begins
 abbrev pub StartsWith : List ServerEvent → List ServerEvent → Type 0
 StartsWith events first = (rest : List ServerEvent) × (first ++ rest ≡ events)
@@ -57,9 +75,11 @@ pub record Stands (k : Shape) (words : List ℕ) (c : ClientPart) (s : ServerPar
   pub cells : List ℕ
   pub words_are : words ≡ words_of (point history) tally cells
   pub tally_is : wrapped tally ≡ (point history).underruns
-  pub small : Small (point history).flushes (point history).flags (point history).gains (point history).status
+  pub small : Small (flush_word (point history)) (point history).flags (point history).gains (point history).status
   pub learnt : StartsWith s.events c.learnt
   pub mets : met_in history.order ≤ length (client_of history.order)
+  pub flushed : (point history).flush_at ≡ c.flush_at
+  pub flush_known : k.wrap ≢ 0 → FlushKnown k (point history) s
   pub client_knows : ClientKnows k (point history).consumed (point history).released c.frames cells c.stored c.front
   pub server_knows : ServerKnows k.base (point history).consumed (point history).rear_seen c.frames s.rear s.front s.loaded
 
@@ -88,7 +108,7 @@ pub record Holds (k : Shape) (t : State (Unit {0}) View) : Type 0 where
 
 -- a party that has done nothing
 abbrev pub new_client : Shape → ClientPart
-new_client k = record { shape = k; events = []; frames = []; stored = []; front = k.base; learnt = [] }
+new_client k = record { shape = k; events = []; frames = []; stored = []; front = k.base; flush_at = 0; learnt = [] }
 
 abbrev pub new_server : Shape → ServerPart
 new_server k =
@@ -102,6 +122,8 @@ new_server k =
       rear_after = false;
       front = k.base;
       fresh = false;
+      flush_fresh = false;
+      rear_fresh = false;
       loaded = [];
     }
 
@@ -123,7 +145,7 @@ newcomer k =
 -- a seat with no part
 abbrev pub nobody : View
 nobody =
-    let k : Shape = record { frames = 0; cells = 0; base = 0 } in
+    let k : Shape = record { frames = 0; cells = 0; base = 0; wrap = 0 } in
     record {
       is_client = false;
       client = new_client k;

@@ -1,6 +1,6 @@
 //! A block, how it is made, and its sizes.
-ghost use Rattle.std.specs.Prelude.{◌≡◌, ◌+◌, ◌%◌, ◌≤◌, true, IfOk, [], ◌∷◌, replicate};
-ghost use Rattle.af_cblk.specs.Shape.{IsShape};
+ghost use Rattle.std.specs.Prelude.{◌≡◌, ◌+◌, ◌*◌, ◌%◌, ◌≤◌, true, IfOk, [], ◌∷◌, replicate};
+ghost use Rattle.af_cblk.specs.Shape.{IsShape, most_flushes};
 ghost use Rattle.af_cblk.specs.Rule.{new_client, new_server};
 ghost use Rattle.af_cblk.specs.Sides.{client_made, server_made};
 
@@ -70,7 +70,31 @@ impl Block {
     ) -> Result<(Block, ClientPass, ServerPass), Memory>
         requires some { 1 ≤ frames }
         requires few { frames ≤ 65536 }
-        ensures sizes { IfOk result (λ r. (r.0.shape.frames ≡ frames) × (r.0.shape.base ≡ base) × IsShape r.0.shape) }
+        ensures sizes { IfOk result (λ r. (r.0.shape.frames ≡ frames) × (r.0.shape.base ≡ base) × (r.0.shape.wrap ≡ 0) × IsShape r.0.shape) }
+        ensures made { IfOk result (λ r. (client_made r.1 ≡ r.0) × (server_made r.2 ≡ r.0)) }
+        ensures client { IfOk result (λ r. r.1.part ≡ new_client r.0.shape) }
+        ensures server { IfOk result (λ r. (r.2.part ≡ new_server r.0.shape) × (r.2.has_hand ≡ true)) }
+    {
+        let shape = Shape {
+            frames,
+            cells: frames.next_power_of_two(),
+            base,
+            wrap: 0,
+        };
+        Block::of_shape(alloc, shape)
+    }
+
+    /// The same with a block whose flush word carries the position of the flush: a flush discards what was released before it, and nothing that is released later.
+    ///
+    /// `frames` is from 1 to 8,192. The only refusal is want of memory.
+    pub fn make_positional(
+        alloc: Global,
+        frames: u32,
+        base: u32,
+    ) -> Result<(Block, ClientPass, ServerPass), Memory>
+        requires some { 1 ≤ frames }
+        requires few { frames ≤ 8192 }
+        ensures sizes { IfOk result (λ r. (r.0.shape.frames ≡ frames) × (r.0.shape.base ≡ base) × (r.0.shape.wrap ≡ r.0.shape.cells * 4) × IsShape r.0.shape) }
         ensures made { IfOk result (λ r. (client_made r.1 ≡ r.0) × (server_made r.2 ≡ r.0)) }
         ensures client { IfOk result (λ r. r.1.part ≡ new_client r.0.shape) }
         ensures server { IfOk result (λ r. (r.2.part ≡ new_server r.0.shape) × (r.2.has_hand ≡ true)) }
@@ -80,7 +104,20 @@ impl Block {
             frames,
             cells,
             base,
+            wrap: cells * 4,
         };
+        Block::of_shape(alloc, shape)
+    }
+
+    // A block of these sizes.
+    fn of_shape(alloc: Global, shape: Shape) -> Result<(Block, ClientPass, ServerPass), Memory>
+        requires { IsShape shape }
+        ensures shape { IfOk result (λ r. r.0.shape ≡ shape) }
+        ensures made { IfOk result (λ r. (client_made r.1 ≡ r.0) × (server_made r.2 ≡ r.0)) }
+        ensures client { IfOk result (λ r. r.1.part ≡ new_client r.0.shape) }
+        ensures server { IfOk result (λ r. (r.2.part ≡ new_server r.0.shape) × (r.2.has_hand ≡ true)) }
+    {
+        let Shape { base, cells, .. } = shape;
         let Ok(words) = first_words(alloc, base, cells) else {
             return Err(Memory);
         };
@@ -94,6 +131,7 @@ impl Block {
                 seat: client,
                 rear: base,
                 flushes: 0,
+                flushed: 0,
             },
             ServerPass { seat },
         ))
@@ -120,6 +158,14 @@ impl Block {
         ensures { result ≡ self.now.shape.base }
     {
         self.shape.base
+    }
+
+    /// 0 for a block of `make`, and four times the cells for one of `make_positional`. A client of either may ask for 65,535 flushes at least.
+    pub fn wrap(&self) -> u32
+        ensures value { result ≡ self.now.shape.wrap }
+        ensures room { 65535 ≤ most_flushes self.now.shape.wrap }
+    {
+        self.shape.wrap
     }
 
     // The place of the cell of a position. The number of cells is a power of two, so that the position's low bits name it.

@@ -2,7 +2,8 @@
 ghost use Rattle.std.specs.Prelude.{◌≡◌, ◌+◌, ◌<◌, true};
 ghost use Rattle.af_base.specs.declared.event.ClientEvent.TheVariants as client_event;
 ghost use Rattle.af_model.specs.History.{is_lawful, flushes_of};
-ghost use Rattle.af_cblk.specs.Parts.{ahead, released, room, AreStored, client_did, stored_at, rear_stored, recorded};
+ghost use Rattle.af_cblk.specs.Shape.{most_flushes};
+ghost use Rattle.af_cblk.specs.Parts.{ahead, released, room, AreStored, client_did, client_flushed, flush_amount, stored_at, rear_stored, recorded};
 ghost use Rattle.af_cblk.specs.Plays.{HasFlags};
 ghost use Rattle.af_cblk.specs.Sides.{client_made, ClientSawFront};
 
@@ -104,19 +105,35 @@ impl Block {
         (found & 0xffff_ffff) as u32
     }
 
-    /// Adds one to the flush count, and answers how many flushes this client has asked for, which is the new count where it has not poked. It appends Flush.
+    // What a flush adds to the flush word.
+    fn flush_step(&self, pass: &ClientPass) -> u32
+        requires { client_made pass.now ≡ self.now }
+        ensures { result ≡ flush_amount pass.now.part }
+    {
+        let wrap = self.shape.wrap;
+        if wrap == 0 {
+            return 1;
+        }
+        wrap + pass.rear % wrap - pass.flushed % wrap
+    }
+
+    /// Asks for a flush by one add to the flush word, and answers how many flushes this client has asked for. It appends Flush.
+    ///
+    /// The word is then the number of flushes where it has not poked, or on a positional block so many wraps with the place of its position in a wrap. There are fewer flushes so far than the word has room for: than 2^32 - 2, or on a positional block than 2^32 / wrap - 1.
     pub fn add_flush<L: Ledger>(&self, pass: &mut ClientPass, steps: &mut Steps<L>) -> u32
         requires made { client_made pass.old ≡ self.now }
-        requires room { flushes_of pass.old.part.events < 4294967294 }
+        requires room { flushes_of pass.old.part.events < most_flushes self.now.shape.wrap }
         ensures made { client_made pass.new ≡ self.now }
-        ensures flushed { pass.new.part ≡ client_did pass.old.part client_event.Flush }
+        ensures flushed { pass.new.part ≡ client_flushed pass.old.part }
         ensures count { result ≡ flushes_of pass.old.part.events + 1 }
         ensures steps { steps.new ≡ steps.old + 1 }
     {
+        let amount = self.flush_step(pass);
         self.table
             .shared
-            .fetch_add::<Flushes>(&mut pass.seat, FLUSHES, 1);
+            .fetch_add::<Flushes>(&mut pass.seat, FLUSHES, amount as u64);
         steps.tick();
+        pass.flushed = pass.rear;
         pass.flushes += 1;
         pass.flushes
     }

@@ -18,6 +18,8 @@ pub struct ClientPass {
     pub(crate) rear: u32,
     // How many flushes it asked for.
     pub(crate) flushes: u32,
+    // The word of its position at its last flush, and 0 before any.
+    pub(crate) flushed: u32,
 }
 
 impl Model for ClientPass {
@@ -31,7 +33,7 @@ impl Model for ClientPass {
 
     ghost view = { λ p. record { id = p.seat.table_id; part = p.seat.me.0.client } };
 
-    ghost invariant = { λ p. (p.seat.me.0.is_client ≡ true) × (p.seat.me.1 ≡ []) × (p.rear ≡ wrapped (released p.seat.me.0.client)) × (p.flushes ≡ flushes_of p.seat.me.0.client.events) };
+    ghost invariant = { λ p. (p.seat.me.0.is_client ≡ true) × (p.seat.me.1 ≡ []) × (p.rear ≡ wrapped (released p.seat.me.0.client)) × (p.flushes ≡ flushes_of p.seat.me.0.client.events) × (p.flushed ≡ wrapped p.seat.me.0.client.flush_at) };
 }
 
 /// The server's right to step on one block: there is one for each block, and it can't be copied.

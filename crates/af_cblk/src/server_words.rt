@@ -15,7 +15,7 @@ use af_base::{DISABLED, Steps};
 use std::sync::ledger::Ledger;
 
 impl Block {
-    /// Loads the flush count. It appends SawFlush. A count that differs from the last one is a new flush, until the frames are dropped.
+    /// Loads the flush word. It appends SawFlush. A word that differs from the last one is a new flush, until the frames are dropped.
     pub fn load_flush<L: Ledger>(&self, pass: &mut ServerPass, steps: &mut Steps<L>) -> u32
         requires { server_made pass.old ≡ self.now }
         ensures made { server_made pass.new ≡ self.now }
@@ -86,9 +86,11 @@ impl Block {
 
     /// Stores front.
     ///
-    /// After a new flush the position is the rear seen since: all frames up to it are dropped. It appends Drop.
+    /// After a new flush the position is the rear seen since: all frames up to it are dropped. On a positional block it is the position of the flush, or the front last seen where that is later. It appends Drop.
     ///
     /// Without a new flush it lies some frames past the front last seen, and not past the rear seen before: these frames are taken. Front was loaded after that rear and since the last store of front, and since then the cells of these frames were loaded, in order. It appends Take, and the frames to the server's.
+    ///
+    /// On a positional block the flush word was loaded since the last store of front, rear since that load, and front after that rear, in either case.
     pub fn store_front<L: Ledger>(&self, pass: &mut ServerPass, position: u32, steps: &mut Steps<L>)
         requires made { server_made pass.old ≡ self.now }
         requires position { MayStoreFront pass.old.part position }

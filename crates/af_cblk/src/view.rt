@@ -14,6 +14,8 @@ pub struct ClientPart {
     pub stored: LinkedList<(u64, u32)>,
     /// The front last seen.
     pub front: u32,
+    /// Its position at its last flush, and 0 before any.
+    pub flush_at: u64,
     /// The server's events at the last meeting with it.
     pub learnt: LinkedList<ServerEvent>,
 }
@@ -25,18 +27,22 @@ pub struct ServerPart {
     pub events: LinkedList<ServerEvent>,
     /// The words of the frames that were taken, oldest first.
     pub frames: LinkedList<u32>,
-    /// The flush count last seen.
+    /// The flush word last seen.
     pub flush: u32,
-    /// A new flush count was seen, and nothing was dropped since.
+    /// A new flush word was seen, and nothing was dropped since.
     pub noticed: bool,
     /// The rear last seen.
     pub rear: u32,
-    /// It was seen after that flush count.
+    /// It was seen after that flush word, where that was new.
     pub rear_after: bool,
     /// The front last seen or stored.
     pub front: u32,
     /// Front was loaded after that rear, and not stored since.
     pub fresh: bool,
+    /// The flush word was loaded since front was stored last.
+    pub flush_fresh: bool,
+    /// Rear was loaded since that load of the flush word.
+    pub rear_fresh: bool,
     /// The words of the cells from that front on that were loaded since, in order.
     pub loaded: LinkedList<u32>,
 }

@@ -4,7 +4,7 @@
 pub(crate) const FRONT: usize = 0;
 /// The client's position: all frames before it were released.
 pub(crate) const REAR: usize = 1;
-/// How many flushes the client asked for.
+/// The flush word: how many flushes the client asked for, or for a positional block also the place of its last flush.
 pub(crate) const FLUSHES: usize = 2;
 /// How many frames were missing. It is a sum in 64 bits, of which the low 32 bits count.
 pub(crate) const UNDERRUNS: usize = 3;

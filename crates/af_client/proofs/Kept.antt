@@ -12,7 +12,7 @@ use Rattle.af_model.proofs.Logic.{both_left, both_right, both_are}
 use Rattle.af_model.proofs.Counts.{lawful_before}
 use Rattle.af_cblk.specs.declared.view.ClientPart.{ClientPart}
 use Rattle.af_model.specs.declared.shape.Shape.{Shape}
-use Rattle.af_cblk.specs.Parts.{released, client_did, client_met}
+use Rattle.af_cblk.specs.Parts.{client_flushed, released, client_did, client_met}
 use Rattle.af_base.specs.declared.event.ServerEvent.{ServerEvent}
 use Rattle.af_cblk.specs.Rule.{new_client}
 use Rattle.af_cblk.specs.Sides.{ClientSide}
@@ -99,6 +99,23 @@ word_keeps c i pass answer e k a spelled same opened did =
     did_keeps c (record { pass = pass; rear = i.rear; flushes = i.flushes + flush_in e; released = i.released; shut = i.shut }) 0 answer e k a spelled same
     (did ∙ ap (λ (x : ClientState). client_did x.pass.part e) opened)
     (ap (λ (x : ClientState). x.rear) opened, ap (λ (x : ClientState). x.flushes + flush_in e) opened, ap (λ (x : ClientState). x.released) opened, ap (λ (x : ClientState). x.shut) opened)
+
+-- the same, where it is a flush
+pub flush_keeps : (c i : ClientState) (pass : ClientSide) (count : ℕ) → IsInOrder c → Answers c 0 (call.Flush count) → i ≡ c → pass.part ≡ client_flushed i.pass.part
+    → Keeps pass.part i.rear (i.flushes + 1) i.released i.shut
+flush_keeps c i pass count k a opened did =
+    let p : ClientPart = i.pass.part in
+    let one = word_keeps c i (record i.pass { part = client_did p client.Flush }) (call.Flush count) client.Flush k a refl refl opened refl in
+    subst (λ (q : ClientPart). Keeps q i.rear (i.flushes + 1) i.released i.shut) (sym did) (
+    record {
+      spelled = one.spelled;
+      position_is = one.position_is;
+      rear_is = one.rear_is;
+      flushes_are = one.flushes_are;
+      released_is = one.released_is;
+      shut_is = one.shut_is;
+      lawful_open = one.lawful_open;
+    })
 
 -- the same, where it is no flush
 pub quiet_keeps : (c i : ClientState) (pass : ClientSide) (answer : ClientCall) (e : ClientEvent) → IsInOrder c → Answers c 0 answer

@@ -1,7 +1,8 @@
 //! Flushes, gains, flags, the status word, and words stored out of turn.
-ghost use Rattle.std.specs.Prelude.{◌≡◌, ◌+◌, ◌-◌, ◌<◌};
+ghost use Rattle.std.specs.Prelude.{◌≡◌, ◌+◌, ◌<◌};
 ghost use Rattle.af_base.specs.declared.event.ClientEvent.TheVariants as client_event;
-ghost use Rattle.af_cblk.specs.Parts.{client_did};
+ghost use Rattle.af_cblk.specs.Parts.{client_did, client_flushed};
+ghost use Rattle.af_cblk.specs.Shape.{most_flushes};
 ghost use Rattle.af_client.specs.Order.{IsClientOf};
 
 use crate::client::Client;
@@ -10,12 +11,14 @@ use af_cblk::Block;
 use std::sync::ledger::Ledger;
 
 impl Client {
-    /// Asks the server to discard all frames up to the rear that it sees next, and answers how many flushes this client has asked for. One step.
+    /// Asks the server to discard all frames up to the rear that it sees next, or on a positional block those released before this flush and no later ones, and answers how many flushes this client has asked for. One step.
+    ///
+    /// There were fewer flushes so far than 2^32 - 2, or on a positional block than 2^32 / wrap - 1.
     pub fn flush<L: Ledger>(&mut self, block: &Block, steps: &mut Steps<L>) -> u32
         requires ready { IsClientOf block.now self.old }
-        requires few { self.old.flushes < u32.MAX - 1 }
+        requires few { self.old.flushes < most_flushes block.now.shape.wrap }
         ensures ready { IsClientOf block.now self.new }
-        ensures flushed { self.new.pass.part ≡ client_did self.old.pass.part client_event.Flush }
+        ensures flushed { self.new.pass.part ≡ client_flushed self.old.pass.part }
         ensures count { result ≡ self.old.flushes + 1 }
         ensures kept { self.new ≡ (record self.old { pass = self.new.pass; flushes = result }) }
         ensures steps { steps.new ≡ steps.old + 1 }

@@ -177,6 +177,12 @@ pub current_copied : (o : Observes ServerState StreamNames) (lent : Option (Bor 
 current_copied o None copied none lends same = same ∙ sym (none lends)
 current_copied o (Some s) copied none lends same = same ∙ sym lends.2
 
+-- and so it is the state adopted
+pub state_copied : (o : Observes ServerState StreamNames) (lent : Option (Bor FastState)) (copied : Option FastState) (x : FastState)
+    → MatchOption lent (o.past.number ≡ 0) (λ s. (0 < o.past.number) × (s.now ≡ o.past.state) × (o.current ≡ Some s.now)) → copied ≡ option_copied lent → copied ≡ Some x → x ≡ o.past.state
+state_copied o None copied x lends same is = cc
+state_copied o (Some s) copied x lends same is = some_same x s.now (sym is ∙ same) ∙ lends.1
+
 -- before the first state there is none
 pub none_current : (m : MixerState) → IsInOrder m → m.observer.past.number ≡ 0 → m.observer.current ≡ None
 none_current m k none = sym (k.observer.told.current no_state) ∙ ap (state_of (adopted_states m)) none

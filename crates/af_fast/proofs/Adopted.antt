@@ -1,6 +1,5 @@
 -- A mixer that adopted a state is in order.
 use Rattle.std.proofs.Common.{◌≡◌, ℕ, ◌+◌, Bool, true, false, true≢false, List, [], ◌∷◌, ◌++◌, length, Option, Some, None, refl, sym, ap, subst, ◌∙◌, arith}
-use Rattle.std.proofs.lemmas.List.{length-append}
 use Rattle.af_base.specs.declared.log.CycleEntry.{CycleEntry}
 use Rattle.af_base.specs.declared.state.FastState.{FastState}
 use Rattle.af_model.specs.declared.states.ObserverEvent.{ObserverEvent}
@@ -9,7 +8,7 @@ use Rattle.af_model.specs.declared.states.ObserverEvent.TheVariants as observer
 use Rattle.af_model.specs.declared.plain_calls.Poll.{Poll}
 use Rattle.af_model.specs.declared.plain_calls.Poll.TheVariants.{Nothing, Same, New}
 use Rattle.af_model.specs.Cycles.{state_of, last_used, cold_done}
-use Rattle.af_model.proofs.UsedStates.{state_of-before, state_of-newest, cold_done-before, UseUpTo-more}
+use Rattle.af_model.proofs.UsedStates.{state_of-before, cold_done-before, UseUpTo-more}
 use Rattle.af_server.specs.Order.{ServerState}
 use Rattle.af_stateq.specs.Answers.{WasPolled}
 use Rattle.af_stateq.specs.Laws.{polled_states}

@@ -1,6 +1,7 @@
 mod HeldFacts
 mod SlotSteps
 mod SlotsDone
+mod Counted
 mod Parts
 mod Adopted
 mod Noted

@@ -13,10 +13,9 @@ use Rattle.af_model.specs.Reports.{no_report}
 use Rattle.af_latest.specs.Laws.{last_of, stores}
 use Rattle.af_server.specs.Order.{ServerState}
 use Rattle.af_stateq.specs.Laws.{polled_states}
-use Rattle.af_stateq.specs.Observes.{Observes, InOrder}
+use Rattle.af_stateq.specs.Observes.{InOrder}
 use Rattle.af_stateq.specs.Shelved.{no_state}
 use Rattle.af_stateq.proofs.Told.{order_learns}
-use Rattle.af_link.specs.declared.names.StreamNames.{StreamNames}
 use Rattle.af_fast.specs.Fits.{stream_fits}
 use Rattle.af_fast.specs.Meets.{Others, mixer_met}
 use Rattle.af_fast.specs.Mixer.{MixerState, KeepsEntries, Reported, IsInOrder}

@@ -1,6 +1,6 @@
 -- A mixer with one entry more is in order, and the entry is a legal one.
-use Rattle.std.proofs.Common.{◌≡◌, ℕ, suc, ◌+◌, ◌-◌, ◌*◌, ◌<◌, ◌≤◌, ◌||◌, Bool, true, false, if◌then◌else◌, List, [], ◌∷◌, ◌++◌, length, Option, Some, None, refl, sym, ap, subst, ◌∙◌, arith}
-use Rattle.std.proofs.lemmas.List.{length-append}
+use Rattle.std.proofs.Common.{◌≡◌, ℕ, suc, ◌+◌, ◌-◌, ◌*◌, ◌<◌, ◌≤◌, ◌||◌, Bool, true, false, if◌then◌else◌, List, [], ◌∷◌, ◌++◌, length, replicate, Option, Some, None, refl, sym, ap, subst, ◌∙◌, arith}
+use Rattle.std.proofs.lemmas.List.{length-append, get_or-replicate}
 use Rattle.std.proofs.Math.Nat.{suc-mul}
 use Rattle.af_base.specs.declared.log.CycleEntry.{CycleEntry}
 use Rattle.af_base.specs.declared.report.Report.{Report}
@@ -11,7 +11,7 @@ use Rattle.af_base.specs.Log.{slots, entry_slot}
 use Rattle.af_model.specs.declared.newest.WriterEvent.{WriterEvent}
 use Rattle.af_model.specs.declared.newest.WriterEvent.TheVariants.{Store}
 use Rattle.af_model.specs.declared.newest.WriterEvent.TheVariants as writes
-use Rattle.af_model.specs.Cycles.{state_of, last_used, has_exit, is_exit, is_cold, cold_of, cold_done, UseUpTo}
+use Rattle.af_model.specs.Cycles.{state_of, last_used, is_exit, is_cold, cold_of, cold_done, UseUpTo}
 use Rattle.af_model.specs.Reports.{ServerKnown, no_slot, no_report, report_at, one_if, is_full, is_partial, is_empty, counted_look, carried, slot_report}
 use Rattle.af_model.specs.StateQueue.{carries, slot_of}
 use Rattle.af_model.proofs.UsedStates.{last_used-push, has_exit-push, cold_done-push, UseUpTo-push, UseUpTo-more}
@@ -167,3 +167,11 @@ module _ (m n l : MixerState) (entry : CycleEntry) (k : IsInOrder m) (open_log :
 
   pub noted_order : IsInOrder l
   noted_order = subst IsInOrder (sym is_now) now_in_order
+
+-- before the first entry nothing was reported
+none_few : (i : ℕ) → i < slots → IsFew 1 (report_at (replicate slots no_slot) i)
+none_few i lt = subst (IsFew 1) (sym (get_or-replicate slots i no_slot no_slot lt)) (omega arith, omega arith, omega arith)
+
+pub nothing_reported : (entries : ℕ) (events : List (WriterEvent Report)) (s : SlotReport) → entries ≡ 0 → events ≡ [] → s ≡ no_slot → Reported entries events (replicate slots s)
+nothing_reported entries events s none empty is =
+    subst (λ (y : ℕ × List (WriterEvent Report) × SlotReport). Reported y.0 y.1 (replicate slots y.2)) (λ i. (sym none i, sym empty i, sym is i)) (record { many = refl; number = refl; slots_are = refl; whole = refl; few = none_few })

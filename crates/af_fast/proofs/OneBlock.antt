@@ -1,5 +1,5 @@
 -- Over the links of one track each proxy that is held is of its block.
-use Rattle.std.proofs.Common.{◌≡◌, ℕ, zero, suc, ◌<◌, List, [], ◌∷◌, Option, Some, None, slice_get, unwrap_or, sym, ap, subst, ◌∙◌, arith}
+use Rattle.std.proofs.Common.{◌≡◌, ℕ, zero, suc, ◌<◌, List, [], ◌∷◌, Some, slice_get, sym, ap, subst, ◌∙◌}
 use Rattle.af_base.specs.Log.{slots}
 use Rattle.af_cblk.specs.Sides.{Made, HandSide, server_made, hand_made}
 use Rattle.af_client.specs.Order.{ClientState}

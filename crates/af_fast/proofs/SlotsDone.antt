@@ -1,7 +1,7 @@
 -- How the slots of a mix begin with the pipe, and what they come to.
 use Rattle.std.proofs.Common.{◌≡◌, ℕ, zero, suc, ◌+◌, ◌*◌, ◌≤◌, ◌<◌, true, false, true≢false, List, [], ◌++◌, length, length-set, length-take-le, map, take, Option, slice_index_or, refl, sym, ap, subst, ◌∙◌, append_assoc, append-nil, arith}
 use Rattle.std.proofs.lemmas.List.{length-append, get_or-replicate}
-use Rattle.std.proofs.Math.Nat.{add-zero, suc-mul, mul-suc, mul_comm, mul-le-mul_left}
+use Rattle.std.proofs.Math.Nat.{add-zero, mul-suc, mul_comm, mul-le-mul_left}
 use Rattle.af_base.specs.declared.frame.Frame.{Frame}
 use Rattle.af_base.specs.declared.log.CycleEntry.{CycleEntry}
 use Rattle.af_base.specs.declared.log.SlotEntry.{SlotEntry}
@@ -135,6 +135,3 @@ room_for asked place taken i room few lt all =
     let most : asked * suc i ≤ asked * slots = mul-le-mul_left asked (omega arith) in
     let other : slots * asked ≡ asked * slots = mul_comm slots asked in
     omega (arith, few, next, most, other, all)
-
-pub one_more : (i k : ℕ) → (i + 1) * k ≡ i * k + k
-one_more i k = ap (λ n. n * k) (let e : i + 1 ≡ suc i = omega arith in e) ∙ suc-mul i k

@@ -1,5 +1,5 @@
 -- Lists that belong together item by item.
-use Rattle.std.proofs.Common.{ℕ, zero, suc, ◌<◌, List, [], ◌∷◌, length, slice_set, slice_index_or, arith}
+use Rattle.std.proofs.Common.{ℕ, zero, suc, ◌<◌, List, [], ◌∷◌, ◌++◌, length, slice_set, slice_index_or, arith}
 use Rattle.std.specs.List.{AllZip}
 
 module _ {A B : Type 0} (R : A → B → Type 0) where
@@ -17,3 +17,10 @@ module _ {A B : Type 0} (R : A → B → Type 0) where
   zip_set (a ∷ xs) [] i x y z r = elim z [ ]
   zip_set (a ∷ xs) (b ∷ ys) zero x y z r = (r, z.1)
   zip_set (a ∷ xs) (b ∷ ys) (suc i) x y z r = (z.0, zip_set xs ys i x y z.1 r)
+
+  -- and one may be put behind
+  pub zip_push : (xs : List A) (ys : List B) (x : A) (y : B) → AllZip R xs ys → R x y → AllZip R (xs ++ x ∷ []) (ys ++ y ∷ [])
+  zip_push [] [] x y z r = (r, tt)
+  zip_push [] (b ∷ ys) x y z r = elim z [ ]
+  zip_push (a ∷ xs) [] x y z r = elim z [ ]
+  zip_push (a ∷ xs) (b ∷ ys) x y z r = (z.0, zip_push xs ys x y z.1 r)

@@ -10,7 +10,7 @@ use Rattle.af_fast.specs.declared.report.KnownNow.{KnownNow}
 -- what is known of a slot's proxy, where there is one
 abbrev pub known_at : Option ServerState → ServerKnown
 known_at None = record { consumed = 0; flush_seen = 0; shut = false }
-known_at (Some s) = record { consumed = s.consumed; flush_seen = s.flush; shut = is_some s.shut }
+known_at (Some s) = record { consumed = s.consumed; flush_seen = s.flushes; shut = is_some s.shut }
 
 -- the same of all slots
 abbrev pub known : Observes ServerState StreamNames → ℕ → ServerKnown

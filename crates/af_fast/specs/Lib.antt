@@ -1,4 +1,5 @@
 pub mod Slots
+pub mod Tracks
 pub mod Fits
 pub mod Mixer
 pub mod Known

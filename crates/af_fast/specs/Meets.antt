@@ -14,7 +14,7 @@ use Rattle.af_cblk.specs.Parts.{client_met, server_did, hand_met}
 use Rattle.af_cblk.specs.Sides.{HandSide, server_made, hand_made}
 use Rattle.af_client.specs.Order.{ClientState}
 use Rattle.af_server.specs.Order.{ServerState}
-use Rattle.af_stateq.specs.Mutates.{Mutates, at}
+use Rattle.af_stateq.specs.Mutates.{Mutates}
 use Rattle.af_stateq.specs.Observes.{Observes}
 use Rattle.af_link.specs.PipeEnds.{InSide, in_made, SeesTaken}
 use Rattle.af_link.specs.Reports.{ReaderSide, CyclesNeverFall}

@@ -1,5 +1,5 @@
 -- When the ends that a test moves are ready for its next call.
-use Rattle.std.specs.Prelude.{◌≡◌, ℕ, suc, ◌≤◌, false, List, [], ◌∷◌, Option, Some}
+use Rattle.std.specs.Prelude.{◌≡◌, ℕ, ◌≤◌, false, List, length, Option, Some}
 use Rattle.std.specs.List.{AllZip}
 use Rattle.af_cblk.specs.Sides.{Made}
 use Rattle.af_client.specs.Order.{ClientState, IsClientOf}
@@ -31,14 +31,15 @@ AreClientsOf = AllZip IsClientOf
 abbrev pub IsLine : Made × ClientState × ServerState → Type 0
 IsLine l = IsClientOf l.0 l.1 × IsServerOf l.0 l.2
 
--- each server belongs to the track of its place, from i on
-abbrev pub AreStreamsOf : List Made → ℕ → List ServerState → Type 0
-AreStreamsOf blocks i [] = Unit {0}
-AreStreamsOf blocks i (s ∷ ss) = IsStreamOf blocks i s × AreStreamsOf blocks (suc i) ss
-
 -- the proxies that no slot has, each of the track of its place
 pub record AreWaiting (blocks : List Made) (servers : List (Option ServerState)) : Type 0 where
   pub each : (i : ℕ) (s : ServerState) → at servers i ≡ Some s → IsStreamOf blocks i s
+
+-- the blocks of the tracks, each with its client and its proxy, which waits
+pub record AreLines (blocks : List Made) (clients : List ClientState) (servers : List (Option ServerState)) : Type 0 where
+  pub clients_are : AreClientsOf blocks clients
+  pub waiting : AreWaiting blocks servers
+  pub long : length blocks ≡ length servers
 
 -- the ends, the clients and the waiting proxies are of these links, and there were no more pushes than were counted
 pub record IsTable (links : Links) (m : Mutates ServerState StreamNames) (f : MixerState) (r : ReaderSide) (p : InSide) (clients : List ClientState) (servers : List (Option ServerState)) (pushes : ℕ) : Type 0 where

@@ -17,7 +17,7 @@ use Rattle.af_link.specs.declared.names.StreamNames.{StreamNames}
 
 -- a server with its list, as a cycle finds it, where a slot has one
 abbrev pub listed_at : Option ServerState → Listed
-listed_at None = record { shape = record { frames = 0; cells = 0; base = 0 }; events = [] }
+listed_at None = record { shape = record { frames = 0; cells = 0; base = 0; wrap = 0 }; events = [] }
 listed_at (Some s) = listed s
 
 -- what a cycle finds, or leaves, of the pipe's end and of the observer's items

@@ -1,8 +1,10 @@
 //! What cycles answer, write, log and report, by tables of steps.
-use crate::table_tests::{Row, SIX, Step, Told, plays};
+use crate::table_tests::{Row, Step, THREE, Told, plays};
 use crate::tests::{BEFORE, SILENCE, Turned, at_unity, mixed_one, outcome, reported, still};
-use af_base::{Command, Cycle, Frame, Push, Report, Seen, SlotEntry, SlotReport};
+use af_base::{Command, Cycle, Frame, Memory, Push, Report, SLOTS, Seen, SlotEntry, SlotReport};
+use af_client::Wrote;
 use af_link::first_report;
+use std::alloc::Global;
 use std::test::*;
 
 // The first three frames, and then silence.
@@ -13,9 +15,46 @@ const HEARD: [Frame; 4] = [
     SILENCE,
 ];
 
-// Attaches a track.
+// The word of the frames (1, 1), (2, 2) and so on.
+const ONE: u32 = 0x0001_0001;
+
+const SIX: [Frame; 6] = [
+    Frame { left: 1, right: 1 },
+    Frame { left: 2, right: 2 },
+    Frame { left: 3, right: 3 },
+    Frame { left: 4, right: 4 },
+    Frame { left: 5, right: 5 },
+    Frame { left: 6, right: 6 },
+];
+
+// The step that attaches a track at unity.
+fn attach(slot: u32, track: u32) -> Step {
+    Step::Attach {
+        slot,
+        track,
+        mono: false,
+        scale: 0x1000,
+    }
+}
+
+// Attaches a track at unity.
 fn attaches(slot: u32, track: u32) -> Row {
-    (Step::Attach { slot, track }, Told::Is { so: true })
+    is(attach(slot, track), true)
+}
+
+// Writes so many frames into an empty block of eight.
+fn writes(track: usize, word: u32, count: u32) -> Row {
+    let step = Step::Write {
+        track,
+        word,
+        count: count as usize,
+    };
+    let wrote = Wrote::Put {
+        front: 0,
+        count,
+        rest: 8u32.wrapping_sub(count),
+    };
+    (step, Told::Wrote { wrote })
 }
 
 // Whether something is so.
@@ -65,7 +104,7 @@ fn empty_report(cycle: u64) -> Report {
 fn a_stream_is_mixed_between_idle_cycles(rt: HostRuntime) {
     let spent = Cycle::Spent { cycles: 5 };
     let rows = [
-        done(Step::Write { track: 0, count: 3 }),
+        writes(0, ONE, 3),
         rests(Cycle::Idle, empty_report(1)),
         attaches(1, 0),
         pushes(Command::MixWrite, 1),
@@ -84,7 +123,7 @@ fn a_stream_is_mixed_between_idle_cycles(rt: HostRuntime) {
         still(2, Cycle::Cold),
         still(2, Cycle::Idle),
     ];
-    let found = plays(rt.alloc(), 5, &rows, &entries, &SIX[..3]);
+    let found = plays(rt.alloc(), 5, &THREE, &rows, &entries, &SIX[..3]);
     assert!(rt; found == Ok((rows.len(), true)));
 }
 
@@ -101,8 +140,8 @@ fn an_exit_is_answered_again_without_an_entry(rt: HostRuntime) {
         is(Step::Ack, false),
     ];
     let entries = [still(1, Cycle::Exit)];
-    assert!(rt; plays(rt.alloc(), 3, &rows, &entries, &[]) == Ok((rows.len(), true)));
-    assert!(rt; plays(rt.alloc(), 1, &rows, &entries, &[]) == Ok((rows.len(), true)));
+    assert!(rt; plays(rt.alloc(), 3, &THREE, &rows, &entries, &[]) == Ok((rows.len(), true)));
+    assert!(rt; plays(rt.alloc(), 1, &THREE, &rows, &entries, &[]) == Ok((rows.len(), true)));
 }
 
 #[test]
@@ -110,7 +149,7 @@ fn a_full_log_is_answered_without_an_entry(rt: HostRuntime) {
     let report = reported(1, 3, 1, 0);
     let spent = rests(Cycle::Spent { cycles: 1 }, report);
     let rows = [
-        done(Step::Write { track: 0, count: 3 }),
+        writes(0, ONE, 3),
         attaches(1, 0),
         pushes(Command::MixWrite, 1),
         mixes(HEARD, report),
@@ -120,7 +159,7 @@ fn a_full_log_is_answered_without_an_entry(rt: HostRuntime) {
         is(Step::Ack, false),
     ];
     let entries = [mixed_one(1, at_unity(3, Seen::Frames { count: 3 }, 0))];
-    assert!(rt; plays(rt.alloc(), 1, &rows, &entries, &SIX[..3]) == Ok((rows.len(), true)));
+    assert!(rt; plays(rt.alloc(), 1, &THREE, &rows, &entries, &SIX[..3]) == Ok((rows.len(), true)));
 }
 
 // A slot that saw the flush, at unity.
@@ -145,7 +184,7 @@ fn silent(cycle: u64, shut: bool, empties: u32) -> Row {
 #[test]
 fn a_flush_is_no_underrun(rt: HostRuntime) {
     let rows = [
-        done(Step::Write { track: 0, count: 3 }),
+        writes(0, ONE, 3),
         attaches(1, 0),
         pushes(Command::MixWrite, 1),
         done(Step::Flush { track: 0 }),
@@ -153,7 +192,10 @@ fn a_flush_is_no_underrun(rt: HostRuntime) {
         clears(0, 0),
         silent(2, false, 1),
         clears(0, 1),
-        done(Step::Poke { track: 0 }),
+        done(Step::Poke {
+            track: 0,
+            rear: 100,
+        }),
         silent(3, true, 1),
         clears(0, 5),
         silent(4, true, 1),
@@ -168,7 +210,7 @@ fn a_flush_is_no_underrun(rt: HostRuntime) {
         mixed_one(1, saw(100, shut)),
         mixed_one(1, saw(100, shut)),
     ];
-    assert!(rt; plays(rt.alloc(), 4, &rows, &entries, &[]) == Ok((rows.len(), true)));
+    assert!(rt; plays(rt.alloc(), 4, &THREE, &rows, &entries, &[]) == Ok((rows.len(), true)));
 }
 
 // A cycle with what it reports of slots 1 and 2.
@@ -205,8 +247,8 @@ fn a_new_generation_counts_from_nothing(rt: HostRuntime) {
     };
     let command = Command::MixWrite;
     let rows = [
-        done(Step::Write { track: 0, count: 6 }),
-        done(Step::Write { track: 2, count: 2 }),
+        writes(0, ONE, 6),
+        writes(2, ONE, 2),
         attaches(1, 0),
         pushes(command, 1),
         pair(
@@ -224,7 +266,7 @@ fn a_new_generation_counts_from_nothing(rt: HostRuntime) {
         pair(3, quiet, kept, none),
         is(Step::Detach { slot: 1 }, true),
         pushes(command, 2),
-        is(Step::Attach { slot: 1, track: 1 }, false),
+        is(attach(1, 1), false),
         attaches(2, 1),
         (Step::Push { command }, Told::Pushed { push: busy }),
         is(Step::TakeBack { slot: 1 }, false),
@@ -242,7 +284,7 @@ fn a_new_generation_counts_from_nothing(rt: HostRuntime) {
         ),
         pair(7, quiet, counted(2, 2, [0, 1, 1]), counted(1, 0, [0, 0, 3])),
     ];
-    assert!(rt; plays(rt.alloc(), 10, &rows, &[], &[]) == Ok((rows.len(), true)));
+    assert!(rt; plays(rt.alloc(), 10, &THREE, &rows, &[], &[]) == Ok((rows.len(), true)));
 }
 
 #[test]
@@ -250,13 +292,63 @@ fn all_ends_meet_between_cycles(rt: HostRuntime) {
     let rows = [
         pushes(Command::MixWrite, 1),
         done(Step::Meet),
-        done(Step::Put { count: 3 }),
+        done(Step::Put {
+            word: ONE,
+            count: 3,
+        }),
         mixes(HEARD, empty_report(1)),
         done(Step::Meet),
-        done(Step::Put { count: 3 }),
+        done(Step::Put {
+            word: ONE,
+            count: 3,
+        }),
         mixes(HEARD, empty_report(2)),
         done(Step::Meet),
         is(Step::Ack, true),
     ];
-    assert!(rt; plays(rt.alloc(), 2, &rows, &[], &[]) == Ok((rows.len(), true)));
+    assert!(rt; plays(rt.alloc(), 2, &THREE, &rows, &[], &[]) == Ok((rows.len(), true)));
+}
+
+// Whether tracks that write one frame each, at these gains, are heard as one frame.
+fn heard_as(
+    alloc: Global,
+    words: &[u32],
+    gains: u32,
+    left: i16,
+    right: i16,
+) -> Result<bool, Memory> {
+    let (mut sizes, mut rows) = (Vec::new(alloc), Vec::new(alloc));
+    let mut report = empty_report(1);
+    for (slot, word) in (1..SLOTS).zip(words.iter()) {
+        let track = slot.saturating_sub(1);
+        sizes.push(THREE[0])?;
+        rows.push(done(Step::Gains { track, word: gains }))?;
+        rows.push(writes(track, *word, 1))?;
+        rows.push(attaches((slot & 31) as u32, (track & 31) as u32))?;
+        if let Some(report) = report.slots.get_mut(slot) {
+            *report = counted(1, 1, [0, 1, 0]);
+        }
+    }
+    rows.push(pushes(Command::MixWrite, 1))?;
+    let out = [Frame { left, right }, SILENCE, SILENCE, SILENCE];
+    rows.push(mixes(out, report))?;
+    let found = plays(alloc, 1, &sizes, &rows, &[], &[])?;
+    Ok(found == (rows.len(), true))
+}
+
+fn word(left: i16, right: i16) -> u32 {
+    Frame { left, right }.pack()
+}
+
+#[test]
+fn takes_are_summed_and_clamped_once(rt: HostRuntime) {
+    let unity = 0x1000_1000;
+    let (high, low) = (word(32767, -32768), word(-32767, 0));
+    let alloc = rt.alloc();
+    assert!(rt; heard_as(alloc, &[high, high], unity, 32767, -32768) == Ok(true));
+    assert!(rt; heard_as(alloc, &[high, high, low], unity, 32767, -32768) == Ok(true));
+    assert!(rt; heard_as(alloc, &[word(1, -1)], 0x0800_0800, 0, -1) == Ok(true));
+    assert!(rt; heard_as(alloc, &[word(1000, 1000)], 0xffff_1001, 1000, 1000) == Ok(true));
+    let full = [word(-32768, 32767); SLOTS - 1];
+    assert!(rt; heard_as(alloc, &full, unity, -32768, 32767) == Ok(true));
 }

@@ -1,8 +1,10 @@
 //! One cycle: a poll, and then the mix.
 ghost use Rattle.std.specs.Prelude.{◌≡◌, ◌+◌, ◌*◌, ◌≤◌, true, false, length};
+ghost use Rattle.af_base.specs.Log.{slots};
 ghost use Rattle.af_model.specs.Cycles.{cycle_of, is_mixed};
 ghost use Rattle.af_fast.specs.Mixer.{IsInOrder, IsLinked, MixerState, is_over};
 ghost use Rattle.af_fast.specs.Mixing.{Adopts, MixesOnce};
+ghost use Rattle.af_fast.specs.Tracks.{tracks_of};
 
 use crate::mixer::FastMixer;
 use crate::slots::still_entry;
@@ -41,7 +43,7 @@ impl FastMixer {
         self.exited || self.log.len() == self.cycles
     }
 
-    /// Polls once, and adopts a new state with its items. It does nothing where Exit was answered or the log is full. At most nine steps.
+    /// Polls once, and adopts a new state with its items. It does nothing where Exit was answered or the log is full. At most two steps.
     ///
     /// It comes first, and then after each mix.
     pub fn adopt<L: Ledger>(&mut self, links: &Links<'_>, steps: &mut Steps<L>)
@@ -51,7 +53,7 @@ impl FastMixer {
         ensures linked { IsLinked links.now self.new }
         ensures order { IsInOrder self.new }
         ensures adopts { Adopts self.old self.new }
-        ensures steps { steps.new ≤ steps.old + 9 }
+        ensures steps { steps.new ≤ steps.old + 2 }
     {
         let over = self.is_over();
         self.adopted = true;
@@ -63,7 +65,7 @@ impl FastMixer {
 
     /// The rest of the cycle, with the state adopted: Exit where it was answered before, else Spent where the log is full, and both leave all as it was. Else one entry is added to the log, and the report after it is stored.
     ///
-    /// The entry is Idle where nothing was pushed. By the state's command it is Exit, or Cold where its cold generation wasn't performed yet, or Mixed for MixWrite, and else Idle. Only Mixed writes `out`, which has the frames of a cycle. At most `8 * frames + 56` steps.
+    /// The entry is Idle where nothing was pushed. By the state's command it is Exit, or Cold where its cold generation wasn't performed yet, or Mixed for MixWrite, and else Idle. Only Mixed writes `out`, which has the frames of a cycle. With m tracks in the state it takes at most `(m + 1) * frames + 7 * m + 4` steps.
     pub fn mix<L: Ledger>(
         &mut self,
         links: &Links<'_>,
@@ -80,7 +82,8 @@ impl FastMixer {
         ensures sizes { (self.new.frames ≡ self.old.frames) × (self.new.cycles ≡ self.old.cycles) }
         ensures mixes { MixesOnce self.old out.old result self.new out.new }
         ensures length { length out.new ≡ length out.old }
-        ensures steps { steps.new ≤ steps.old + 8 * self.old.frames + 56 }
+        ensures steps { let tracks = tracks_of self.old.observer.past.state in steps.new ≤ steps.old + (tracks + 1) * self.old.frames + 7 * tracks + 4 }
+        ensures state { self.new.observer.past ≡ self.old.observer.past }
     {
         self.adopted = false;
         if self.exited {
@@ -104,7 +107,9 @@ impl FastMixer {
         cycle
     }
 
-    /// One cycle: `adopt`, and then `mix`. At most `8 * frames + 65` steps.
+    /// One cycle: `adopt`, and then `mix`.
+    ///
+    /// With m tracks in the state that is then adopted it takes at most `(m + 1) * frames + 7 * m + 6` steps: two for the poll, `frames + 3` for the pipe, `frames + 7` for each track, and one for the report. So it takes at most `8 * frames + 65` for seven tracks, and `32 * frames + 257` for any.
     pub fn cycle<L: Ledger>(
         &mut self,
         links: &Links<'_>,
@@ -121,7 +126,9 @@ impl FastMixer {
         ensures sizes { (self.new.frames ≡ self.old.frames) × (self.new.cycles ≡ self.old.cycles) }
         ensures cycle { (middle : MixerState) × Adopts self.old middle × MixesOnce middle out.old result self.new out.new }
         ensures length { length out.new ≡ length out.old }
-        ensures steps { steps.new ≤ steps.old + 8 * self.old.frames + 65 }
+        ensures steps { let tracks = tracks_of self.new.observer.past.state in steps.new ≤ steps.old + (tracks + 1) * self.old.frames + 7 * tracks + 6 }
+        ensures seven { tracks_of self.new.observer.past.state ≤ 7 → steps.new ≤ steps.old + 8 * self.old.frames + 65 }
+        ensures most { steps.new ≤ steps.old + slots * (self.old.frames + 8) + 1 }
     {
         self.adopt(links, steps);
         self.mix(links, out, steps)

@@ -1,5 +1,5 @@
 //! How the entry of a cycle is made and noted.
-ghost use Rattle.std.specs.Prelude.{◌≡◌, ℕ, ◌+◌, ◌-◌, ◌*◌, ◌<◌, ◌≤◌, ◌^◌, ◌++◌, ◌∷◌, [], Some, if◌then◌else◌, length};
+ghost use Rattle.std.specs.Prelude.{◌≡◌, ℕ, ◌+◌, ◌*◌, ◌<◌, ◌≤◌, ◌^◌, ◌++◌, ◌∷◌, [], Some, if◌then◌else◌, length};
 ghost use Rattle.af_base.specs.Log.{slots, takes_of};
 ghost use Rattle.af_base.specs.Mix.{mix};
 ghost use Rattle.af_model.specs.Cycles.{is_cold, is_exit, cold_of};
@@ -11,6 +11,7 @@ ghost use Rattle.af_fast.specs.Fits.{stream_fits, NamesBlocks};
 ghost use Rattle.af_fast.specs.Mixer.{AreFew};
 ghost use Rattle.af_fast.specs.Mixing.{StoresReport, notes};
 ghost use Rattle.af_fast.specs.Slots.{PlaysSlots, SameEntries};
+ghost use Rattle.af_fast.specs.Tracks.{tracks_of};
 
 use crate::mixer::FastMixer;
 use crate::report::reports_after;
@@ -54,7 +55,7 @@ impl FastMixer {
         ensures log { SameEntries self.old.log self.new.log }
         ensures plays { PlaysSlots self.old.frames self.old.observer.past.number state.now self.old.observer self.new.observer self.old.pipe self.new.pipe self.old.log.frames self.new.log.frames result }
         ensures mixes { out.new ≡ mix (takes_of self.new.log.frames result) (length out.old) }
-        ensures steps { steps.new ≤ steps.old + (self.old.frames + 3) + (slots - 1) * (self.old.frames + 7) }
+        ensures steps { steps.new ≤ steps.old + (self.old.frames + 3) + tracks_of state.now * (self.old.frames + 7) }
     {
         let FastMixer {
             observer,

@@ -15,19 +15,9 @@ pub use mixer::FastMixer;
 #[cfg(test)]
 mod call_tests;
 #[cfg(test)]
-mod latest_tests;
-#[cfg(test)]
-mod link_tests;
-#[cfg(test)]
 mod meeting_tests;
 #[cfg(test)]
 mod plain_tests;
-#[cfg(test)]
-mod queue_hand_tests;
-#[cfg(test)]
-mod queue_tests;
-#[cfg(test)]
-mod queue_threads;
 #[cfg(test)]
 mod run_tests;
 #[cfg(test)]
@@ -36,5 +26,3 @@ mod table_tests;
 mod tests;
 #[cfg(test)]
 mod thread_tests;
-#[cfg(test)]
-mod turn_tests;

@@ -1,58 +1,55 @@
-//! A plain model of a run by the rules alone: lists of frames, counts, and what each cycle shows of them.
-use crate::tests::still;
+//! A plain model of what a table of steps tells, by the rules alone: lists of frames, counts, and what each cycle shows of them.
+use crate::table_tests::{Size, Step, Told, frames_of};
+use crate::tests::{BEFORE, FRAMES, Turned, still};
 use af_base::{
-    Command, Cycle, CycleEntry, FastState, Frame, Memory, Part, SLOTS, Seen, SlotEntry, SlotReport,
-    plain_mix,
+    Command, Cycle, CycleEntry, FastState, FastTrack, Frame, Memory, Part, Push, Report, SLOTS,
+    Seen, SlotEntry, SlotReport, plain_mix,
 };
+use af_client::Wrote;
+use af_link::{first_report, no_slot};
+use af_model::first_state;
 use std::alloc::Global;
 
-/// The frames of a cycle.
-pub(crate) const FRAMES: usize = 5;
-
-/// A track: all frames released, how many of them were consumed, and the words of its block.
+// A track: all frames released, how many of them were consumed, and the words of its block.
 #[derive(Drop)]
-pub(crate) struct PlainTrack {
-    pub base: u32,
-    pub size: u32,
-    pub released: Vec<Frame>,
-    pub flushes: u32,
-    pub gains: u32,
-    /// The rear that was stored out of turn.
-    pub poked: Option<u32>,
+struct PlainTrack {
+    size: Size,
+    released: Vec<Frame>,
+    flushes: u32,
+    gains: u32,
+    // The rear that was stored out of turn.
+    poked: Option<u32>,
     consumed: usize,
     flush_seen: u32,
     shut: Option<(u32, u32)>,
+    underran: bool,
 }
 
-/// The pipe: all frames put, and how many of them were taken.
+// The pipe: all frames put, and how many of them were taken.
 #[derive(Drop)]
-pub(crate) struct PlainPipe {
-    pub put: Vec<Frame>,
+struct PlainPipe {
+    put: Vec<Frame>,
     taken: usize,
 }
 
-/// The mixer: the state adopted and its number, the one before it that an entry used, and what it logged and reported.
+/// All of a run: the tracks and the pipe, the draft and the number of pushes, the state used and the one that the last entry used, and what was logged and reported.
 #[derive(Drop)]
-pub(crate) struct PlainMixer {
-    state: Option<FastState>,
+pub(crate) struct Plain {
+    tracks: Vec<PlainTrack>,
+    pipe: PlainPipe,
+    draft: FastState,
     number: u64,
+    state: Option<FastState>,
     last: Option<FastState>,
     cold: u32,
+    report: Report,
+    pub entries: Vec<CycleEntry>,
     pub frames: Vec<Frame>,
-    pub reports: [SlotReport; SLOTS],
 }
 
 // The low 32 bits of a number.
 fn low(number: usize) -> u32 {
     (number & 0xffff_ffff) as u32
-}
-
-// How many frames a look showed.
-fn count_of(seen: Seen) -> usize {
-    match seen {
-        Seen::Frames { count } => count as usize,
-        _ => 0,
-    }
 }
 
 // So many frames from a place on, or as many of them as there are.
@@ -63,32 +60,49 @@ fn part(frames: &[Frame], from: usize, count: usize) -> &[Frame] {
 
 fn append(frames: &mut Vec<Frame>, more: &[Frame]) -> Result<(), Memory> {
     for frame in more {
-        if frames.push(*frame).is_err() {
-            return Err(Memory);
-        }
+        frames.push(*frame)?;
     }
     Ok(())
 }
 
-impl PlainTrack {
-    /// A track on a block of so many frames.
-    pub(crate) fn new(alloc: Global, size: u32, base: u32) -> PlainTrack {
-        PlainTrack {
-            base,
-            size,
-            released: Vec::new(alloc),
-            flushes: 0,
-            gains: 0x1000_1000,
-            poked: None,
-            consumed: 0,
-            flush_seen: 0,
-            shut: None,
+// The cells of a block of so many frames.
+fn cells_of(frames: u32) -> u32 {
+    let mut cells = 1u32;
+    for _power in 0..16 {
+        if cells < frames {
+            cells = cells.wrapping_mul(2);
         }
     }
+    cells
+}
 
+impl PlainTrack {
     // The word of a position.
     fn word(&self, position: usize) -> u32 {
-        self.base.wrapping_add(low(position))
+        self.size.base.wrapping_add(low(position))
+    }
+
+    fn rear(&self) -> u32 {
+        self.poked.unwrap_or(self.word(self.released.len()))
+    }
+
+    // Writes the first of these frames, up to the last cell.
+    fn write(&mut self, frames: &[Frame]) -> Result<Wrote, Memory> {
+        if self.shut.is_some() {
+            let flags = 4 | u32::from(self.underran);
+            return Ok(Wrote::Dead { flags });
+        }
+        let (front, rear) = (self.word(self.consumed), self.rear());
+        let room = self.size.frames.wrapping_sub(rear.wrapping_sub(front));
+        if room == 0 {
+            return Ok(Wrote::Full { front });
+        }
+        let cells = cells_of(self.size.frames);
+        let last = cells.wrapping_sub(rear & cells.wrapping_sub(1));
+        let count = low(frames.len()).min(room).min(last);
+        append(&mut self.released, part(frames, 0, count as usize))?;
+        let rest = room.wrapping_sub(count);
+        Ok(Wrote::Put { front, count, rest })
     }
 
     // What a look shows, without what it does.
@@ -101,7 +115,7 @@ impl PlainTrack {
         if self.flushes != self.flush_seen {
             return Seen::Flushed { dropped: there };
         }
-        if there > self.size {
+        if there > self.size.frames {
             return Seen::Shut { front, rear };
         }
         if there == 0 {
@@ -109,10 +123,6 @@ impl PlainTrack {
         }
         let count = there.min(FRAMES as u32);
         Seen::Frames { count }
-    }
-
-    fn rear(&self) -> u32 {
-        self.poked.unwrap_or(self.word(self.released.len()))
     }
 
     // The slot of a cycle, with the frames that it takes added to those of the log.
@@ -125,7 +135,9 @@ impl PlainTrack {
                 first = log.len();
                 append(log, part(&self.released, self.consumed, count as usize))?;
                 self.consumed = self.consumed.wrapping_add(count as usize);
+                self.underran = self.underran || count < FRAMES as u32;
             }
+            Seen::Empty => self.underran = true,
             Seen::Flushed { .. } => self.consumed = self.released.len(),
             Seen::Shut { front, rear } => self.shut = Some((front, rear)),
             _ => {}
@@ -166,12 +178,13 @@ impl PlainTrack {
 }
 
 impl PlainPipe {
-    /// An empty pipe.
-    pub(crate) fn new(alloc: Global) -> PlainPipe {
-        PlainPipe {
-            put: Vec::new(alloc),
-            taken: 0,
-        }
+    // Puts the first of these frames, as many as there is room for.
+    fn put(&mut self, frames: &[Frame]) -> Result<(), Memory> {
+        let waiting = self.put.len().wrapping_sub(self.taken);
+        append(
+            &mut self.put,
+            part(frames, 0, 64usize.wrapping_sub(waiting)),
+        )
     }
 
     // The slot of a cycle.
@@ -198,38 +211,43 @@ impl PlainPipe {
 // Whether a state has a track in a slot.
 fn has(state: &Option<FastState>, slot: usize) -> bool {
     match state {
-        Some(state) => slot > 0 && (state.mask >> (slot % 32)) & 1 == 1,
+        Some(state) => slot > 0 && (state.mask >> (slot % SLOTS)) & 1 == 1,
         None => false,
     }
 }
 
-const NO_SLOT: SlotReport = SlotReport {
-    consumed: 0,
-    shut: false,
-    generation: 0,
-    flush_seen: 0,
-    fulls: 0,
-    partials: 0,
-    empties: 0,
-};
-
-impl PlainMixer {
-    /// A mixer to which nothing was pushed.
-    pub(crate) fn new(alloc: Global) -> PlainMixer {
-        PlainMixer {
-            state: None,
+impl Plain {
+    /// A run over blocks of these sizes, of which nothing was done.
+    pub(crate) fn new(alloc: Global, sizes: &[Size]) -> Result<Plain, Memory> {
+        let mut tracks = Vec::new(alloc);
+        for size in sizes {
+            tracks.push(PlainTrack {
+                size: *size,
+                released: Vec::new(alloc),
+                flushes: 0,
+                gains: 0x1000_1000,
+                poked: None,
+                consumed: 0,
+                flush_seen: 0,
+                shut: None,
+                underran: false,
+            })?;
+        }
+        Ok(Plain {
+            tracks,
+            pipe: PlainPipe {
+                put: Vec::new(alloc),
+                taken: 0,
+            },
+            draft: first_state(FRAMES as u32),
             number: 0,
+            state: None,
             last: None,
             cold: 0,
+            report: first_report(),
+            entries: Vec::new(alloc),
             frames: Vec::new(alloc),
-            reports: [NO_SLOT; SLOTS],
-        }
-    }
-
-    /// The next cycle uses this state.
-    pub(crate) fn adopt(&mut self, number: u64, state: FastState) {
-        self.number = number;
-        self.state = Some(state);
+        })
     }
 
     // What the cycle is. A cold idle is performed once.
@@ -248,20 +266,14 @@ impl PlainMixer {
     }
 
     // Plays the slots of a mix into its entry.
-    fn play(
-        &mut self,
-        entry: &mut CycleEntry,
-        tracks: &mut [PlainTrack],
-        pipe: &mut PlainPipe,
-        state: FastState,
-    ) -> Result<(), Memory> {
-        entry.slots[0] = pipe.play(&mut self.frames)?;
+    fn mix_slots(&mut self, entry: &mut CycleEntry, state: FastState) -> Result<(), Memory> {
+        entry.slots[0] = self.pipe.play(&mut self.frames)?;
         entry.scales[0] = 0x1000;
         for slot in 1..SLOTS {
             if !has(&self.state, slot) {
                 continue;
             }
-            let Some(track) = tracks.get_mut(state.slots[slot].track as usize) else {
+            let Some(track) = self.tracks.get_mut(state.slots[slot].track as usize) else {
                 continue;
             };
             entry.slots[slot] = track.play(&mut self.frames)?;
@@ -272,43 +284,29 @@ impl PlainMixer {
     }
 
     // Reports after an entry.
-    fn note(&mut self, entry: &CycleEntry, tracks: &[PlainTrack], state: FastState) {
+    fn note(&mut self, entry: &CycleEntry, state: FastState) {
         for slot in 1..SLOTS {
             if !has(&self.state, slot) {
                 continue;
             }
             let before = match has(&self.last, slot) {
-                true => self.reports[slot],
-                false => NO_SLOT,
+                true => self.report.slots[slot],
+                false => no_slot(),
             };
-            if let Some(track) = tracks.get(state.slots[slot].track as usize) {
+            if let Some(track) = self.tracks.get(state.slots[slot].track as usize) {
                 let generation = state.slots[slot].generation;
-                self.reports[slot] = track.report(generation, entry.slots[slot].seen, before);
+                self.report.slots[slot] = track.report(generation, entry.slots[slot].seen, before);
             }
         }
-    }
-
-    /// The entry of the next cycle.
-    pub(crate) fn cycle(
-        &mut self,
-        tracks: &mut [PlainTrack],
-        pipe: &mut PlainPipe,
-    ) -> Result<CycleEntry, Memory> {
-        let cycle = self.what();
-        let mut entry = still(self.number, cycle);
-        let Some(state) = self.state else {
-            return Ok(entry);
-        };
-        if cycle == Cycle::Mixed {
-            self.play(&mut entry, tracks, pipe, state)?;
-        }
-        self.note(&entry, tracks, state);
         self.last = self.state;
-        Ok(entry)
     }
 
-    /// The mix of an entry.
-    pub(crate) fn mix(&self, alloc: Global, entry: &CycleEntry) -> Result<Vec<Frame>, Memory> {
+    // The mix of an entry, where it is one.
+    fn mix(&self, alloc: Global, entry: &CycleEntry) -> Result<[Frame; FRAMES], Memory> {
+        let mut out = [BEFORE; FRAMES];
+        if entry.cycle != Cycle::Mixed {
+            return Ok(out);
+        }
         let silent = Part {
             frames: &[],
             mono: false,
@@ -318,16 +316,122 @@ impl PlainMixer {
         let mut parts = [silent; SLOTS];
         for slot in 0..SLOTS {
             let seen = entry.slots[slot];
-            let count = count_of(seen.seen);
-            if count > 0 {
-                parts[slot] = Part {
-                    frames: part(&self.frames, seen.first, count),
-                    mono: (entry.mono >> slot) & 1 == 1,
-                    gains: seen.gains,
-                    scale: entry.scales[slot],
-                };
-            }
+            parts[slot] = Part {
+                frames: part(&self.frames, seen.first, seen.seen.count() as usize),
+                mono: (entry.mono >> slot) & 1 == 1,
+                gains: seen.gains,
+                scale: entry.scales[slot],
+            };
         }
-        plain_mix(alloc, &parts, FRAMES)
+        let mixed = plain_mix(alloc, &parts, FRAMES)?;
+        if mixed.len() == FRAMES {
+            out.copy_from_slice(&mixed);
+        }
+        Ok(out)
+    }
+
+    // A cycle.
+    fn cycle(&mut self, alloc: Global) -> Result<Turned, Memory> {
+        let cycle = self.what();
+        let mut entry = still(self.number, cycle);
+        if let Some(state) = self.state {
+            if cycle == Cycle::Mixed {
+                self.mix_slots(&mut entry, state)?;
+            }
+            self.note(&entry, state);
+        }
+        self.report.cycle = self.report.cycle.wrapping_add(1);
+        let out = self.mix(alloc, &entry)?;
+        self.entries.push(entry)?;
+        Ok(Turned {
+            cycle,
+            out,
+            report: self.report,
+        })
+    }
+
+    // The draft with a track in a slot, or without one.
+    fn edit(&mut self, slot: u32, track: Option<FastTrack>) {
+        let slot = slot as usize % SLOTS;
+        match track {
+            Some(track) => {
+                let generation = self.draft.slots[slot].generation.wrapping_add(1);
+                self.draft.slots[slot] = track;
+                self.draft.slots[slot].generation = generation;
+                self.draft.mask |= 1 << slot;
+            }
+            None => self.draft.mask &= !(1 << slot),
+        }
+    }
+
+    // Pushes the draft with a command.
+    fn push(&mut self, command: Command) -> Push {
+        if command == Command::ColdIdle && self.draft.command != Command::ColdIdle {
+            self.draft.cold_gen = self.draft.cold_gen.wrapping_add(1);
+        }
+        self.draft.command = command;
+        self.number = self.number.wrapping_add(1);
+        self.state = Some(self.draft);
+        Push::Pushed {
+            number: self.number,
+        }
+    }
+
+    // What a client does.
+    fn track_does(&mut self, track: usize, step: Step) -> Result<Told, Memory> {
+        let Some(track) = self.tracks.get_mut(track) else {
+            return Ok(Told::Done);
+        };
+        match step {
+            Step::Write { word, count, .. } => {
+                let wrote = track.write(part(&frames_of(word), 0, count))?;
+                return Ok(Told::Wrote { wrote });
+            }
+            Step::Gains { word, .. } => track.gains = word,
+            Step::Flush { .. } => track.flushes = track.flushes.wrapping_add(1),
+            Step::Poke { rear, .. } => track.poked = Some(rear),
+            _ => {}
+        }
+        Ok(Told::Done)
+    }
+
+    /// Makes a step, and answers what it is to tell, where each push is followed by a cycle.
+    pub(crate) fn does(&mut self, alloc: Global, step: Step) -> Result<Told, Memory> {
+        match step {
+            Step::Attach {
+                slot,
+                track,
+                mono,
+                scale,
+            } => {
+                let generation = 0;
+                let track = FastTrack {
+                    generation,
+                    track,
+                    mono,
+                    scale,
+                };
+                self.edit(slot, Some(track));
+            }
+            Step::Detach { slot } => self.edit(slot, None),
+            Step::Push { command } => {
+                let push = self.push(command);
+                return Ok(Told::Pushed { push });
+            }
+            Step::Write { track, .. }
+            | Step::Gains { track, .. }
+            | Step::Flush { track }
+            | Step::Poke { track, .. } => return self.track_does(track, step),
+            Step::Put { word, count } => {
+                self.pipe.put(part(&frames_of(word), 0, count))?;
+                return Ok(Told::Done);
+            }
+            Step::Cycle => {
+                let turned = self.cycle(alloc)?;
+                return Ok(Told::Turned { turned });
+            }
+            _ => {}
+        }
+        Ok(Told::Is { so: true })
     }
 }

@@ -1,262 +1,164 @@
-//! Seven tracks and the pipe over 200 cycles, each compared with the plain model.
-ghost use Rattle.std.specs.Prelude.{◌≡◌, ◌+◌, ◌<◌, ◌≤◌, false, length, IfOk};
-ghost use Rattle.af_cblk.specs.Sides.{client_made, server_made};
-ghost use Rattle.af_client.specs.Order.{IsInOrder as IsClientInOrder};
-ghost use Rattle.af_link.specs.PipeEnds.{in_made};
-ghost use Rattle.af_server.specs.Order.{IsInOrder as IsServerInOrder};
-ghost use Rattle.af_fast.specs.Fits.{NamesBlocks};
-ghost use Rattle.af_fast.specs.Ready.{IsReady, IsLine, AreClientsOf, AreStreamsOf};
-
-use crate::plain_tests::{FRAMES, PlainTrack};
-use crate::tests::{BEFORE, Ends, Pushing, attach, begin, detach, push_command};
-use crate::turn_tests::{Plain, clients_turn, pipe_turn};
-use af_base::{Command, Cycle, FastLog, Frame, Memory, Push, Report, Steps};
-use af_cblk::Block;
-use af_client::Client;
-use af_link::Links;
-use af_model::mix_entry;
-use af_server::Server;
+//! A track in each slot, and the pipe, over 200 cycles, each compared with the plain model.
+use crate::plain_tests::Plain;
+use crate::table_tests::{Row, Size, Step, plays};
+use af_base::{Command, Memory, SLOTS};
 use std::alloc::Global;
-use std::marker::Brand;
-use std::sync::ledger::{Blank, Ledger};
 use std::test::*;
 
 const CYCLES: u32 = 200;
 
-const TRACKS: usize = 7;
+// One track for each slot but the submix.
+const TRACKS: usize = SLOTS - 1;
 
-// The proxy of slot 2 comes back, and is attached again: mono, at a scale of its own.
-fn attach_again(mutator: &mut Pushing, links: &Links<'_>)
-    requires idle { mutator.old.editing ≡ false }
-    requires names { NamesBlocks mutator.old.past.key links.now.streams.now }
-    ensures same { (mutator.new.past ≡ mutator.old.past) × (mutator.new.editing ≡ false) }
-{
-    let track = mutator.draft().slots[2].track;
-    if let Some(server) = mutator.take_back(2) {
-        attach(mutator, links, 2, true, 0x0abc, track, server);
-    }
-}
+// Blocks of odd sizes, of which some wrap: their frames, and their first positions.
+const SIZES: [(u32, u32); 7] = [
+    (5, 0),
+    (7, 0xffff_ffff),
+    (9, 3),
+    (11, 0x7fff_fffb),
+    (13, 0xffff_ff9c),
+    (3, 1),
+    (17, 0xffff_fc18),
+];
 
-// What the mutator does before a cycle. The model adopts what is pushed.
-fn mutator_turn<L: Ledger>(
-    mutator: &mut Pushing,
-    links: &Links<'_>,
-    plain: &mut Plain,
-    cycle: u32,
-    steps: &mut Steps<L>,
-)
-    requires idle { mutator.old.editing ≡ false }
-    requires names { NamesBlocks mutator.old.past.key links.now.streams.now }
-    requires queue { mutator.old.past.queue ≡ links.now.queue.now }
-    requires few { mutator.old.past.number < 1000000 }
-    ensures idle { mutator.new.editing ≡ false }
-    ensures same { (mutator.new.past.queue ≡ mutator.old.past.queue) × (mutator.new.past.key ≡ mutator.old.past.key) }
-    ensures few { mutator.new.past.number ≤ mutator.old.past.number + 1 }
-{
-    if cycle == 60 {
-        detach(mutator, 2);
-    }
-    if cycle == 70 {
-        mutator.acked(links.queue, steps);
-        attach_again(mutator, links);
-    }
-    let command = match cycle {
-        0..5 => return,
-        120..125 => Command::ColdIdle,
-        140..143 => Command::Mix,
-        150..160 => Command::ColdIdle,
-        _ => Command::MixWrite,
-    };
-    let push = push_command(mutator, links, command, steps);
-    if let Push::Pushed { number } = push {
-        plain.mixer.adopt(number, *mutator.draft());
-    }
-}
+const SCALES: [u16; 7] = [0x1000, 0x0e00, 0x0c01, 0x0a02, 0x0803, 0x0604, 0];
 
-// What a cycle answered and wrote, with the report after it.
+// A run as it is made: what each step is to tell by the model, and the source of what the parties do.
 #[derive(Drop)]
-struct Heard {
-    cycle: Cycle,
-    out: [Frame; FRAMES],
-    report: Report,
+struct Run {
+    alloc: Global,
+    rows: Vec<Row>,
+    plain: Plain,
+    seed: u32,
 }
 
-// Whether a log has so many entries and these frames, and its last entry has this mix by its definition.
-fn is_mix(log: &FastLog, count: usize, frames: &[Frame], out: &[Frame; FRAMES]) -> bool {
-    let last = log.len().saturating_sub(1);
-    let mut mixed = [BEFORE; FRAMES];
-    let Some(entry) = log.entry(last) else {
-        return false;
+impl Run {
+    // The next number.
+    fn draw(&mut self) -> u32 {
+        self.seed = self
+            .seed
+            .wrapping_mul(1_664_525)
+            .wrapping_add(1_013_904_223);
+        self.seed >> 16
+    }
+
+    // A word whose samples are any.
+    fn word(&mut self) -> u32 {
+        self.draw() << 16 | self.draw()
+    }
+
+    fn does(&mut self, step: Step) -> Result<(), Memory> {
+        let told = self.plain.does(self.alloc, step)?;
+        self.rows.push((step, told))?;
+        Ok(())
+    }
+
+    // Attaches a track to the slot after its number.
+    fn attaches(&mut self, track: usize, mono: bool, scale: u16) -> Result<(), Memory> {
+        self.does(Step::Attach {
+            slot: (track & 31) as u32 + 1,
+            track: (track & 31) as u32,
+            mono,
+            scale,
+        })
+    }
+
+    // What a client does before a cycle: it may write, set gains and flush. Two clients store a rear out of turn, each once.
+    fn client(&mut self, track: usize, cycle: u32) -> Result<(), Memory> {
+        let pokes = track == 3 && cycle == 100 || track == 30 && cycle == 110;
+        if self.draw() % 8 < 7 {
+            let count = 1 + self.draw() as usize % 8;
+            let word = self.word();
+            self.does(Step::Write { track, word, count })?;
+        }
+        if self.draw() % 8 == 0 {
+            let word = self.word() & 0x1fff_1fff;
+            self.does(Step::Gains { track, word })?;
+        }
+        if self.draw() % 16 == 0 && !pokes {
+            self.does(Step::Flush { track })?;
+        }
+        if pokes {
+            let rear = SIZES[track % 7].1.wrapping_add(1_000_000);
+            self.does(Step::Poke { track, rear })?;
+        }
+        Ok(())
+    }
+
+    // What the mutator does before a cycle. The proxies of slots 2 and 31 come back, and are attached again: mono, at a scale of their own.
+    fn mutator(&mut self, cycle: u32) -> Result<(), Memory> {
+        match cycle {
+            60 => self.does(Step::Detach { slot: 2 })?,
+            62 => self.does(Step::Detach { slot: 31 })?,
+            70 => {
+                self.does(Step::Ack)?;
+                self.does(Step::TakeBack { slot: 2 })?;
+                self.does(Step::TakeBack { slot: 31 })?;
+                self.attaches(1, true, 0x0abc)?;
+                self.attaches(30, true, 0x0abc)?;
+            }
+            _ => {}
+        }
+        let command = match cycle {
+            0..5 => return Ok(()),
+            120..125 => Command::ColdIdle,
+            140..143 => Command::Mix,
+            150..160 => Command::ColdIdle,
+            _ => Command::MixWrite,
+        };
+        self.does(Step::Push { command })
+    }
+
+    // A cycle, with what is done before it.
+    fn cycle(&mut self, cycle: u32) -> Result<(), Memory> {
+        for track in 0..TRACKS {
+            self.client(track, cycle)?;
+        }
+        let (word, count) = (self.word(), self.draw() as usize % 8);
+        self.does(Step::Put { word, count })?;
+        self.mutator(cycle)?;
+        self.does(Step::Cycle)
+    }
+}
+
+// Blocks for all tracks.
+fn sizes(alloc: Global) -> Result<Vec<Size>, Memory> {
+    let mut sizes = Vec::new(alloc);
+    for track in 0..TRACKS {
+        let (frames, base) = SIZES[track % 7];
+        sizes.push(Size { frames, base })?;
+    }
+    Ok(sizes)
+}
+
+// Whether each step of the run told what the model does.
+fn runs(alloc: Global) -> Result<bool, Memory> {
+    let sizes = sizes(alloc)?;
+    let mut run = Run {
+        alloc,
+        rows: Vec::new(alloc),
+        plain: Plain::new(alloc, &sizes)?,
+        seed: 1,
     };
-    if entry.cycle == Cycle::Mixed {
-        mix_entry(log, last, &mut mixed);
+    for track in 0..TRACKS {
+        run.attaches(track, track % 2 == 1, SCALES[track % 7])?;
     }
-    log.len() == count && log.frames() == frames && mixed == *out
-}
-
-// Whether a cycle was that of the model.
-fn is_right(
-    alloc: Global,
-    plain: &mut Plain,
-    log: &FastLog,
-    heard: &Heard,
-) -> Result<bool, Memory> {
-    let Plain {
-        tracks,
-        pipe,
-        mixer,
-        ..
-    } = plain;
-    let entry = mixer.cycle(tracks, pipe)?;
-    let count = log.len();
-    let mut out = [BEFORE; FRAMES];
-    if entry.cycle == Cycle::Mixed {
-        let mixed = mixer.mix(alloc, &entry)?;
-        for i in 0..FRAMES.min(mixed.len()) {
-            out[i] = mixed[i];
-        }
-    }
-    Ok(
-        entry.cycle == heard.cycle
-            && log.entry(count.saturating_sub(1)) == Some(&entry)
-            && out == heard.out
-            && heard.report.cycle == count as u64
-            && heard.report.slots == mixer.reports,
-    )
-}
-
-// Makes a cycle, and compares it with that of the model.
-fn cycle_turn<L: Ledger>(
-    alloc: Global,
-    links: &Links<'_>,
-    ends: &mut Ends,
-    plain: &mut Plain,
-    count: usize,
-    steps: &mut Steps<L>,
-) -> Result<bool, Memory>
-    requires ready { IsReady links.now 5 ends.old.mutator ends.old.mixer ends.old.reader }
-    ensures ready { IsReady links.now 5 ends.new.mutator ends.new.mixer ends.new.reader }
-    ensures same { (ends.new.mutator ≡ ends.old.mutator) × (ends.new.pipe ≡ ends.old.pipe) }
-{
-    let mut out = [BEFORE; FRAMES];
-    let cycle = ends.mixer.cycle(links, &mut out, steps);
-    let report = ends.reader.load(links.report, steps);
-    let heard = Heard { cycle, out, report };
-    let log = ends.mixer.log();
-    let right = is_right(alloc, plain, log, &heard)?;
-    Ok(right && is_mix(log, count, &plain.mixer.frames, &out))
-}
-
-// All cycles. It answers the first one that wasn't right, if there is one.
-fn run<L: Ledger>(
-    alloc: Global,
-    links: &Links<'_>,
-    mut ends: Ends,
-    clients: &mut [Client; TRACKS],
-    mut plain: Plain,
-    steps: &mut Steps<L>,
-) -> Result<Option<u32>, Memory>
-    requires ready { IsReady links.now 5 ends.mutator ends.mixer ends.reader }
-    requires none { ends.mutator.past.number ≡ 0 }
-    requires pipe { in_made ends.pipe ≡ links.now.pipe.now }
-    requires clients { AreClientsOf links.now.streams.now clients.old }
-{
     for cycle in 0..CYCLES {
-        let wrote = clients_turn(links.streams, clients, &mut plain, cycle, steps)?;
-        pipe_turn(links, &mut ends.pipe, &mut plain, steps)?;
-        mutator_turn(&mut ends.mutator, links, &mut plain, cycle, steps);
-        let count = cycle as usize + 1;
-        let right = cycle_turn(alloc, links, &mut ends, &mut plain, count, steps)?;
-        if !wrote || !right {
-            return Ok(Some(cycle));
-        }
+        run.cycle(cycle)?;
     }
-    Ok(None)
-}
-
-// A block of so many frames with its proxies, and the model of its track.
-fn track(
-    alloc: Global,
-    tracks: &mut Vec<PlainTrack>,
-    frames: u32,
-    base: u32,
-) -> Result<(Block, Client, Server), Memory>
-    requires frames { (1 ≤ frames) × (frames ≤ 65536) }
-    ensures client { IfOk result (λ r. (client_made r.1.pass ≡ r.0) × IsClientInOrder r.1) }
-    ensures server { IfOk result (λ r. (server_made r.2.pass ≡ r.0) × IsServerInOrder r.2) }
-{
-    let (block, client, server) = Block::make(alloc, frames, base)?;
-    tracks.push(PlainTrack::new(alloc, frames, base))?;
-    let client = Client::with(client, &block);
-    let server = Server::with(server, &block);
-    Ok((block, client, server))
-}
-
-// A block, its client and its server.
-type Line = (Block, Client, Server);
-
-// The first four lines, of odd sizes, of which two wrap.
-fn first_lines(
-    alloc: Global,
-    tracks: &mut Vec<PlainTrack>,
-) -> Result<(Line, Line, Line, Line), Memory>
-    ensures lines { IfOk result (λ r. IsLine r.0 × IsLine r.1 × IsLine r.2 × IsLine r.3) }
-{
-    let a = track(alloc, tracks, 5, 0)?;
-    let b = track(alloc, tracks, 7, 0xffff_ffff)?;
-    let c = track(alloc, tracks, 9, 3)?;
-    let d = track(alloc, tracks, 11, 0x7fff_fffb)?;
-    Ok((a, b, c, d))
-}
-
-// The last three.
-fn last_lines(alloc: Global, tracks: &mut Vec<PlainTrack>) -> Result<(Line, Line, Line), Memory>
-    ensures lines { IfOk result (λ r. IsLine r.0 × IsLine r.1 × IsLine r.2) }
-{
-    let a = track(alloc, tracks, 13, 0xffff_ff9c)?;
-    let b = track(alloc, tracks, 3, 1)?;
-    let c = track(alloc, tracks, 17, 0xffff_fc18)?;
-    Ok((a, b, c))
-}
-
-// The proxies of the seven tracks are attached to the slots, mono and stereo, at several scales.
-fn attach_all(mutator: &mut Pushing, links: &Links<'_>, servers: [Server; TRACKS])
-    requires idle { mutator.old.editing ≡ false }
-    requires names { NamesBlocks mutator.old.past.key links.now.streams.now }
-    requires streams { AreStreamsOf links.now.streams.now 0 servers }
-    ensures same { (mutator.new.past ≡ mutator.old.past) × (mutator.new.editing ≡ false) }
-{
-    let [a, b, c, d, e, f, g] = servers;
-    attach(mutator, links, 1, false, 0x1000, 0, a);
-    attach(mutator, links, 2, true, 0x0e00, 1, b);
-    attach(mutator, links, 3, false, 0x0c01, 2, c);
-    attach(mutator, links, 4, true, 0x0a02, 3, d);
-    attach(mutator, links, 5, false, 0x0803, 4, e);
-    attach(mutator, links, 6, true, 0x0604, 5, f);
-    attach(mutator, links, 7, false, 0, 6, g);
-}
-
-// The run over seven new blocks.
-fn runs_in<L: Ledger>(alloc: Global, blank: Blank) -> Result<Option<u32>, Memory>
-    requires name { blank.name ≡ L.name }
-    requires parts { (blank.parts ≡ L.parts) × (0 < blank.parts) }
-{
-    let mut steps = Steps::<L>::start(blank);
-    let mut tracks = Vec::new(alloc);
-    let (a, b, c, d) = first_lines(alloc, &mut tracks)?;
-    let (e, f, g) = last_lines(alloc, &mut tracks)?;
-    let streams = [a.0, b.0, c.0, d.0, e.0, f.0, g.0];
-    let mut clients = [a.1, b.1, c.1, d.1, e.1, f.1, g.1];
-    let servers = [a.2, b.2, c.2, d.2, e.2, f.2, g.2];
-    let (shared, mut ends) = begin(alloc, &streams, CYCLES as usize, FRAMES)?;
-    let links = shared.links(&streams);
-    attach_all(&mut ends.mutator, &links, servers);
-    let plain = Plain::new(alloc, tracks);
-    run(alloc, &links, ends, &mut clients, plain, &mut steps)
+    let plain = &run.plain;
+    let found = plays(
+        alloc,
+        CYCLES as usize,
+        &sizes,
+        &run.rows,
+        &plain.entries,
+        &plain.frames,
+    )?;
+    Ok(found == (run.rows.len(), true))
 }
 
 #[test]
 fn a_long_run_is_that_of_the_plain_model(rt: HostRuntime) {
-    let found = runs_in::<Brand>(rt.alloc(), Blank::new(1));
-    assert!(rt; found == Ok(None));
+    assert!(rt; runs(rt.alloc()) == Ok(true));
 }

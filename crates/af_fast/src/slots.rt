@@ -1,5 +1,5 @@
 //! What a cycle does with all slots of a mix.
-ghost use Rattle.std.specs.Prelude.{◌≡◌, suc, ◌+◌, ◌-◌, ◌*◌, ◌<◌, ◌≤◌, ◌^◌, true, false, length, slice_set};
+ghost use Rattle.std.specs.Prelude.{◌≡◌, suc, ◌+◌, ◌*◌, ◌<◌, ◌≤◌, ◌^◌, true, false, length, slice_set};
 ghost use Rattle.af_base.specs.Log.{slots};
 ghost use Rattle.af_model.specs.Cycles.{is_mono, mix_scale, mono_marks, still_entry};
 ghost use Rattle.af_base.specs.declared.log.SlotEntry.{SlotEntry};
@@ -8,6 +8,7 @@ ghost use Rattle.af_stateq.specs.Observes.{InOrder};
 ghost use Rattle.af_fast.specs.Fits.{stream_fits, NamesBlocks};
 ghost use Rattle.af_link.specs.PipeEnds.{out_made};
 ghost use Rattle.af_fast.specs.Slots.{IsMarked, LogsPipe, LogsSlot, PlaysSlots, SameEntries};
+ghost use Rattle.af_fast.specs.Tracks.{tracks_of};
 
 use crate::held::log_held;
 use crate::submix::play_pipe;
@@ -130,6 +131,7 @@ fn play_slot<L: Ledger>(
     ensures rests { carries state.now slot ≡ false → (observer.new ≡ observer.old) × (log.new.frames ≡ log.old.frames) × (entry.new ≡ entry.old) }
     ensures log { SameEntries log.old log.new }
     ensures steps { steps.new ≤ steps.old + length buffer.old + 7 }
+    ensures none { carries state.now slot ≡ false → steps.new ≡ steps.old }
 {
     if !carries_item(state, slot) {
         return;
@@ -158,7 +160,7 @@ pub(crate) fn play_slots<L: Ledger>(
     ensures made { out_made pipe.new ≡ links.now.pipe.now }
     ensures log { SameEntries log.old log.new }
     ensures plays { PlaysSlots (length buffer.old) observer.old.past.number state.now observer.old observer.new pipe.old pipe.new log.old.frames log.new.frames result }
-    ensures steps { steps.new ≤ steps.old + (length buffer.old + 3) + (slots - 1) * (length buffer.old + 7) }
+    ensures steps { steps.new ≤ steps.old + (length buffer.old + 3) + tracks_of state.now * (length buffer.old + 7) }
 {
     let mut entry = marked_entry(observer.number(), state);
     entry.slots[0] = log_pipe(pipe, log, links.pipe, buffer, steps);

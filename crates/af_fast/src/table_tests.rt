@@ -3,47 +3,90 @@ ghost use Rattle.std.specs.Prelude.{◌≡◌, ◌+◌, ◌<◌, ◌≤◌, ◌^
 ghost use Rattle.af_client.specs.Order.{IsClientOf};
 ghost use Rattle.af_link.specs.Names.{IsStreamOf};
 ghost use Rattle.af_link.specs.PipeEnds.{in_made};
-ghost use Rattle.af_fast.specs.Ready.{AreClientsOf, AreWaiting, IsLine, IsTable};
+ghost use Rattle.af_fast.specs.Ready.{AreClientsOf, AreLines, AreWaiting, IsLine, IsTable};
 
-use crate::tests::{Ends, Pushing, Turned, attach, begin, detach, log_is, push_command, turn};
-use af_base::{Command, CycleEntry, Frame, Memory, Push, Steps};
+use crate::tests::{
+    BEFORE, Ends, FRAMES, Pushing, Turned, attach, begin, detach, log_is, push_command, turn,
+};
+use af_base::{Command, Cycle, CycleEntry, FastLog, Frame, Memory, Push, SLOTS, Steps};
 use af_cblk::Block;
-use af_client::Client;
+use af_client::{Client, Wrote};
 use af_link::{Links, PipeIn};
+use af_model::mix_entry;
 use af_server::Server;
 use std::alloc::Global;
 use std::marker::Brand;
 use std::sync::ledger::{Blank, Ledger};
 
-/// The frames that are written and put, of which each step takes the first ones.
-pub(crate) const SIX: [Frame; 6] = [
-    Frame { left: 1, right: 1 },
-    Frame { left: 2, right: 2 },
-    Frame { left: 3, right: 3 },
-    Frame { left: 4, right: 4 },
-    Frame { left: 5, right: 5 },
-    Frame { left: 6, right: 6 },
-];
+/// The first eight multiples of a word, as frames.
+pub(crate) fn frames_of(word: u32) -> [Frame; 8] {
+    let mut frames = [BEFORE; 8];
+    let mut next = 0u32;
+    for frame in frames.iter_mut() {
+        next = next.wrapping_add(word);
+        *frame = Frame::unpack(next);
+    }
+    frames
+}
 
-/// What a test does next. The tracks are 0, 1 and 2, each with a block of eight frames.
+/// The frames of a block, and its first position.
+#[derive(Clone, Copy)]
+pub(crate) struct Size {
+    pub frames: u32,
+    pub base: u32,
+}
+
+/// Three blocks of eight frames.
+pub(crate) const THREE: [Size; 3] = [Size { frames: 8, base: 0 }; 3];
+
+/// What a test does next. Frames are the first so many multiples of a word.
 #[derive(Clone, Copy)]
 pub(crate) enum Step {
     /// Attaches the proxy of a track, if it is with the test and the slot is free.
-    Attach { slot: u32, track: u32 },
-    Detach { slot: u32 },
-    /// Takes the proxy of a slot back, and drops it.
-    TakeBack { slot: u32 },
+    Attach {
+        slot: u32,
+        track: u32,
+        mono: bool,
+        scale: u16,
+    },
+    Detach {
+        slot: u32,
+    },
+    /// Takes the proxy of a slot back, from where it may be attached again.
+    TakeBack {
+        slot: u32,
+    },
     /// Sets the command, and pushes.
-    Push { command: Command },
+    Push {
+        command: Command,
+    },
     /// Looks whether the last state was acknowledged.
     Ack,
-    Write { track: usize, count: usize },
-    Flush { track: usize },
-    /// Stores the rear 100.
-    Poke { track: usize },
+    Write {
+        track: usize,
+        word: u32,
+        count: usize,
+    },
+    Gains {
+        track: usize,
+        word: u32,
+    },
+    Flush {
+        track: usize,
+    },
+    /// Stores a rear out of turn.
+    Poke {
+        track: usize,
+        rear: u32,
+    },
     /// Clears DISABLED, and tells the flags before.
-    Clear { track: usize },
-    Put { count: usize },
+    Clear {
+        track: usize,
+    },
+    Put {
+        word: u32,
+        count: usize,
+    },
     Cycle,
     Meet,
 }
@@ -54,6 +97,7 @@ pub(crate) enum Told {
     Done,
     Is { so: bool },
     Pushed { push: Push },
+    Wrote { wrote: Wrote },
     Word { word: u32 },
     Turned { turned: Turned },
 }
@@ -83,6 +127,18 @@ fn take_server(servers: &mut [Option<Server>], streams: &[Block], track: u32) ->
     servers[track].take()
 }
 
+// Gives a proxy to the test.
+fn put_server(servers: &mut [Option<Server>], streams: &[Block], track: u32, server: Server)
+    requires waiting { AreWaiting streams.now servers.old }
+    requires stream { IsStreamOf streams.now track server }
+    ensures waiting { AreWaiting streams.now servers.new }
+{
+    let track = track as usize;
+    if track < servers.len() {
+        servers[track] = Some(server);
+    }
+}
+
 // What a client does on its block.
 fn client_does<L: Ledger>(
     client: &mut Client,
@@ -93,23 +149,24 @@ fn client_does<L: Ledger>(
     requires { IsClientOf block.now client.old }
     ensures { IsClientOf block.now client.new }
 {
+    let _wrap = block.wrap();
     match step {
-        Step::Write { count, .. } if 1 <= count && count <= 6 && client.released() < 1000 => {
-            client.write(block, &SIX[..count], steps);
-            Told::Done
+        Step::Write { word, count, .. } if count >= 1 && client.released() < 100_000 => {
+            let frames = frames_of(word);
+            let wrote = client.write(block, &frames[..count.min(8)], steps);
+            return Told::Wrote { wrote };
         }
-        Step::Flush { .. } if client.flushes() < 1000 => {
+        Step::Gains { word, .. } => client.set_gains(block, word, steps),
+        Step::Flush { .. } if client.flushes() < 60_000 => {
             client.flush(block, steps);
-            Told::Done
         }
-        Step::Poke { .. } => {
-            client.poke(block, 1, 100, steps);
-            Told::Done
+        Step::Poke { rear, .. } => client.poke(block, 1, rear, steps),
+        _ => {
+            let word = client.clear_disabled(block, steps);
+            return Told::Word { word };
         }
-        _ => Told::Word {
-            word: client.clear_disabled(block, steps),
-        },
     }
+    Told::Done
 }
 
 // The same of the client of a track.
@@ -129,13 +186,13 @@ fn track_does<L: Ledger>(
     client_does(&mut clients[track], &streams[track], step, steps)
 }
 
-// Puts so many frames, if there is room.
-fn put_some<L: Ledger>(from: &mut PipeIn, links: &Links<'_>, count: usize, steps: &mut Steps<L>)
+// Puts the first of these frames, as many as there is room for.
+fn put_some<L: Ledger>(from: &mut PipeIn, links: &Links<'_>, frames: &[Frame], steps: &mut Steps<L>)
     requires { in_made from.old ≡ links.now.pipe.now }
     ensures { in_made from.new ≡ links.now.pipe.now }
 {
     let room = from.room(links.pipe, steps) as usize;
-    from.put(links.pipe, &SIX[..count.min(room).min(6)], steps);
+    from.put(links.pipe, &frames[..frames.len().min(room)], steps);
 }
 
 // What the mutator does.
@@ -153,11 +210,8 @@ fn mutator_does<L: Ledger>(
     ensures few { mutator.new.past.number ≤ mutator.old.past.number + 1 }
 {
     match step {
-        Step::Detach { slot } if 1 <= slot && slot < 8 => Told::Is {
+        Step::Detach { slot } if 1 <= slot && slot < SLOTS as u32 => Told::Is {
             so: detach(mutator, slot),
-        },
-        Step::TakeBack { slot } if 1 <= slot && slot < 8 => Told::Is {
-            so: mutator.take_back(slot).is_some(),
         },
         Step::Push { command } => Told::Pushed {
             push: push_command(mutator, links, command, steps),
@@ -170,11 +224,12 @@ fn mutator_does<L: Ledger>(
 
 impl Table {
     // Attaches the proxy of a track.
-    fn attach(&mut self, links: &Links<'_>, slot: u32, track: u32) -> bool
-        requires { IsTable links.now self.old.ends.mutator self.old.ends.mixer self.old.ends.reader self.old.ends.pipe self.old.clients.items self.old.servers.items self.old.pushes }
-        ensures { IsTable links.now self.new.ends.mutator self.new.ends.mixer self.new.ends.reader self.new.ends.pipe self.new.clients.items self.new.servers.items self.new.pushes }
+    fn attach(&mut self, links: &Links<'_>, slot: u32, track: u32, mono: bool, scale: u16) -> bool
+        requires scale { scale ≤ 4096 }
+        requires table { IsTable links.now self.old.ends.mutator self.old.ends.mixer self.old.ends.reader self.old.ends.pipe self.old.clients.items self.old.servers.items self.old.pushes }
+        ensures table { IsTable links.now self.new.ends.mutator self.new.ends.mixer self.new.ends.reader self.new.ends.pipe self.new.clients.items self.new.servers.items self.new.pushes }
     {
-        if slot < 1 || slot > 7 || !self.ends.mutator.is_free(slot) {
+        if slot < 1 || slot >= SLOTS as u32 || !self.ends.mutator.is_free(slot) {
             return false;
         }
         match take_server(&mut self.servers, links.streams, track) {
@@ -182,13 +237,29 @@ impl Table {
                 &mut self.ends.mutator,
                 links,
                 slot,
-                false,
-                0x1000,
+                mono,
+                scale,
                 track,
                 server,
             ),
             None => false,
         }
+    }
+
+    // Takes the proxy of a slot back.
+    fn take_back(&mut self, links: &Links<'_>, slot: u32) -> bool
+        requires { IsTable links.now self.old.ends.mutator self.old.ends.mixer self.old.ends.reader self.old.ends.pipe self.old.clients.items self.old.servers.items self.old.pushes }
+        ensures { IsTable links.now self.new.ends.mutator self.new.ends.mixer self.new.ends.reader self.new.ends.pipe self.new.clients.items self.new.servers.items self.new.pushes }
+    {
+        if slot < 1 || slot >= SLOTS as u32 {
+            return false;
+        }
+        let track = self.ends.mutator.draft().slots[slot as usize].track;
+        let Some(server) = self.ends.mutator.take_back(slot) else {
+            return false;
+        };
+        put_server(&mut self.servers, links.streams, track, server);
+        true
     }
 
     // Makes a step of the mutator.
@@ -223,12 +294,21 @@ impl Table {
         ensures { IsTable links.now self.new.ends.mutator self.new.ends.mixer self.new.ends.reader self.new.ends.pipe self.new.clients.items self.new.servers.items self.new.pushes }
     {
         match step {
-            Step::Attach { slot, track } => Told::Is {
-                so: self.attach(links, slot, track),
+            Step::Attach {
+                slot,
+                track,
+                mono,
+                scale,
+            } => Told::Is {
+                so: self.attach(links, slot, track, mono, scale.min(0x1000)),
+            },
+            Step::TakeBack { slot } => Told::Is {
+                so: self.take_back(links, slot),
             },
             Step::Write { track, .. }
+            | Step::Gains { track, .. }
             | Step::Flush { track }
-            | Step::Poke { track }
+            | Step::Poke { track, .. }
             | Step::Clear { track } => track_does(
                 &mut self.clients,
                 links.streams,
@@ -236,8 +316,9 @@ impl Table {
                 step,
                 steps,
             ),
-            Step::Put { count } => {
-                put_some(&mut self.ends.pipe, links, count, steps);
+            Step::Put { word, count } => {
+                let frames = frames_of(word);
+                put_some(&mut self.ends.pipe, links, &frames[..count.min(8)], steps);
                 Told::Done
             }
             Step::Cycle => Told::Turned {
@@ -252,7 +333,24 @@ impl Table {
     }
 }
 
-// Makes the steps of a table. It answers how many told what they should, and whether the log is right, where entries are given.
+// Whether a cycle wrote the mix of the last entry by its definition, where it mixed.
+fn is_mix(log: &FastLog, told: Told) -> bool {
+    let Told::Turned { turned } = told else {
+        return true;
+    };
+    let last = log.len().saturating_sub(1);
+    let Some(entry) = log.entry(last) else {
+        return turned.cycle != Cycle::Mixed;
+    };
+    if entry.cycle != Cycle::Mixed || turned.cycle != Cycle::Mixed {
+        return turned.cycle != Cycle::Mixed;
+    }
+    let mut mixed = [BEFORE; FRAMES];
+    mix_entry(log, last, &mut mixed);
+    mixed == turned.out
+}
+
+// Makes the steps of a table. It answers how many told what they should, each cycle with the mix of its entry, and whether the log is right, where entries are given.
 fn play_all<L: Ledger>(
     mut table: Table,
     links: &Links<'_>,
@@ -266,43 +364,57 @@ fn play_all<L: Ledger>(
     let mut right = 0;
     for (step, wanted) in rows {
         let told = table.play(links, *step, steps);
-        right += usize::from(told == *wanted);
+        right += usize::from(told == *wanted && is_mix(table.ends.mixer.log(), told));
     }
     let logged = entries.is_empty() || log_is(table.ends.mixer.log(), entries, frames);
     (right, logged)
 }
 
-// A block of eight frames with its proxies.
-fn line(alloc: Global) -> Result<(Block, Client, Server), Memory>
+// A block of some frames with its proxies.
+fn line(alloc: Global, size: Size) -> Result<(Block, Client, Server), Memory>
     ensures { IfOk result IsLine }
 {
-    let (block, client, server) = Block::make(alloc, 8, 0)?;
+    let (block, client, server) = Block::make(alloc, size.frames.max(1).min(65536), size.base)?;
     let client = Client::with(client, &block);
     let server = Server::with(server, &block);
     Ok((block, client, server))
 }
 
-// The same over three new blocks.
+// The blocks of some sizes, their clients and their servers.
+type Lines = (Vec<Block>, Vec<Client>, Vec<Option<Server>>);
+
+fn lines(alloc: Global, sizes: &[Size]) -> Result<Lines, Memory>
+    ensures { IfOk result (λ r. AreLines r.0.items r.1.items r.2.items) }
+{
+    let mut streams = Vec::new(alloc);
+    let mut clients = Vec::new(alloc);
+    let mut servers = Vec::new(alloc);
+    for size in sizes {
+        let (block, client, server) = line(alloc, *size)?;
+        streams.push(block)?;
+        clients.push(client)?;
+        servers.push(Some(server))?;
+    }
+    Ok((streams, clients, servers))
+}
+
+// The same over new blocks.
 fn plays_in<L: Ledger>(
     alloc: Global,
     blank: Blank,
     cycles: usize,
+    sizes: &[Size],
     rows: &[Row],
     entries: &[CycleEntry],
     frames: &[Frame],
 ) -> Result<(usize, bool), Memory>
     requires name { blank.name ≡ L.name }
     requires parts { (blank.parts ≡ L.parts) × (0 < blank.parts) }
-    requires cycles { (1 ≤ cycles) × (cycles ≤ 10) }
+    requires cycles { (1 ≤ cycles) × (cycles ≤ 1000) }
 {
     let mut steps = Steps::<L>::start(blank);
-    let (first, a, x) = line(alloc)?;
-    let (second, b, y) = line(alloc)?;
-    let (third, c, z) = line(alloc)?;
-    let streams = [first, second, third];
-    let clients = Vec::from_array(alloc, [a, b, c])?;
-    let servers = Vec::from_array(alloc, [Some(x), Some(y), Some(z)])?;
-    let (shared, ends) = begin(alloc, &streams, cycles, 4)?;
+    let (streams, clients, servers) = lines(alloc, sizes)?;
+    let (shared, ends) = begin(alloc, &streams, cycles, FRAMES)?;
     let links = shared.links(&streams);
     let table = Table {
         ends,
@@ -313,15 +425,16 @@ fn plays_in<L: Ledger>(
     Ok(play_all(table, &links, rows, entries, frames, &mut steps))
 }
 
-/// Makes the steps of a table, with a mixer of so many entries on four frames a cycle. It answers how many told what they should, and whether the log then has these entries and frames, where entries are given.
+/// Makes the steps of a table over blocks of these sizes, with a mixer of so many entries on four frames a cycle. It answers how many told what they should, and whether the log then has these entries and frames, where entries are given.
 pub(crate) fn plays(
     alloc: Global,
     cycles: usize,
+    sizes: &[Size],
     rows: &[Row],
     entries: &[CycleEntry],
     frames: &[Frame],
 ) -> Result<(usize, bool), Memory>
-    requires { (1 ≤ cycles) × (cycles ≤ 10) }
+    requires { (1 ≤ cycles) × (cycles ≤ 1000) }
 {
-    plays_in::<Brand>(alloc, Blank::new(1), cycles, rows, entries, frames)
+    plays_in::<Brand>(alloc, Blank::new(1), cycles, sizes, rows, entries, frames)
 }

@@ -9,6 +9,7 @@ ghost use Rattle.af_link.specs.PipeEnds.{in_made, out_made};
 ghost use Rattle.af_fast.specs.Fits.{NamesBlocks};
 ghost use Rattle.af_fast.specs.Mixer.{IsInOrder, IsLinked};
 ghost use Rattle.af_fast.specs.Ready.{IsReady};
+ghost use Rattle.af_fast.specs.Tracks.{tracks_of};
 
 use crate::FastMixer;
 use af_base::{
@@ -171,7 +172,7 @@ pub(crate) fn push_command<L: Ledger>(
     mutator.push(links.queue, steps)
 }
 
-/// One cycle of four frames takes at most 97 steps.
+/// One cycle of four frames takes at most 97 steps for seven tracks, and at most 385 for any.
 pub(crate) fn one_cycle<L: Ledger>(
     mixer: &mut FastMixer,
     links: &Links<'_>,
@@ -186,16 +187,20 @@ pub(crate) fn one_cycle<L: Ledger>(
     ensures order { IsInOrder mixer.new }
     ensures turn { mixer.new.adopted ≡ false }
     ensures frames { mixer.new.frames ≡ 4 }
-    ensures steps { steps.new ≤ steps.old + 97 }
+    ensures seven { tracks_of mixer.new.observer.past.state ≤ 7 → steps.new ≤ steps.old + 97 }
+    ensures most { steps.new ≤ steps.old + 385 }
 {
     mixer.cycle(links, out, steps)
 }
 
-/// What a cycle of four frames answered and wrote, and the report after it.
+/// The frames of a cycle of a table.
+pub(crate) const FRAMES: usize = 4;
+
+/// What a cycle of a table answered and wrote, and the report after it.
 #[derive(Clone, Copy, Debug, PartialEq, Eq)]
 pub(crate) struct Turned {
     pub cycle: Cycle,
-    pub out: [Frame; 4],
+    pub out: [Frame; FRAMES],
     pub report: Report,
 }
 

@@ -51,6 +51,8 @@ taken_by s frames =
       frames = s.frames ++ map packed_word frames;
       front = wrapped (s.front + length frames);
       fresh = false;
+      flush_fresh = false;
+      rear_fresh = false;
       loaded = [];
     }
 
@@ -68,6 +70,7 @@ pub record IsPutting (p : ClientPart) (rear room : ℕ) : Type 0 where
 pub record IsTaking (s : ServerPart) (front rear shown : ℕ) : Type 0 where
   pub shape : IsShape s.shape
   pub from_zero : s.shape.base ≡ 0
+  pub flat : s.shape.wrap ≡ 0
   pub list : IsTakeList s.events
   pub settled : s.noticed ≡ false
   pub front_is : front ≡ s.front

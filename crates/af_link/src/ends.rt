@@ -61,7 +61,7 @@ impl Model for PipeOut {
 pub fn pipe(alloc: Global, frames: u32) -> Result<(Block, PipeIn, PipeOut), Memory>
     requires some { 1 ≤ frames }
     requires few { frames ≤ 65536 }
-    ensures size { IfOk result (λ r. (r.0.shape.frames ≡ frames) × (r.0.shape.base ≡ 0) × IsShape r.0.shape) }
+    ensures size { IfOk result (λ r. (r.0.shape.frames ≡ frames) × (r.0.shape.base ≡ 0) × (r.0.shape.wrap ≡ 0) × IsShape r.0.shape) }
     ensures made { IfOk result (λ r. (in_made r.1 ≡ r.0) × (out_made r.2 ≡ r.0)) }
     ensures puts { IfOk result (λ r. (r.1.pass.part ≡ new_client r.0.shape) × (r.1.room ≡ frames)) }
     ensures takes { IfOk result (λ r. (r.2.pass.part ≡ new_server r.0.shape) × (r.2.shown ≡ 0)) }

@@ -1,8 +1,9 @@
 //! How the proxies of one track's block meet.
-ghost use Rattle.std.specs.Prelude.{◌≡◌, ℕ, ◌+◌, true, false, None, List, [], length};
+ghost use Rattle.std.specs.Prelude.{◌≡◌, ◌≢◌, ℕ, ◌+◌, true, false, None, List, [], length};
 ghost use Rattle.af_base.specs.declared.event.HandEvent.{HandEvent};
 ghost use Rattle.af_base.specs.declared.event.ServerEvent.{ServerEvent};
 ghost use Rattle.af_base.specs.declared.event.ServerEvent.TheVariants as server_event;
+ghost use Rattle.af_model.specs.Discards.{DiscardsBefore};
 ghost use Rattle.af_model.specs.History.{is_lawful, HasHistory};
 ghost use Rattle.af_cblk.specs.Parts.{client_met, server_did, hand_met};
 ghost use Rattle.af_cblk.specs.Rule.{StartsWith};
@@ -18,7 +19,7 @@ use std::sync::ledger::Ledger;
 
 /// The client and the server learn what the other has done so far: all of it stands before their own next events. It appends Learn to each list, in five steps, and both proxies stay in order.
 ///
-/// Where the client has not poked, their lists have a history, in which no look of this server was shut, with some hand's list, which is empty where the hand is with the server.
+/// Where the client has not poked, their lists have a history, in which no look of this server was shut, with some hand's list, which is empty where the hand is with the server. On a positional block what a look discarded was released before the flush that it saw, and after it all that was released before that flush is taken or discarded.
 pub fn meet_track<L: Ledger>(
     client: &mut Client,
     server: &mut Server,
@@ -33,6 +34,9 @@ pub fn meet_track<L: Ledger>(
         → (hand : List HandEvent) × (server.old.pass.has_hand ≡ true → hand ≡ [])
         × HasHistory block.now.shape client.new.pass.part.events client.new.pass.part.frames server.new.pass.part.events server.new.pass.part.frames hand }
     ensures unshut { is_lawful client.old.pass.part.events ≡ true → server.new.shut ≡ None }
+    ensures flushed { is_lawful client.old.pass.part.events ≡ true → block.now.shape.wrap ≢ 0
+        → (hand : List HandEvent)
+        × ((h : HasHistory block.now.shape client.new.pass.part.events client.new.pass.part.frames server.new.pass.part.events server.new.pass.part.frames hand) × DiscardsBefore block.now.shape h.order) }
     ensures steps { steps.new ≡ steps.old + 5 }
 {
     server.meet(block, client.pass(), steps);
@@ -61,7 +65,7 @@ pub fn meet_flag<L: Ledger>(
 
 /// It appends what `meet_track` and then `meet_flag` append, in nine steps, and both proxies stay in order.
 ///
-/// Where the client has not poked, the three lists have a history, in which no look of this server was shut.
+/// Where the client has not poked, the three lists have a history, in which no look of this server was shut. On a positional block what a look discarded was released before the flush that it saw, and after it all that was released before that flush is taken or discarded.
 pub fn meet_all<L: Ledger>(
     client: &mut Client,
     server: &mut Server,
@@ -77,6 +81,8 @@ pub fn meet_all<L: Ledger>(
     ensures history { is_lawful client.old.pass.part.events ≡ true
         → HasHistory block.now.shape client.new.pass.part.events client.new.pass.part.frames server.new.pass.part.events server.new.pass.part.frames hand.new.part.events }
     ensures unshut { is_lawful client.old.pass.part.events ≡ true → server.new.shut ≡ None }
+    ensures flushed { is_lawful client.old.pass.part.events ≡ true → block.now.shape.wrap ≢ 0
+        → (h : HasHistory block.now.shape client.new.pass.part.events client.new.pass.part.frames server.new.pass.part.events server.new.pass.part.frames hand.new.part.events) × DiscardsBefore block.now.shape h.order }
     ensures steps { steps.new ≡ steps.old + 9 }
 {
     block.meet_all(client.pass(), server.pass(), hand, steps);

@@ -9,14 +9,14 @@ use Rattle.af_base.specs.declared.seen.Seen.{Seen}
 use Rattle.af_base.specs.declared.seen.Seen.TheVariants as seen
 use Rattle.af_model.specs.declared.shape.Shape.{Shape}
 use Rattle.af_model.specs.declared.point.TrackPoint.{TrackPoint}
-use Rattle.af_model.specs.Point.{wrapped, start, ServerMay, after_server}
+use Rattle.af_model.specs.Point.{wrapped, start, drop_end, ServerMay, after_server}
 use Rattle.af_model.specs.History.{Moment, by_client, by_server, by_hand, client_of, server_of, after, IsLegal, HasHistory, point}
 use Rattle.af_model.specs.Fates.{InTurn}
 use Rattle.af_model.specs.Room.{ahead}
 use Rattle.af_model.specs.ClientCalls.{client_begins, IsClientList}
 use Rattle.af_model.specs.ServerCalls.{ServerKept, server_keeps, server_begins, server_kept, look_at, drops_of, IsServerList, begins, looks, takes, reads_gains, tallies, sets_flags, sets_status, rests, meets}
 use Rattle.af_model.specs.Spelled.{SeesOwn, AllSeeOwn}
-use Rattle.af_model.proofs.Fates.{in_turn}
+use Rattle.af_model.proofs.Fates.{in_turn, drop_low, drop_released}
 use Rattle.af_model.proofs.RoomKept.{AllFit, fit_split, all_fit, room_in}
 use Rattle.af_model.proofs.OneFate.{same_consumed, hand_consumed}
 use Rattle.af_model.proofs.Logic.{ahead-between}
@@ -43,17 +43,17 @@ follow_join : (b : Bool) (xs ys : List ServerEvent) → AllFollow b xs → AllFo
 follow_join b [] ys h t = t
 follow_join b (x ∷ xs) ys h t = (h.0, follow_join (saw_front b x) xs ys h.1 t)
 
-drops_follow : (sight : Seen) (rear : ℕ) → AllFollow true (drops_of sight rear)
-drops_follow seen.Absent rear = tt
-drops_follow (seen.Frames count) rear = tt
-drops_follow seen.Empty rear = tt
-drops_follow (seen.Flushed dropped) rear = (refl, tt)
-drops_follow (seen.Shut front back) rear = tt
+drops_follow : (sight : Seen) (front : ℕ) → AllFollow true (drops_of sight front)
+drops_follow seen.Absent front = tt
+drops_follow (seen.Frames count) front = tt
+drops_follow seen.Empty front = tt
+drops_follow (seen.Flushed dropped) front = (refl, tt)
+drops_follow (seen.Shut back rear) front = tt
 
 all_follow : (shape : Shape) (shown : Option ℕ) (es : List ServerEvent) → IsServerList shape shown es → AllFollow false es
 all_follow shape _ _ begins = tt
 all_follow shape _ _ (looks es shown asked flush rear front before unshut some) =
-    follow_join false es _ (all_follow shape shown es before) (tt, (tt, (tt, drops_follow (look_at shape (server_kept shape es).flush asked flush rear front) rear)))
+    follow_join false es _ (all_follow shape shown es before) (tt, (tt, (tt, drops_follow (look_at shape (server_kept shape es).flush asked flush rear front) front)))
 all_follow shape _ _ (takes es count before) = follow_join false es _ (all_follow shape (Some count) es before) (tt, tt)
 all_follow shape _ _ (reads_gains es shown word before) = follow_join false es _ (all_follow shape shown es before) (tt, tt)
 all_follow shape _ _ (tallies es shown missing before some) = follow_join false es _ (all_follow shape shown es before) (tt, (tt, tt))
@@ -67,10 +67,10 @@ module _ (shape : Shape) (few : shape.frames ≤ 65536) where
     count : shape.base + k.consumed ≡ p.consumed
     front_is : b ≡ true → k.front ≡ wrapped p.consumed
 
-  drop_counts : (front to consumed sofar rear_seen : ℕ) → front ≡ wrapped consumed → to ≡ wrapped rear_seen → consumed ≤ rear_seen → rear_seen ≤ consumed + shape.frames → shape.base + sofar ≡ consumed
-      → shape.base + (sofar + ahead front to) ≡ rear_seen
-  drop_counts front to consumed sofar rear_seen f t low high is =
-      let far : ahead front to ≡ rear_seen - consumed = ap (λ (x : ℕ × ℕ). ahead x.0 x.1) (λ i. (f i, t i)) ∙ ahead-between consumed rear_seen low (omega arith) in
+  drop_counts : (front to consumed sofar end : ℕ) → front ≡ wrapped consumed → to ≡ wrapped end → consumed ≤ end → end ≤ consumed + shape.frames → shape.base + sofar ≡ consumed
+      → shape.base + (sofar + ahead front to) ≡ end
+  drop_counts front to consumed sofar end f t low high is =
+      let far : ahead front to ≡ end - consumed = ap (λ (x : ℕ × ℕ). ahead x.0 x.1) (λ i. (f i, t i)) ∙ ahead-between consumed end low (omega arith) in
       omega arith
 
   no : (k : ServerKept) (p : TrackPoint) → false ≡ true → k.front ≡ wrapped p.consumed
@@ -84,7 +84,7 @@ module _ (shape : Shape) (few : shape.frames ≤ 65536) where
   server_counts k b p others (server.SawFront front) may fit turn room c = record { count = c.count; front_is = (λ _. may) }
   server_counts k b p others (server.Drop to) may fit turn room c =
       record {
-        count = drop_counts k.front to p.consumed k.consumed p.rear_seen (c.front_is fit) may turn.to_seen (let a = turn.to_released in omega arith) c.count;
+        count = drop_counts k.front to p.consumed k.consumed (drop_end p) (c.front_is fit) may (drop_low shape p turn) (let a = drop_released shape p turn in omega arith) c.count;
         front_is = (λ e. absurd (true≢false (sym e)));
       }
   server_counts k b p others (server.Take count) may fit turn room c = record { count = (let a = c.count in omega arith); front_is = (λ e. absurd (true≢false (sym e))) }

@@ -58,5 +58,5 @@ module _ {shape : Shape} {ce : List ClientEvent} {cf : List ℕ} {se : List Serv
   pub mixed-counted : count_with mixed (spans_of shape h.order) ≡ length sf
   mixed-counted =
       let turn : InTurn shape (point h) = in_turn shape h.order h.legal in
-      let all : (point h).consumed ≤ shape.base + length cf = (let a = turn.to_seen in let b = turn.to_released in let r = h.released_is in omega arith) in
+      let all : (point h).consumed ≤ shape.base + length cf = (let a = turn.within in let r = h.released_is in omega arith) in
       sym (ap length (taken-mixed h) ∙ length-mixed_by cf shape.base shape.base (point h).consumed (spans_of shape h.order) (spans_follow shape h.order h.legal) (omega arith) all)

@@ -1,5 +1,5 @@
 -- Where nothing was dropped, what was taken begins what was released.
-use Rattle.std.proofs.Common.{◌≡◌, ℕ, ◌+◌, ◌-◌, ◌≤◌, true, true≢false, ◌&&◌, List, [], ◌∷◌, ◌++◌, take, drop, refl, sym, ap, ◌∙◌, subst, arith, take-add}
+use Rattle.std.proofs.Common.{◌≡◌, ◌≢◌, ℕ, ◌+◌, ◌-◌, ◌≤◌, ◌==◌, if◌then◌else◌, max, Bool, eq-eqb, ne_eqb, eqb-true, false, true, true≢false, ◌&&◌, List, [], ◌∷◌, ◌++◌, take, drop, refl, sym, ap, ◌∙◌, subst, arith, take-add}
 use Rattle.af_base.specs.declared.event.ClientEvent.{ClientEvent}
 use Rattle.af_base.specs.declared.event.ClientEvent.TheVariants as client
 use Rattle.af_base.specs.declared.event.ServerEvent.{ServerEvent}
@@ -8,16 +8,43 @@ use Rattle.af_base.specs.declared.event.HandEvent.{HandEvent}
 use Rattle.af_base.specs.declared.event.HandEvent.TheVariants as hand
 use Rattle.af_model.specs.declared.shape.Shape.{Shape}
 use Rattle.af_model.specs.declared.point.TrackPoint.{TrackPoint}
-use Rattle.af_model.specs.Point.{start, ServerMay, after_client, after_server, after_hand}
+use Rattle.af_model.specs.Point.{start, drop_end, ServerMay, after_client, after_server, after_hand}
 use Rattle.af_model.specs.History.{Moment, by_client, by_server, by_hand, server_of, after, IsLegal, with_taken, taken_of, HasHistory}
 use Rattle.af_model.specs.Fates.{keeps_all, drops_none, InTurn}
 use Rattle.af_model.proofs.Logic.{both_left, both_right, both_are}
 
+-- for wrap 0 a drop consumes all that the last rear showed
+pub drop_flat : (p : TrackPoint) → p.wrap ≡ 0 → drop_end p ≡ p.rear_seen
+drop_flat p flat = ap (λ (b : Bool). if b then p.rear_seen else max p.drop_to p.consumed) (eq-eqb p.wrap 0 flat)
+
+-- and else what was released before the flush that was seen
+pub drop_placed : (p : TrackPoint) → p.wrap ≢ 0 → drop_end p ≡ max p.drop_to p.consumed
+drop_placed p placed = ap (λ (b : Bool). if b then p.rear_seen else max p.drop_to p.consumed) (ne_eqb p.wrap 0 placed)
+
+module _ (shape : Shape) (p : TrackPoint) (t : InTurn shape p) where
+  low_as : (b : Bool) → (p.wrap == 0) ≡ b → p.consumed ≤ (if b then p.rear_seen else max p.drop_to p.consumed)
+  low_as true e = t.to_seen (sym t.wrap_is ∙ eqb-true p.wrap 0 e)
+  low_as false e = omega arith
+
+  -- a drop takes nothing back
+  pub drop_low : p.consumed ≤ drop_end p
+  drop_low = low_as (p.wrap == 0) refl
+
+  high_as : (b : Bool) → (if b then p.rear_seen else max p.drop_to p.consumed) ≤ p.released
+  high_as true = t.to_released
+  high_as false = let a = t.drop_flushed in let b = t.flush_released in let c = t.within in omega arith
+
+  -- nor does it pass what was released
+  pub drop_released : drop_end p ≤ p.released
+  drop_released = high_as (p.wrap == 0)
+
 client_turn : (shape : Shape) (p : TrackPoint) (e : ClientEvent) → InTurn shape p → InTurn shape (after_client p e)
-client_turn shape p (client.Release count) t = record { from_base = t.from_base; to_seen = t.to_seen; to_released = (let a = t.to_released in omega arith) }
-client_turn shape p client.Flush t = record { from_base = t.from_base; to_seen = t.to_seen; to_released = t.to_released }
-client_turn shape p (client.SetGain word) t = record { from_base = t.from_base; to_seen = t.to_seen; to_released = t.to_released }
-client_turn shape p (client.ClearFlags old) t = record { from_base = t.from_base; to_seen = t.to_seen; to_released = t.to_released }
+client_turn shape p (client.Release count) t =
+    record { wrap_is = t.wrap_is; from_base = t.from_base; within = (let a = t.within in omega arith); to_released = (let a = t.to_released in omega arith); flush_released = (let a = t.flush_released in omega arith); drop_flushed = t.drop_flushed; to_seen = t.to_seen }
+client_turn shape p client.Flush t =
+    record { wrap_is = t.wrap_is; from_base = t.from_base; within = t.within; to_released = t.to_released; flush_released = omega arith; drop_flushed = (let a = t.flush_released in let b = t.drop_flushed in omega arith); to_seen = t.to_seen }
+client_turn shape p (client.SetGain word) t = record { wrap_is = t.wrap_is; from_base = t.from_base; within = t.within; to_released = t.to_released; flush_released = t.flush_released; drop_flushed = t.drop_flushed; to_seen = t.to_seen }
+client_turn shape p (client.ClearFlags old) t = record { wrap_is = t.wrap_is; from_base = t.from_base; within = t.within; to_released = t.to_released; flush_released = t.flush_released; drop_flushed = t.drop_flushed; to_seen = t.to_seen }
 client_turn shape p (client.SawFlags flags) t = t
 client_turn shape p (client.SawFront front) t = t
 client_turn shape p (client.SawStatus word) t = t
@@ -26,23 +53,29 @@ client_turn shape p (client.Learn count) t = t
 
 server_turn : (shape : Shape) (others : ℕ) (p : TrackPoint) (e : ServerEvent) → ServerMay p others e → InTurn shape p → InTurn shape (after_server p e)
 server_turn shape others p (server.SawGain word) may t = t
-server_turn shape others p (server.SawFlush flush) may t = record { from_base = t.from_base; to_seen = t.to_seen; to_released = t.to_released }
-server_turn shape others p (server.SawRear rear) may t = record { from_base = t.from_base; to_seen = (let a = t.to_seen in let b = t.to_released in omega arith); to_released = omega arith }
+server_turn shape others p (server.SawFlush flush) may t =
+    record { wrap_is = t.wrap_is; from_base = t.from_base; within = t.within; to_released = t.to_released; flush_released = t.flush_released; drop_flushed = omega arith; to_seen = t.to_seen }
+server_turn shape others p (server.SawRear rear) may t =
+    record { wrap_is = t.wrap_is; from_base = t.from_base; within = t.within; to_released = omega arith; flush_released = t.flush_released; drop_flushed = t.drop_flushed; to_seen = (λ _. t.within) }
 server_turn shape others p (server.SawFront front) may t = t
-server_turn shape others p (server.Drop to) may t = record { from_base = (let a = t.from_base in let b = t.to_seen in omega arith); to_seen = omega arith; to_released = t.to_released }
-server_turn shape others p (server.Take count) may t = record { from_base = (let a = t.from_base in omega arith); to_seen = may; to_released = t.to_released }
-server_turn shape others p (server.Tally missing) may t = record { from_base = t.from_base; to_seen = t.to_seen; to_released = t.to_released }
-server_turn shape others p (server.SetFlags bits) may t = record { from_base = t.from_base; to_seen = t.to_seen; to_released = t.to_released }
-server_turn shape others p (server.SetStatus word) may t = record { from_base = t.from_base; to_seen = t.to_seen; to_released = t.to_released }
+server_turn shape others p (server.Drop to) may t =
+    let low = drop_low shape p t in
+    record { wrap_is = t.wrap_is; from_base = (let a = t.from_base in omega arith); within = drop_released shape p t; to_released = t.to_released; flush_released = t.flush_released; drop_flushed = t.drop_flushed; to_seen = (λ flat. let e = drop_flat p (t.wrap_is ∙ flat) in omega arith) }
+server_turn shape others p (server.Take count) may t =
+    record { wrap_is = t.wrap_is; from_base = (let a = t.from_base in omega arith); within = (let a = t.to_released in omega arith); to_released = t.to_released; flush_released = t.flush_released; drop_flushed = t.drop_flushed; to_seen = (λ _. may) }
+server_turn shape others p (server.Tally missing) may t = record { wrap_is = t.wrap_is; from_base = t.from_base; within = t.within; to_released = t.to_released; flush_released = t.flush_released; drop_flushed = t.drop_flushed; to_seen = t.to_seen }
+server_turn shape others p (server.SetFlags bits) may t = record { wrap_is = t.wrap_is; from_base = t.from_base; within = t.within; to_released = t.to_released; flush_released = t.flush_released; drop_flushed = t.drop_flushed; to_seen = t.to_seen }
+server_turn shape others p (server.SetStatus word) may t = record { wrap_is = t.wrap_is; from_base = t.from_base; within = t.within; to_released = t.to_released; flush_released = t.flush_released; drop_flushed = t.drop_flushed; to_seen = t.to_seen }
 server_turn shape others p (server.Learn count) may t = t
 
 hand_turn : (shape : Shape) (p : TrackPoint) (e : HandEvent) → InTurn shape p → InTurn shape (after_hand p e)
-hand_turn shape p (hand.SetFlags bits) t = record { from_base = t.from_base; to_seen = t.to_seen; to_released = t.to_released }
+hand_turn shape p (hand.SetFlags bits) t = record { wrap_is = t.wrap_is; from_base = t.from_base; within = t.within; to_released = t.to_released; flush_released = t.flush_released; drop_flushed = t.drop_flushed; to_seen = t.to_seen }
 hand_turn shape p (hand.Met client) t = t
 
 -- positions never pass one another
 pub in_turn : (shape : Shape) (order : List Moment) → IsLegal (start shape) order → InTurn shape (after (start shape) order)
-in_turn shape [] h = record { from_base = omega arith; to_seen = omega arith; to_released = omega arith }
+in_turn shape [] h =
+    record { wrap_is = refl; from_base = omega arith; within = omega arith; to_released = omega arith; flush_released = omega arith; drop_flushed = omega arith; to_seen = (λ _. omega arith) }
 in_turn shape (by_client e ∷ order) h = client_turn shape _ e (in_turn shape order h.1)
 in_turn shape (by_server e ∷ order) h = server_turn shape _ _ e h.0 (in_turn shape order h.1)
 in_turn shape (by_hand e ∷ order) h = hand_turn shape _ e (in_turn shape order h.1)

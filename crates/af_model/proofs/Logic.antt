@@ -9,7 +9,7 @@ use Rattle.af_model.specs.declared.shape.Shape.{Shape}
 use Rattle.af_model.specs.Point.{wrapped}
 use Rattle.af_model.specs.Room.{ahead, outside}
 use Rattle.af_model.specs.ClientCalls.{ClientKept, client_keeps}
-use Rattle.af_model.specs.ServerCalls.{ServerKept, server_keeps}
+use Rattle.af_model.specs.ServerCalls.{ServerKept, is_noticed, server_keeps}
 
 -- ## Two tests at once
 
@@ -80,7 +80,7 @@ server_lies : (shape : Shape) (kept : ServerKept) (e : ServerEvent) → LieOutsi
 server_lies shape kept (server.SawGain word) h = h
 server_lies shape kept (server.SawFlush flush) h = h
 server_lies shape kept (server.SawRear rear) h = h
-server_lies shape kept (server.SawFront front) h = unless shape.frames kept.is_new (outside shape.frames front kept.rear) (chosen shape.frames front kept.rear (nat_lt shape.frames (ahead front kept.rear)) refl)
+server_lies shape kept (server.SawFront front) h = unless shape.frames (is_noticed shape kept.is_new kept.rear front) (outside shape.frames front kept.rear) (chosen shape.frames front kept.rear (nat_lt shape.frames (ahead front kept.rear)) refl)
 server_lies shape kept (server.Drop to) h = h
 server_lies shape kept (server.Take count) h = h
 server_lies shape kept (server.Tally missing) h = h

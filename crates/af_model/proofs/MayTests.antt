@@ -7,7 +7,7 @@ use Rattle.af_base.specs.declared.event.ClientEvent.TheVariants as client
 use Rattle.af_base.specs.declared.event.ServerEvent.{ServerEvent}
 use Rattle.af_base.specs.declared.event.ServerEvent.TheVariants as server
 use Rattle.af_model.specs.declared.point.TrackPoint.{TrackPoint}
-use Rattle.af_model.specs.Point.{wrapped, ClientMay, ServerMay}
+use Rattle.af_model.specs.Point.{wrapped, ClientMay, ServerMay, flush_word, drop_end}
 use Rattle.af_model.specs.MergeSteps.{client_may, server_may}
 use Rattle.af_model.proofs.Logic.{le_is, is_le}
 
@@ -49,10 +49,10 @@ client_legal-may p n (client.Learn count) h = is_le count n h
 
 pub server_may-legal : (p : TrackPoint) (n : ℕ) (e : ServerEvent) → server_may p n e ≡ true → ServerMay p n e
 server_may-legal p n (server.SawGain word) h = is_same word p.gains h
-server_may-legal p n (server.SawFlush flush) h = is_same flush p.flushes h
+server_may-legal p n (server.SawFlush flush) h = is_same flush (flush_word p) h
 server_may-legal p n (server.SawRear rear) h = is_same rear (wrapped p.released) h
 server_may-legal p n (server.SawFront front) h = is_same front (wrapped p.consumed) h
-server_may-legal p n (server.Drop to) h = is_same to (wrapped p.rear_seen) h
+server_may-legal p n (server.Drop to) h = is_same to (wrapped (drop_end p)) h
 server_may-legal p n (server.Take count) h = le_is (p.consumed + count) p.rear_seen h
 server_may-legal p n (server.Tally missing) h = tt
 server_may-legal p n (server.SetFlags bits) h = tt
@@ -61,10 +61,10 @@ server_may-legal p n (server.Learn count) h = le_is count n h
 
 pub server_legal-may : (p : TrackPoint) (n : ℕ) (e : ServerEvent) → ServerMay p n e → server_may p n e ≡ true
 server_legal-may p n (server.SawGain word) h = same_is word p.gains h
-server_legal-may p n (server.SawFlush flush) h = same_is flush p.flushes h
+server_legal-may p n (server.SawFlush flush) h = same_is flush (flush_word p) h
 server_legal-may p n (server.SawRear rear) h = same_is rear (wrapped p.released) h
 server_legal-may p n (server.SawFront front) h = same_is front (wrapped p.consumed) h
-server_legal-may p n (server.Drop to) h = same_is to (wrapped p.rear_seen) h
+server_legal-may p n (server.Drop to) h = same_is to (wrapped (drop_end p)) h
 server_legal-may p n (server.Take count) h = is_le (p.consumed + count) p.rear_seen h
 server_legal-may p n (server.Tally missing) h = refl
 server_legal-may p n (server.SetFlags bits) h = refl

@@ -15,7 +15,7 @@ use Rattle.af_model.specs.Point.{start, ServerMay, after_client, after_server, a
 use Rattle.af_model.specs.History.{Moment, by_client, by_server, by_hand, after, IsLegal, with_taken, taken_of, HasHistory, point}
 use Rattle.af_model.specs.Fates.{InTurn}
 use Rattle.af_model.specs.Spans.{Span, covered_by, spans_of, waiting_at, fates_of, Follow, LiesIn, HasOneFate, mixed_in, mixed_by}
-use Rattle.af_model.proofs.Fates.{in_turn}
+use Rattle.af_model.proofs.Fates.{in_turn, drop_low}
 
 follow_join : (from mid to : ℕ) (xs ys : List Span) → Follow from xs mid → Follow mid ys to → Follow from (xs ++ ys) to
 follow_join from mid to [] ys f g = subst (λ (z : ℕ). Follow z ys to) (sym f) g
@@ -41,7 +41,7 @@ covers shape p others (server.SawGain word) may turn = refl
 covers shape p others (server.SawFlush flush) may turn = refl
 covers shape p others (server.SawRear rear) may turn = refl
 covers shape p others (server.SawFront front) may turn = refl
-covers shape p others (server.Drop to) may turn = (refl, turn.to_seen, refl)
+covers shape p others (server.Drop to) may turn = (refl, drop_low shape p turn, refl)
 covers shape p others (server.Take count) may turn = (refl, omega arith, refl)
 covers shape p others (server.Tally missing) may turn = refl
 covers shape p others (server.SetFlags bits) may turn = refl
@@ -127,7 +127,7 @@ module _ {shape : Shape} {ce : List ClientEvent} {cf : List ℕ} {se : List Serv
   fates_follow =
       let turn : InTurn shape (point h) = in_turn shape h.order h.legal in
       follow_join shape.base (point h).consumed (point h).released (spans_of shape h.order) (waiting_at (point h) ∷ []) (spans_follow shape h.order h.legal)
-      (refl, (let a = turn.to_seen in let b = turn.to_released in omega arith), refl)
+      (refl, turn.within, refl)
 
   -- each frame that was released has one fate
   pub one_fate : (position : ℕ) → shape.base ≤ position → position < (point h).released → HasOneFate (fates_of h) position

@@ -85,7 +85,7 @@ module _ (shape : Shape) (size : ℕ) (few : size ≤ 65536) (from_zero : shape.
 
   put_step : (k : PutKept) (p : TrackPoint) (puts takes : ℕ) (e : ClientEvent) → ClientMay p takes e → may_put size k e → InTurn shape p → PipeHasRoom size k p → Puts size k p puts takes e
   put_step k p puts takes (client.Release count) may fits turn r =
-      let low : r.known ≤ p.released = (let a = r.low in let b = turn.to_seen in let d = turn.to_released in omega arith) in
+      let low : r.known ≤ p.released = (let a = r.low in let b = turn.within in omega arith) in
       let room : room_by size k.put k.front ≡ size - (p.released - r.known) =
       ap (λ (x : ℕ × ℕ). room_by size x.0 x.1) (λ i. (r.put_is i, r.known_is i)) ∙ room-between p.released r.known low r.fits in
       let there : p.released + count ≤ r.known + size = (let a = r.fits in omega arith) in
@@ -95,7 +95,7 @@ module _ (shape : Shape) (size : ℕ) (few : size ≤ 65536) (from_zero : shape.
         room = record { known = r.known; known_is = r.known_is; low = r.low; fits = there; put_is = ap (λ (n : ℕ). n + count) r.put_is };
       }
   put_step k p puts takes (client.SawFront front) may fits turn r =
-      let low : p.consumed ≤ p.released = (let b = turn.to_seen in let d = turn.to_released in omega arith) in
+      let low : p.consumed ≤ p.released = turn.within in
       let there : p.released ≤ p.consumed + size = (let a = r.low in let b = r.fits in omega arith) in
       record {
         may = (may, ap (λ (n : ℕ). room_by size p.released n) may ∙ room-between p.released p.consumed low there);
@@ -191,7 +191,7 @@ module _ (shape : Shape) (size : ℕ) (few : size ≤ 65536) (from_zero : shape.
       let p : TrackPoint = block_after (block_start shape) h.order in
       let t = in_turn shape h.order h.legal in
       let taken : sf ≡ take (p.consumed - shape.base) cf = sym h.taken_is ∙ begins cf shape h.order h.legal (all_kept (server_of h.order) takes') in
-      let within : p.consumed - shape.base ≤ length cf = (let x = t.to_seen in let y = t.to_released in let z = h.released_is in omega arith) in
+      let within : p.consumed - shape.base ≤ length cf = (let x = t.within in let z = h.released_is in omega arith) in
       let many : length sf ≡ p.consumed - shape.base = ap length taken ∙ length-take-le (p.consumed - shape.base) cf within in
       record {
         history = record { order = events_of h.order; is_legal = a.is_legal; of_one = ones_of h.order ∙ h.client_is; of_two = twos_of h.order ∙ h.server_is };

@@ -1,5 +1,5 @@
 -- In a history whose client's list is spelled by its calls, neither proxy ever sees the other outside the room.
-use Rattle.std.proofs.Common.{◌≡◌, ℕ, ◌+◌, ◌-◌, ◌<◌, ◌≤◌, min, Bool, true, false, if◌then◌else◌, MatchOption, Option, Some, None, is_some, nat_lt, fold, List, [], ◌∷◌, ◌++◌, refl, sym, ap, ◌∙◌, subst, arith}
+use Rattle.std.proofs.Common.{◌⊎◌, inl, inr, true≢false, ◌≡◌, ℕ, ◌+◌, ◌-◌, ◌<◌, ◌≤◌, min, Bool, true, false, if◌then◌else◌, MatchOption, Option, Some, None, is_some, nat_lt, fold, List, [], ◌∷◌, ◌++◌, refl, sym, ap, ◌∙◌, subst, arith}
 use Rattle.std.proofs.lemmas.Grind.{fold-append}
 use Rattle.af_base.specs.declared.event.ClientCall.{ClientCall}
 use Rattle.af_base.specs.declared.event.ClientCall.TheVariants as call
@@ -16,8 +16,11 @@ use Rattle.af_model.specs.History.{Moment, by_client, by_server, by_hand, client
 use Rattle.af_model.specs.Fates.{InTurn}
 use Rattle.af_model.specs.Room.{ahead, outside}
 use Rattle.af_model.specs.ClientCalls.{ClientKept, client_keeps, client_begins, client_kept, filled_by, ClientAnswers, client_events_of, IsClientList, begins, calls, meets}
-use Rattle.af_model.specs.ServerCalls.{ServerKept, server_keeps, server_begins, server_kept}
-use Rattle.af_model.proofs.Fates.{in_turn}
+use Rattle.af_base.specs.declared.seen.Seen.{Seen}
+use Rattle.af_base.specs.declared.seen.Seen.TheVariants as seen
+use Rattle.af_model.specs.ServerCalls.{ServerKept, is_noticed, server_keeps, server_begins, server_kept, look_at, drops_of, IsServerList, LooksInOrder}
+use Rattle.af_model.specs.ServerCalls as list
+use Rattle.af_model.proofs.Fates.{in_turn, drop_low}
 use Rattle.af_model.proofs.Logic.{nat_lt-no, ahead-between}
 
 module _ (shape : Shape) where
@@ -75,6 +78,69 @@ module _ (shape : Shape) where
   all_fit _ (calls es asked answer before a) = fit_join (client_begins shape.base) None es _ (all_fit es before) (call_fits es asked _ answer a)
   all_fit _ (meets es count before) = fit_join (client_begins shape.base) None es _ (all_fit es before) (tt, tt)
 
+  -- ## Servers' lists
+
+  -- the last event saw rear
+  abbrev pub saw_rear : Bool → ServerEvent → Bool
+  saw_rear b (server.SawRear rear) = true
+  saw_rear b _ = false
+
+  -- front is seen right after rear, but for wrap 0 that is not asked
+  abbrev pub FollowsRear : Bool → ServerEvent → Type 0
+  FollowsRear b (server.SawFront front) = (shape.wrap ≡ 0) ⊎ (b ≡ true)
+  FollowsRear b _ = Unit {0}
+
+  abbrev pub AllFollowRear : Bool → List ServerEvent → Type 0
+  AllFollowRear b [] = Unit {0}
+  AllFollowRear b (e ∷ es) = FollowsRear b e × AllFollowRear (saw_rear b e) es
+
+  rear_split : (b : Bool) (xs ys : List ServerEvent) → AllFollowRear b (xs ++ ys) → AllFollowRear b xs × AllFollowRear (fold saw_rear b xs) ys
+  rear_split b [] ys h = (tt, h)
+  rear_split b (x ∷ xs) ys h = let r = rear_split (saw_rear b x) xs ys h.1 in ((h.0, r.0), r.1)
+
+  rear_join : (b : Bool) (xs ys : List ServerEvent) → AllFollowRear b xs → AllFollowRear (fold saw_rear b xs) ys → AllFollowRear b (xs ++ ys)
+  rear_join b [] ys h t = t
+  rear_join b (x ∷ xs) ys h t = (h.0, rear_join (saw_rear b x) xs ys h.1 t)
+
+  drops_rest : (sight : Seen) (front : ℕ) → AllFollowRear false (drops_of sight front)
+  drops_rest seen.Absent front = tt
+  drops_rest (seen.Frames count) front = tt
+  drops_rest seen.Empty front = tt
+  drops_rest (seen.Flushed dropped) front = (tt, tt)
+  drops_rest (seen.Shut back rear) front = tt
+
+  spelled_follow : (shown : Option ℕ) (es : List ServerEvent) → IsServerList shape shown es → AllFollowRear false es
+  spelled_follow _ _ list.begins = tt
+  spelled_follow _ _ (list.looks es shown asked flush rear front before unshut some) =
+      rear_join false es _ (spelled_follow shown es before) (tt, (tt, (inr refl, drops_rest (look_at shape (server_kept shape es).flush asked flush rear front) front)))
+  spelled_follow _ _ (list.takes es count before) = rear_join false es _ (spelled_follow (Some count) es before) (tt, tt)
+  spelled_follow _ _ (list.reads_gains es shown word before) = rear_join false es _ (spelled_follow shown es before) (tt, tt)
+  spelled_follow _ _ (list.tallies es shown missing before some) = rear_join false es _ (spelled_follow shown es before) (tt, (tt, tt))
+  spelled_follow _ _ (list.sets_flags es shown bits before) = rear_join false es _ (spelled_follow shown es before) (tt, tt)
+  spelled_follow _ _ (list.sets_status es shown word before) = rear_join false es _ (spelled_follow shown es before) (tt, tt)
+  spelled_follow _ _ (list.rests es shown before) = spelled_follow shown es before
+  spelled_follow _ _ (list.meets es shown count before) = rear_join false es _ (spelled_follow shown es before) (tt, tt)
+
+  flat_follows : shape.wrap ≡ 0 → (b : Bool) (e : ServerEvent) → FollowsRear b e
+  flat_follows flat b (server.SawFront front) = inl flat
+  flat_follows flat b (server.SawGain word) = tt
+  flat_follows flat b (server.SawFlush flush) = tt
+  flat_follows flat b (server.SawRear rear) = tt
+  flat_follows flat b (server.Drop to) = tt
+  flat_follows flat b (server.Take count) = tt
+  flat_follows flat b (server.Tally missing) = tt
+  flat_follows flat b (server.SetFlags bits) = tt
+  flat_follows flat b (server.SetStatus word) = tt
+  flat_follows flat b (server.Learn count) = tt
+
+  flat_follow : shape.wrap ≡ 0 → (b : Bool) (es : List ServerEvent) → AllFollowRear b es
+  flat_follow flat b [] = tt
+  flat_follow flat b (e ∷ es) = (flat_follows flat b e, flat_follow flat (saw_rear b e) es)
+
+  looked_follow : (es : List ServerEvent) → LooksInOrder shape es → AllFollowRear false es
+  looked_follow es (inl flat) = flat_follow flat false es
+  looked_follow es (inr spelled) = spelled_follow spelled.0 es spelled.1
+
   -- what the client saw is a front of before, by which the frames have room
   abbrev pub SeenIn : Option ℕ → ℕ → ℕ → Type 0
   SeenIn o consumed released = MatchOption o (Unit {0}) (λ front. (known : ℕ) × (wrapped known ≡ front) × (known ≤ consumed) × (released ≤ known + shape.frames))
@@ -130,7 +196,7 @@ module _ (shape : Shape) where
     client_room : (k : ClientKept) (o : Option ℕ) (p : TrackPoint) (others : ℕ) (e : ClientEvent) → ClientMay p others e → FitsRoom k o e → InTurn shape p → FrontHasRoom k o p
         → FrontHasRoom (client_keeps shape.frames k e) (open_after o e) (after_client p e)
     client_room k o p others (client.Release count) may fit turn r =
-        let low : p.consumed ≤ p.released = (let a = turn.to_seen in let b = turn.to_released in omega arith) in
+        let low : p.consumed ≤ p.released = turn.within in
         let fit' : ahead fit.0 (wrapped p.released) + count ≤ shape.frames = subst (λ (z : ℕ). ahead fit.0 (wrapped z) + count ≤ shape.frames) r.position_is fit.2 in
         record {
           position_is = ap (λ (z : ℕ). z + count) r.position_is;
@@ -143,7 +209,7 @@ module _ (shape : Shape) where
     client_room k o p others (client.ClearFlags old) may fit turn r = closed k o p _ refl (omega arith) r
     client_room k o p others (client.SawFlags flags) may fit turn r = closed k o p p refl (omega arith) r
     client_room k o p others (client.SawFront front) may fit turn r =
-        let low : p.consumed ≤ p.released = (let a = turn.to_seen in let b = turn.to_released in omega arith) in
+        let low : p.consumed ≤ p.released = turn.within in
         record {
           position_is = r.position_is;
           unshut = ap (λ (x : ℕ × ℕ). outside shape.frames x.0 (wrapped x.1)) (λ i. (may i, r.position_is i)) ∙ outside_none p.consumed p.released low r.fits;
@@ -160,7 +226,7 @@ module _ (shape : Shape) where
     server_grows p others (server.SawFlush flush) may turn = (refl, omega arith)
     server_grows p others (server.SawRear rear) may turn = (refl, omega arith)
     server_grows p others (server.SawFront front) may turn = (refl, omega arith)
-    server_grows p others (server.Drop to) may turn = (refl, turn.to_seen)
+    server_grows p others (server.Drop to) may turn = (refl, drop_low shape p turn)
     server_grows p others (server.Take count) may turn = (refl, omega arith)
     server_grows p others (server.Tally missing) may turn = (refl, omega arith)
     server_grows p others (server.SetFlags bits) may turn = (refl, omega arith)
@@ -188,57 +254,68 @@ module _ (shape : Shape) where
 
     -- ## The server
 
-    record SeesRoom (k : ServerKept) (p : TrackPoint) : Type 0 where
+    record SeesRoom (k : ServerKept) (b : Bool) (p : TrackPoint) : Type 0 where
       rear_is : k.rear ≡ wrapped p.rear_seen
       unshut : k.shut ≡ None
+      shows : b ≡ true → p.consumed ≤ p.rear_seen
 
     either_none : (b : Bool) (o : Option (ℕ × ℕ)) → o ≡ None → (if b then None else o) ≡ None
     either_none true o is = refl
     either_none false o is = is
 
-    server_sees : (k : ServerKept) (p : TrackPoint) (others : ℕ) (e : ServerEvent) → ServerMay p others e → InTurn shape p → p.released ≤ p.consumed + shape.frames → SeesRoom k p
-        → SeesRoom (server_keeps shape k e) (after_server p e)
-    server_sees k p others (server.SawGain word) may turn fits s = s
-    server_sees k p others (server.SawFlush flush) may turn fits s = record { rear_is = s.rear_is; unshut = s.unshut }
-    server_sees k p others (server.SawRear rear) may turn fits s = record { rear_is = may; unshut = s.unshut }
-    server_sees k p others (server.SawFront front) may turn fits s =
+    rear_ahead : (b : Bool) (p : TrackPoint) → (shape.wrap ≡ 0) ⊎ (b ≡ true) → InTurn shape p → (b ≡ true → p.consumed ≤ p.rear_seen) → p.consumed ≤ p.rear_seen
+    rear_ahead b p (inl flat) turn shows = turn.to_seen flat
+    rear_ahead b p (inr is) turn shows = shows is
+
+    no : {A : Type 0} → false ≡ true → A
+    no e = absurd (true≢false (sym e))
+
+    server_sees : (k : ServerKept) (b : Bool) (p : TrackPoint) (others : ℕ) (e : ServerEvent) → ServerMay p others e → FollowsRear b e → InTurn shape p → p.released ≤ p.consumed + shape.frames → SeesRoom k b p
+        → SeesRoom (server_keeps shape k e) (saw_rear b e) (after_server p e)
+    server_sees k b p others (server.SawGain word) may fit turn fits s = record { rear_is = s.rear_is; unshut = s.unshut; shows = no }
+    server_sees k b p others (server.SawFlush flush) may fit turn fits s = record { rear_is = s.rear_is; unshut = s.unshut; shows = no }
+    server_sees k b p others (server.SawRear rear) may fit turn fits s = record { rear_is = may; unshut = s.unshut; shows = (λ _. turn.within) }
+    server_sees k b p others (server.SawFront front) may fit turn fits s =
         record {
           rear_is = s.rear_is;
-          unshut = either_none k.is_new _ (
+          unshut = either_none (is_noticed shape k.is_new k.rear front) _ (
               ap (λ (x : ℕ × ℕ). outside shape.frames x.0 x.1) (λ i. (may i, s.rear_is i))
-              ∙ outside_none p.consumed p.rear_seen turn.to_seen (let a = turn.to_released in omega arith)
+              ∙ outside_none p.consumed p.rear_seen (rear_ahead b p fit turn s.shows) (let a = turn.to_released in omega arith)
               );
+          shows = no;
         }
-    server_sees k p others (server.Drop to) may turn fits s = record { rear_is = s.rear_is; unshut = s.unshut }
-    server_sees k p others (server.Take count) may turn fits s = record { rear_is = s.rear_is; unshut = s.unshut }
-    server_sees k p others (server.Tally missing) may turn fits s = record { rear_is = s.rear_is; unshut = s.unshut }
-    server_sees k p others (server.SetFlags bits) may turn fits s = record { rear_is = s.rear_is; unshut = s.unshut }
-    server_sees k p others (server.SetStatus word) may turn fits s = record { rear_is = s.rear_is; unshut = s.unshut }
-    server_sees k p others (server.Learn count) may turn fits s = s
+    server_sees k b p others (server.Drop to) may fit turn fits s = record { rear_is = s.rear_is; unshut = s.unshut; shows = no }
+    server_sees k b p others (server.Take count) may fit turn fits s = record { rear_is = s.rear_is; unshut = s.unshut; shows = no }
+    server_sees k b p others (server.Tally missing) may fit turn fits s = record { rear_is = s.rear_is; unshut = s.unshut; shows = no }
+    server_sees k b p others (server.SetFlags bits) may fit turn fits s = record { rear_is = s.rear_is; unshut = s.unshut; shows = no }
+    server_sees k b p others (server.SetStatus word) may fit turn fits s = record { rear_is = s.rear_is; unshut = s.unshut; shows = no }
+    server_sees k b p others (server.Learn count) may fit turn fits s = record { rear_is = s.rear_is; unshut = s.unshut; shows = no }
 
-    hand_leaves : (k : ServerKept) (p : TrackPoint) (e : HandEvent) → SeesRoom k p → SeesRoom k (after_hand p e)
-    hand_leaves k p (hand.SetFlags bits) s = record { rear_is = s.rear_is; unshut = s.unshut }
-    hand_leaves k p (hand.Met count) s = s
+    hand_leaves : (k : ServerKept) (b : Bool) (p : TrackPoint) (e : HandEvent) → SeesRoom k b p → SeesRoom k b (after_hand p e)
+    hand_leaves k b p (hand.SetFlags bits) s = record { rear_is = s.rear_is; unshut = s.unshut; shows = s.shows }
+    hand_leaves k b p (hand.Met count) s = s
 
-    client_leaves : (k : ServerKept) (p : TrackPoint) (e : ClientEvent) → SeesRoom k p → SeesRoom k (after_client p e)
-    client_leaves k p (client.Release count) s = record { rear_is = s.rear_is; unshut = s.unshut }
-    client_leaves k p client.Flush s = record { rear_is = s.rear_is; unshut = s.unshut }
-    client_leaves k p (client.SetGain word) s = record { rear_is = s.rear_is; unshut = s.unshut }
-    client_leaves k p (client.ClearFlags old) s = record { rear_is = s.rear_is; unshut = s.unshut }
-    client_leaves k p (client.SawFlags flags) s = s
-    client_leaves k p (client.SawFront front) s = s
-    client_leaves k p (client.SawStatus word) s = s
-    client_leaves k p (client.Poke word value) s = s
-    client_leaves k p (client.Learn count) s = s
+    client_leaves : (k : ServerKept) (b : Bool) (p : TrackPoint) (e : ClientEvent) → SeesRoom k b p → SeesRoom k b (after_client p e)
+    client_leaves k b p (client.Release count) s = record { rear_is = s.rear_is; unshut = s.unshut; shows = s.shows }
+    client_leaves k b p client.Flush s = record { rear_is = s.rear_is; unshut = s.unshut; shows = s.shows }
+    client_leaves k b p (client.SetGain word) s = record { rear_is = s.rear_is; unshut = s.unshut; shows = s.shows }
+    client_leaves k b p (client.ClearFlags old) s = record { rear_is = s.rear_is; unshut = s.unshut; shows = s.shows }
+    client_leaves k b p (client.SawFlags flags) s = s
+    client_leaves k b p (client.SawFront front) s = s
+    client_leaves k b p (client.SawStatus word) s = s
+    client_leaves k b p (client.Poke word value) s = s
+    client_leaves k b p (client.Learn count) s = s
 
-    sees_in : (order : List Moment) → IsLegal (start shape) order → AllFit (client_begins shape.base) None (client_of order)
-        → SeesRoom (server_kept shape (server_of order)) (after (start shape) order)
-    sees_in [] h fit = record { rear_is = refl; unshut = refl }
-    sees_in (by_client e ∷ order) h fit = client_leaves _ (after (start shape) order) e (sees_in order h.1 (fit_split (client_begins shape.base) None (client_of order) (e ∷ []) fit).0)
-    sees_in (by_server e ∷ order) h fit =
-        let now = server_sees (server_kept shape (server_of order)) (after (start shape) order) _ e h.0 (in_turn shape order h.1) (room_in order h.1 fit).fits (sees_in order h.1 fit) in
-        subst (λ (x : ServerKept). SeesRoom x (after (start shape) (by_server e ∷ order))) (sym (fold-append (server_keeps shape) (server_begins shape) (server_of order) (e ∷ []))) now
-    sees_in (by_hand e ∷ order) h fit = hand_leaves _ (after (start shape) order) e (sees_in order h.1 fit)
+    sees_in : (order : List Moment) → IsLegal (start shape) order → AllFit (client_begins shape.base) None (client_of order) → AllFollowRear false (server_of order)
+        → SeesRoom (server_kept shape (server_of order)) (fold saw_rear false (server_of order)) (after (start shape) order)
+    sees_in [] h fit f = record { rear_is = refl; unshut = refl; shows = no }
+    sees_in (by_client e ∷ order) h fit f = client_leaves _ _ (after (start shape) order) e (sees_in order h.1 (fit_split (client_begins shape.base) None (client_of order) (e ∷ []) fit).0 f)
+    sees_in (by_server e ∷ order) h fit f =
+        let g = rear_split false (server_of order) (e ∷ []) f in
+        let now = server_sees (server_kept shape (server_of order)) _ (after (start shape) order) _ e h.0 g.1.0 (in_turn shape order h.1) (room_in order h.1 fit).fits (sees_in order h.1 fit g.0) in
+        subst (λ (x : ServerKept × Bool). SeesRoom x.0 x.1 (after (start shape) (by_server e ∷ order)))
+        (λ i. (sym (fold-append (server_keeps shape) (server_begins shape) (server_of order) (e ∷ [])) i, sym (fold-append saw_rear false (server_of order) (e ∷ [])) i)) now
+    sees_in (by_hand e ∷ order) h fit f = hand_leaves _ _ (after (start shape) order) e (sees_in order h.1 fit f)
 
   -- ## What a history tells
 
@@ -255,5 +332,7 @@ module _ (shape : Shape) where
     never_corrupt = subst (λ (es : List ClientEvent). (client_kept shape.frames shape.base es).shut ≡ None) h.client_is (room_in few h.order h.legal fit_all).unshut
 
     -- nor is its server
-    pub never_shut : (server_kept shape se).shut ≡ None
-    never_shut = subst (λ (es : List ServerEvent). (server_kept shape es).shut ≡ None) h.server_is (sees_in few h.order h.legal fit_all).unshut
+    pub never_shut : LooksInOrder shape se → (server_kept shape se).shut ≡ None
+    never_shut looked =
+        let follow : AllFollowRear false (server_of h.order) = subst (λ (es : List ServerEvent). AllFollowRear false es) (sym h.server_is) (looked_follow se looked) in
+        subst (λ (es : List ServerEvent). (server_kept shape es).shut ≡ None) h.server_is (sees_in few h.order h.legal fit_all follow).unshut

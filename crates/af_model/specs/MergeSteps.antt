@@ -5,7 +5,7 @@ use Rattle.af_base.specs.declared.event.ClientEvent.TheVariants as client
 use Rattle.af_base.specs.declared.event.ServerEvent.{ServerEvent}
 use Rattle.af_base.specs.declared.event.ServerEvent.TheVariants as server
 use Rattle.af_model.specs.declared.point.TrackPoint.{TrackPoint}
-use Rattle.af_model.specs.Point.{wrapped, after_client, after_server}
+use Rattle.af_model.specs.Point.{wrapped, flush_word, drop_end, after_client, after_server}
 
 -- `ClientMay` as a test
 abbrev pub client_may : TrackPoint → ℕ → ClientEvent → Bool
@@ -22,10 +22,10 @@ client_may p others (client.Learn count) = nat_le count others
 -- `ServerMay` as a test
 abbrev pub server_may : TrackPoint → ℕ → ServerEvent → Bool
 server_may p others (server.SawGain word) = word == p.gains
-server_may p others (server.SawFlush flush) = flush == p.flushes
+server_may p others (server.SawFlush flush) = flush == flush_word p
 server_may p others (server.SawRear rear) = rear == wrapped p.released
 server_may p others (server.SawFront front) = front == wrapped p.consumed
-server_may p others (server.Drop to) = to == wrapped p.rear_seen
+server_may p others (server.Drop to) = to == wrapped (drop_end p)
 server_may p others (server.Take count) = nat_le (p.consumed + count) p.rear_seen
 server_may p others (server.Tally missing) = true
 server_may p others (server.SetFlags bits) = true
@@ -55,10 +55,14 @@ pub record ClientGrows (p q : TrackPoint) : Type 0 where
   pub flushes : q.flushes ≤ p.flushes + 1
   pub consumed : q.consumed ≡ p.consumed
   pub rear_seen : q.rear_seen ≡ p.rear_seen
+  pub flush_at : (q.flush_at ≡ p.flush_at) ⊎ (q.flush_at ≡ p.released)
+  pub drop_to : q.drop_to ≡ p.drop_to
 
 -- how far one event of the server may lead
 pub record ServerGrows (p q : TrackPoint) : Type 0 where
   pub released : q.released ≡ p.released
   pub flushes : q.flushes ≡ p.flushes
-  pub consumed : (q.consumed ≤ p.consumed) ⊎ (q.consumed ≤ p.rear_seen)
+  pub consumed : (q.consumed ≤ p.consumed) ⊎ (q.consumed ≤ p.rear_seen) ⊎ (q.consumed ≤ p.drop_to)
   pub rear_seen : (q.rear_seen ≡ p.rear_seen) ⊎ (q.rear_seen ≡ p.released)
+  pub flush_at : q.flush_at ≡ p.flush_at
+  pub drop_to : (q.drop_to ≡ p.drop_to) ⊎ (q.drop_to ≡ p.flush_at)

@@ -25,6 +25,8 @@ pub record IsStart (p : TrackPoint) : Type 0 where
   pub released : p.released < 2 ^ 62
   pub consumed : p.consumed < 2 ^ 62
   pub rear_seen : p.rear_seen < 2 ^ 62
+  pub flush_at : p.flush_at < 2 ^ 62
+  pub drop_to : p.drop_to < 2 ^ 62
   pub flushes : p.flushes < 2 ^ 31
 
 -- the point that the lists begin at, the lists of all calls so far, and whether memory ran out in one of them

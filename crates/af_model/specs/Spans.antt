@@ -6,7 +6,7 @@ use Rattle.af_base.specs.declared.event.ServerEvent.TheVariants as server
 use Rattle.af_base.specs.declared.event.HandEvent.{HandEvent}
 use Rattle.af_model.specs.declared.point.TrackPoint.{TrackPoint}
 use Rattle.af_model.specs.declared.shape.Shape.{Shape}
-use Rattle.af_model.specs.Point.{start}
+use Rattle.af_model.specs.Point.{start, drop_end}
 use Rattle.af_model.specs.History.{Moment, by_client, by_server, by_hand, after, HasHistory, point}
 
 -- a frame that was taken is mixed, and one that was dropped is discarded
@@ -24,7 +24,7 @@ pub record Span : Type 0 where
 -- a take and a drop cover the positions from what was consumed before it to what was consumed after it
 abbrev pub covered_by : TrackPoint → ServerEvent → List Span
 covered_by p (server.Take count) = record { fate = mixed; from = p.consumed; to = p.consumed + count } ∷ []
-covered_by p (server.Drop to) = record { fate = discarded; from = p.consumed; to = p.rear_seen } ∷ []
+covered_by p (server.Drop to) = record { fate = discarded; from = p.consumed; to = drop_end p } ∷ []
 covered_by p _ = []
 
 -- the takes and drops of an order, oldest first

@@ -123,6 +123,8 @@ pub record InBounds (l : Lists) (m : Stage) : Type 0 where
   pub released : m.point.released < 2 ^ 62 + 2 ^ 32 * m.clients
   pub rear_seen : m.point.rear_seen < 2 ^ 62 + 2 ^ 32 * m.clients
   pub consumed : m.point.consumed < 2 ^ 62 + 2 ^ 32 * m.clients
+  pub flush_at : m.point.flush_at < 2 ^ 62 + 2 ^ 32 * m.clients
+  pub drop_to : m.point.drop_to < 2 ^ 62 + 2 ^ 32 * m.clients
   pub flushes : m.point.flushes < 2 ^ 31 + m.clients
   pub clients : m.clients ≤ length l.client
   pub servers : m.servers ≤ length l.server

@@ -12,7 +12,7 @@ use std::marker::Model;
 
 /// Whether some merge of the three lists, each in its order, is legal from the point `from`.
 ///
-/// Each list has at most 2^30 events, each position of `from` is below 2^62, and `from.flushes` is below 2^31.
+/// Each list has at most 2^30 events, each position of `from` (`flush_at` and `drop_to` among them) is below 2^62, and `from.flushes` is below 2^31.
 /// `Memory` is its only error.
 pub fn merge_check(
     alloc: Global,

@@ -7,7 +7,7 @@ pub struct TrackPoint {
     pub consumed: u64,
     /// How many flushes the client asked for.
     pub flushes: u32,
-    /// The flush count that the server saw last.
+    /// How many flushes the server saw where it loaded the flush word last.
     pub flush_seen: u32,
     /// What was released where the server saw the rear last.
     pub rear_seen: u64,
@@ -19,4 +19,10 @@ pub struct TrackPoint {
     pub status: u32,
     /// The frames that were missing, modulo 2^32.
     pub underruns: u32,
+    /// The position up to which the client had released at its last flush, and 0 before any.
+    pub flush_at: u64,
+    /// What `flush_at` was where the server loaded the flush word last.
+    pub drop_to: u64,
+    /// The wrap of the block's flush words, or 0 where flushes are only counted.
+    pub wrap: u32,
 }

@@ -7,4 +7,6 @@ pub struct Shape {
     pub cells: u32,
     /// The position of the first frame.
     pub base: u32,
+    /// Of a positional block how far apart the words of two flushes lie at least, a multiple of the cells; 0 of a block whose flushes are only counted.
+    pub wrap: u32,
 }

@@ -1,6 +1,6 @@
 //! One event of a block's history as a step of a search.
 ghost use Rattle.std.specs.Prelude.{◌≡◌, bit_or, IfSome, if◌then◌else◌, Some, None};
-ghost use Rattle.af_model.specs.Point.{wrapped, after_hand as after_hand_event};
+ghost use Rattle.af_model.specs.Point.{wrapped, flush_word as word_of_flushes, drop_end as end_of_drop, after_hand as after_hand_event};
 ghost use Rattle.af_model.specs.MergeSteps.{HasRoom, ClientGrows, ServerGrows, client_step, server_step};
 
 use crate::point::TrackPoint;
@@ -10,6 +10,30 @@ fn wrapped_word(x: u64) -> u32
     ensures { result ≡ wrapped x }
 {
     (x % (1 << 32)) as u32
+}
+
+// The word of the flushes so far.
+fn flush_word(point: &TrackPoint) -> u32
+    ensures { result ≡ word_of_flushes point.now }
+{
+    if point.wrap == 0 {
+        return point.flushes;
+    }
+    let place = point.flush_at % u64::from(point.wrap);
+    point
+        .flushes
+        .wrapping_mul(point.wrap)
+        .wrapping_add(place as u32)
+}
+
+// The position up to which a drop consumes.
+fn drop_end(point: &TrackPoint) -> u64
+    ensures { result ≡ end_of_drop point.now }
+{
+    if point.wrap == 0 {
+        return point.rear_seen;
+    }
+    point.drop_to.max(point.consumed)
 }
 
 fn when(legal: bool, point: TrackPoint) -> Option<TrackPoint>
@@ -51,6 +75,7 @@ pub(crate) fn after_client(
         }),
         ClientEvent::Flush => Some(TrackPoint {
             flushes: point.flushes + 1,
+            flush_at: point.released,
             ..*point
         }),
         ClientEvent::SetGain { word } => Some(TrackPoint {
@@ -92,9 +117,10 @@ pub(crate) fn after_server(
     match *event {
         ServerEvent::SawGain { word } => when(word == point.gains, *point),
         ServerEvent::SawFlush { flush } => when(
-            flush == point.flushes,
+            flush == flush_word(point),
             TrackPoint {
-                flush_seen: flush,
+                flush_seen: point.flushes,
+                drop_to: point.flush_at,
                 ..*point
             },
         ),
@@ -106,10 +132,10 @@ pub(crate) fn after_server(
             },
         ),
         ServerEvent::SawFront { front } => when(front == wrapped_word(point.consumed), *point),
-        ServerEvent::Drop { to } => when(
-            to == wrapped_word(point.rear_seen),
-            with_consumed(point, point.rear_seen),
-        ),
+        ServerEvent::Drop { to } => {
+            let consumed = drop_end(point);
+            when(to == wrapped_word(consumed), with_consumed(point, consumed))
+        }
         ServerEvent::Take { count } => {
             let consumed = point.consumed + u64::from(count);
             when(consumed <= point.rear_seen, with_consumed(point, consumed))

@@ -101,10 +101,10 @@ abbrev pub tracks_in : Files → ℕ → ℕ → List Playable → Result (List 
 tracks_in files number total [] = Ok []
 tracks_in files number total (playable ∷ rest) = track_in files number total playable >>= (λ one. then_cons one.0 (tracks_in files (number + 1) one.1 rest))
 
--- what can be played so far of a script: its tracks
+-- what can be played so far of a script of version 1: its tracks
 abbrev pub runnable : ScriptData → Result (List Playable) Refusal
 runnable script =
-    if nat_le (length script.tracks) most_fast && are_runnable_turns script.tracks script.turns then playables script.tracks else Err Unbuilt
+    if script.version == 1 && (nat_le (length script.tracks) most_fast && are_runnable_turns script.tracks script.turns) then playables script.tracks else Err Unbuilt
 
 -- what a script plays of its files
 abbrev pub plan_of : Files → ScriptData → Result Plan Refusal

@@ -16,6 +16,10 @@ const ONE: &str =
 const IDLE: &str =
     "version = 1\nframes = 2\nnormal = 1\ncycles = 100\n[[track]]\nkind = \"fast\"\nframes = 8\nchannels = 2\nfile = \"tone.pcm\"\nops = [\"open\", \"start\"]\n";
 
+/// The same two frames by the rules of version 2, which can't be played yet.
+const SECOND: &str =
+    "version = 2\nframes = 2\nnormal = 1\ncycles = 100\nturns = [\"c 0\", \"n\", \"c 0\", \"f 1\"]\n[[track]]\nkind = \"fast\"\nframes = 8\nchannels = 2\nfile = \"tone.pcm\"\nops = [\"open\", \"start\", \"write 2\"]\n";
+
 const TONE: [u8; 8] = [0xe8, 3, 0x18, 0xfc, 0xd0, 7, 0x30, 0xf8];
 
 const LINE: &[u8] = b"cycles 1 mixed 2 dropped 0 queued 0 peak 2000\n";
@@ -79,6 +83,7 @@ fn refusals_print_their_lines(rt: HostRuntime) -> Result<(), Fail> {
         (3, None, 8, 4, "file: script missing\n"),
         (3, Some("= 1"), 8, 3, "script: toml\n"),
         (3, Some(IDLE), 8, 9, "unbuilt\n"),
+        (3, Some(SECOND), 8, 9, "unbuilt\n"),
         (
             2,
             Some(ONE),

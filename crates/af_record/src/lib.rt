@@ -12,4 +12,14 @@ pub use ends::{Capture, Listener, make, meet_record};
 pub use in_hand::InHand;
 
 #[cfg(test)]
+mod latest_tests;
+#[cfg(test)]
+mod link_tests;
+#[cfg(test)]
+mod queue_hand_tests;
+#[cfg(test)]
+mod queue_tests;
+#[cfg(test)]
+mod queue_threads;
+#[cfg(test)]
 mod tests;

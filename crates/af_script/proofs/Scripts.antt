@@ -1,7 +1,7 @@
 -- What a script's table is read as: the first fault of its places, or the script that it means.
 use Rattle.std.proofs.Common.{◌≡◌, ℕ, ◌*◌, nat_le, true, List, ◌∷◌, ◌++◌, length, Option, Ok, sym, ap, ◌∙◌}
 use Rattle.toml.specs.Data.{Items, Members, as_str, as_table}
-use Rattle.af_script.specs.Bounds.{most_frames, most_normal, most_cycles, most_product, most_tracks}
+use Rattle.af_script.specs.Bounds.{most_version, most_frames, most_normal, most_cycles, most_product, most_tracks}
 use Rattle.af_script.specs.Ops.{or_else}
 use Rattle.af_script.specs.Tree.{value_at, all_keys, is_top_key, all_are}
 use Rattle.af_script.specs.Results.{◌>>=◌}
@@ -29,7 +29,7 @@ top_meant tree = record {
 }
 
 abbrev version_fault : Members → Option ScriptFault
-version_fault tree = entry_fault 0 key.Version (number 1 1) (value_at key.Version tree)
+version_fault tree = entry_fault 0 key.Version (number 1 most_version) (value_at key.Version tree)
 
 abbrev frames_fault : Members → Option ScriptFault
 frames_fault tree = entry_fault 0 key.Frames (number 1 most_frames) (value_at key.Frames tree)
@@ -45,10 +45,10 @@ top-tied tree =
     let v : ℕ = number_of 0 (value_at key.Version tree) in
     let f : ℕ = buffer_of tree in
     let n : ℕ = number_of 0 (value_at key.Normal tree) in
-    bind (number_in 0 key.Version 1 1 tree) (version_fault tree) (or_else (frames_fault tree) (or_else (normal_fault tree) (cycles_fault tree))) v (top_meant tree)
+    bind (number_in 0 key.Version 1 most_version tree) (version_fault tree) (or_else (frames_fault tree) (or_else (normal_fault tree) (cycles_fault tree))) v (top_meant tree)
     (λ v'. number_in 0 key.Frames 1 most_frames tree >>= (λ f'. number_in 0 key.Normal 1 most_normal tree >>= (λ n'. number_in 0 key.Cycles 1 most_cycles tree >>= (λ c'.
     Ok (record { version = v'; frames = f'; normal = n'; cycles = c' })))))
-    (number-tied 0 key.Version 1 1 0 (value_at key.Version tree))
+    (number-tied 0 key.Version 1 most_version 0 (value_at key.Version tree))
     (λ none. bind (number_in 0 key.Frames 1 most_frames tree) (frames_fault tree) (or_else (normal_fault tree) (cycles_fault tree)) f (top_meant tree)
     (λ f'. number_in 0 key.Normal 1 most_normal tree >>= (λ n'. number_in 0 key.Cycles 1 most_cycles tree >>= (λ c'.
     Ok (record { version = v; frames = f'; normal = n'; cycles = c' }))))

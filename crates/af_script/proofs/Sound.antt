@@ -3,7 +3,7 @@ use Rattle.std.proofs.Common.{◌≡◌, ℕ, ◌+◌, ◌*◌, ◌≤◌, ◌<�
 use Rattle.std.specs.Prelude.{All, IfSome, ok_or, option_and_then, pos}
 use Rattle.std.proofs.lemmas.Bool.Decides.{nat_tests}
 use Rattle.toml.specs.Data.{Data, Items, Members, as_str, as_table}
-use Rattle.af_script.specs.Bounds.{most_frames, most_normal, most_cycles, most_product, most_tracks, most_buffer, most_base, unity_scale, most_turns}
+use Rattle.af_script.specs.Bounds.{most_version, most_frames, most_normal, most_cycles, most_product, most_tracks, most_buffer, most_base, unity_scale, most_turns}
 use Rattle.af_script.specs.Text.{is_name}
 use Rattle.af_script.specs.Ops.{fast_cycles}
 use Rattle.af_script.specs.Tree.{value_at, all_keys, is_track_key, count_of, array_of}
@@ -36,14 +36,14 @@ any (Err found) = tt
 -- the top table
 
 abbrev IsTop : TopNumbers → Type 0
-IsTop top = IsIn 1 1 top.version × IsIn 1 most_frames top.frames × IsIn 1 most_normal top.normal × IsIn 1 most_cycles top.cycles
+IsTop top = IsIn 1 most_version top.version × IsIn 1 most_frames top.frames × IsIn 1 most_normal top.normal × IsIn 1 most_cycles top.cycles
 
 top-holds : (tree : Members) → Holds IsTop (top_numbers tree)
 top-holds tree =
-    then_holds (IsIn 1 1) IsTop (number_in 0 key.Version 1 1 tree)
+    then_holds (IsIn 1 most_version) IsTop (number_in 0 key.Version 1 most_version tree)
     (λ v. number_in 0 key.Frames 1 most_frames tree >>= (λ f. number_in 0 key.Normal 1 most_normal tree >>= (λ n. number_in 0 key.Cycles 1 most_cycles tree >>= (λ c.
     Ok (record { version = v; frames = f; normal = n; cycles = c })))))
-    (number_in-holds 0 key.Version 1 1 tree)
+    (number_in-holds 0 key.Version 1 most_version tree)
     (λ v hv. then_holds (IsIn 1 most_frames) IsTop (number_in 0 key.Frames 1 most_frames tree)
     (λ f. number_in 0 key.Normal 1 most_normal tree >>= (λ n. number_in 0 key.Cycles 1 most_cycles tree >>= (λ c. Ok (record { version = v; frames = f; normal = n; cycles = c }))))
     (number_in-holds 0 key.Frames 1 most_frames tree)
@@ -173,7 +173,7 @@ script-keeps tree top tables texts specs turns is_top is_tables is_tracks is_tur
     let some : 0 < length specs = omega (arith, len, count.0) in
     let paid : AreTurns (length specs) top.cycles turns = found_holds (AreTurns (length specs) top.cycles) (turns_in (length specs) top.cycles texts) turns is_turns (turns-hold (length specs) top.cycles texts some) in
     record {
-      version = omega (arith, t.0.0, t.0.1);
+      version = t.0;
       frames = t.1;
       normal = t.2;
       cycles = t.3;

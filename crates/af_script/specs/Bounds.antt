@@ -1,6 +1,10 @@
 -- The bounds of a script's numbers.
 use Rattle.std.specs.Prelude.{ℕ}
 
+-- the version of the rules
+abbrev pub most_version : ℕ
+most_version = 2
+
 -- the frames of a cycle, the buffers of a normal turn and the cycles of a run
 abbrev pub most_frames : ℕ
 most_frames = 1024

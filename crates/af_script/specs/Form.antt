@@ -1,6 +1,6 @@
 -- What every script keeps.
 use Rattle.std.specs.Prelude.{◌≡◌, ℕ, ◌+◌, ◌*◌, ◌<◌, ◌≤◌, true, false, length, All}
-use Rattle.af_script.specs.Bounds.{most_frames, most_normal, most_cycles, most_product, most_tracks, most_buffer, unity_scale, most_ops, most_turns, most_gain, most_write, most_value, most_fast, header_words, command_frames}
+use Rattle.af_script.specs.Bounds.{most_version, most_frames, most_normal, most_cycles, most_product, most_tracks, most_buffer, unity_scale, most_ops, most_turns, most_gain, most_write, most_value, most_fast, header_words, command_frames}
 use Rattle.af_script.specs.Text.{is_name}
 use Rattle.af_script.specs.Ops.{words_of, are_whole, fast_cycles}
 use Rattle.af_script.specs.Data.{ScriptData}
@@ -35,7 +35,7 @@ IsTurn tracks (Fast cycles) = (1 ≤ cycles) × (cycles ≤ most_fast)
 
 -- a script's ranges, limits and forms
 pub record IsScript (script : ScriptData) : Type 0 where
-  pub version : script.version ≡ 1
+  pub version : (1 ≤ script.version) × (script.version ≤ most_version)
   pub frames : (1 ≤ script.frames) × (script.frames ≤ most_frames)
   pub normal : (1 ≤ script.normal) × (script.normal ≤ most_normal)
   pub cycles : (1 ≤ script.cycles) × (script.cycles ≤ most_cycles)

@@ -2,7 +2,7 @@
 use Rattle.std.specs.Prelude.{ℕ, ◌+◌, ◌*◌, ◌&&◌, ◌||◌, nat_le, ℤ, pos, negsuc, Bool, List, [], ◌∷◌, ◌++◌, length, codes, Option, Some, None, is_some, if◌then◌else◌}
 use Rattle.std.specs.Str.{bytes_eq}
 use Rattle.toml.specs.Data.{Data, string, integer, array, Members, as_str, as_table}
-use Rattle.af_script.specs.Bounds.{most_frames, most_normal, most_cycles, most_product, most_tracks, most_buffer, most_base, unity_scale, most_ops, most_turns}
+use Rattle.af_script.specs.Bounds.{most_version, most_frames, most_normal, most_cycles, most_product, most_tracks, most_buffer, most_base, unity_scale, most_ops, most_turns}
 use Rattle.af_script.specs.Text.{is_name}
 use Rattle.af_script.specs.Ops.{op_at, turn_of, fast_cycles}
 use Rattle.af_script.specs.Tree.{value_at, all_keys, is_top_key, is_track_key, all_are, count_of}
@@ -108,7 +108,7 @@ turns_places tracks tree =
 -- the places of a script, in order
 abbrev pub places : Members → List Place
 places tree =
-    keys 0 is_top_key tree ∷ at 0 key.Version (number 1 1) tree ∷ at 0 key.Frames (number 1 most_frames) tree
+    keys 0 is_top_key tree ∷ at 0 key.Version (number 1 most_version) tree ∷ at 0 key.Frames (number 1 most_frames) tree
     ∷ at 0 key.Normal (number 1 most_normal) tree ∷ at 0 key.Cycles (number 1 most_cycles) tree
     ∷ at 0 key.Track (tables 1 most_tracks) tree ∷ at 0 key.Turns texts_or_none tree
     ∷ bound limit.Product most_product (number_of 0 (value_at key.Cycles tree) * buffer_of tree)

@@ -2,7 +2,7 @@
 use Rattle.std.specs.Prelude.{ℕ, ◌+◌, ◌*◌, ◌==◌, ◌&&◌, nat_le, ℤ, pos, negsuc, Bool, true, false, List, [], ◌∷◌, length, codes, Option, Some, None, ok_or, option_and_then, Result, Ok, Err, if◌then◌else◌}
 use Rattle.std.specs.Str.{bytes_eq}
 use Rattle.toml.specs.Data.{Data, Items, no_items, item, Members, as_integer, as_str, as_table}
-use Rattle.af_script.specs.Bounds.{most_frames, most_normal, most_cycles, most_product, most_tracks, most_buffer, most_base, unity_scale, most_ops, most_turns}
+use Rattle.af_script.specs.Bounds.{most_version, most_frames, most_normal, most_cycles, most_product, most_tracks, most_buffer, most_base, unity_scale, most_ops, most_turns}
 use Rattle.af_script.specs.Text.{is_name}
 use Rattle.af_script.specs.Ops.{op_at, turn_of, closed, fast_cycles}
 use Rattle.af_script.specs.Tree.{tree_of, value_at, all_keys, is_top_key, is_track_key, array_of, count_of}
@@ -43,7 +43,7 @@ number_or table id high default tree = default_if_none default (value_at id tree
 -- the numbers of the top table
 abbrev pub top_numbers : Members → Result TopNumbers ScriptFault
 top_numbers tree =
-    number_in 0 key.Version 1 1 tree >>= (λ version. number_in 0 key.Frames 1 most_frames tree >>= (λ frames.
+    number_in 0 key.Version 1 most_version tree >>= (λ version. number_in 0 key.Frames 1 most_frames tree >>= (λ frames.
     number_in 0 key.Normal 1 most_normal tree >>= (λ normal. number_in 0 key.Cycles 1 most_cycles tree >>= (λ cycles.
     Ok (record { version = version; frames = frames; normal = normal; cycles = cycles })))))
 

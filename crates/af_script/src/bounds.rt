@@ -1,5 +1,8 @@
 //! The bounds of a script's numbers.
 
+/// The highest version of the rules.
+pub const MOST_VERSION: u32 = 2;
+
 /// The most frames of a cycle.
 pub const MOST_FRAMES: u32 = 1024;
 

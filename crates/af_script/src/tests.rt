@@ -14,7 +14,7 @@ const CHANGES: [(&str, &str, &str); 45] = [
     ("version = 1", "= 1", "toml"),
     ("version = 1", "speed = 1\nversion = 1", "unknown 0"),
     ("version = 1\n", "", "key 0 version"),
-    ("version = 1", "version = 2", "range 0 version 2"),
+    ("version = 1", "version = 3", "range 0 version 3"),
     ("frames = 2", "frames = 2.0", "key 0 frames"),
     ("frames = 2", "frames = 0", "range 0 frames 0"),
     ("frames = 2", "frames = 1025", "range 0 frames 1025"),
@@ -77,10 +77,10 @@ const PAIRS: [(&str, &str, &str, &str, &str); 13] = [
     ),
     (
         "version = 1",
-        "version = 2",
+        "version = 3",
         "frames = 2",
         "frames = 0",
-        "range 0 version 2",
+        "range 0 version 3",
     ),
     (
         "cycles = 4",

@@ -1,11 +1,12 @@
 -- What a look and a take of a server's proxy come to.
-use Rattle.std.specs.Prelude.{◌≡◌, ℕ, ◌≤◌, is_some, if◌then◌else◌, MatchOption, Option, Some, None, List, ◌++◌, ◌∷◌, [], map, length}
+use Rattle.std.specs.Prelude.{◌≡◌, ℕ, ◌+◌, ◌≤◌, is_some, if◌then◌else◌, MatchOption, Option, Some, None, List, ◌++◌, ◌∷◌, [], map, length}
 use Rattle.af_base.specs.declared.event.ServerEvent.TheVariants as server
 use Rattle.af_base.specs.declared.frame.Frame.{Frame}
 use Rattle.af_base.specs.declared.seen.Seen.{Seen}
 use Rattle.af_base.specs.declared.seen.Seen.TheVariants as seen
 use Rattle.af_base.specs.Sample.{packed_word}
-use Rattle.af_model.specs.ServerCalls.{look_at, look_events, shown_by}
+use Rattle.af_model.specs.Point.{wrapped}
+use Rattle.af_model.specs.ServerCalls.{look_at, look_events, shown_by, dropped_by, flushes_by}
 use Rattle.af_cblk.specs.declared.view.ServerPart.{ServerPart}
 use Rattle.af_cblk.specs.Parts.{saw_flush, saw_rear, server_saw_front}
 use Rattle.af_cblk.specs.Sides.{ServerSide}
@@ -14,7 +15,7 @@ use Rattle.af_server.specs.Order.{ServerState}
 
 -- ## Looking
 
--- A look answers by the three words that it sees, the flush count kept before, and the frames asked for, and adds the events of that. A proxy that was shut answers the words that shut it, and adds none
+-- A look answers by the three words that it sees, the flush word kept before, and the frames asked for, and adds the events of that. A proxy that was shut answers the words that shut it, and adds none
 abbrev pub Looks : ServerState → ℕ → Look → ServerState → Type 0
 Looks c asked look d =
     MatchOption c.shut
@@ -35,6 +36,11 @@ shut_of _ = None
 abbrev pub dropped_of : Seen → ℕ
 dropped_of (seen.Flushed count) = count
 dropped_of _ = 0
+
+-- how many flushes there were at the last one that was noticed, after a look that saw this flush word
+abbrev pub flushes_after : (wrap flush before : ℕ) → Seen → ℕ
+flushes_after wrap flush before (seen.Flushed count) = flushes_by wrap flush
+flushes_after wrap flush before _ = before
 
 -- there are some frames, and no more than were asked for
 abbrev pub WithinAsk : ℕ → Seen → Type 0
@@ -58,6 +64,10 @@ saw_all s flush rear front = server_saw_front (saw_rear (saw_flush s flush) rear
 -- the words of these frames were loaded, and else the server is as before
 abbrev pub Reads : ServerSide → ServerSide → List Frame → Type 0
 Reads p q into = q ≡ (record p { part = record p.part { loaded = map packed_word into } })
+
+-- the front that a new flush stores: the front seen, and so many frames as it drops
+abbrev pub stored_front : (wrap flush rear front : ℕ) → ℕ
+stored_front wrap flush rear front = wrapped (front + dropped_by wrap flush rear front)
 
 -- these frames were taken
 abbrev pub Takes : ServerState → List Frame → ServerState → Type 0

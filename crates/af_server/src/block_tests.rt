@@ -31,9 +31,10 @@ fn write_one<L: Ledger>(
     true
 }
 
-// Takes one frame, where there is one and no flush was noticed.
+// Takes one frame of a block that isn't positional, where there is one and no flush was noticed.
 fn take_one<L: Ledger>(block: &Block, server: &mut ServerPass, steps: &mut Steps<L>) -> Option<u32>
     requires made { server_made server.old ≡ block.now }
+    requires flat { server.old.part.shape.wrap ≡ 0 }
     requires noticed { server.old.part.noticed ≡ false }
     ensures made { server_made server.new ≡ block.now }
     ensures hand { server.new.has_hand ≡ server.old.has_hand }

@@ -74,6 +74,18 @@ fn write<L: Ledger>(
     Answer::Wrote(client.write(block, &frames[..count as usize], steps))
 }
 
+// Asks for a flush, where there were few.
+fn flush<L: Ledger>(block: &Block, client: &mut Client, steps: &mut Steps<L>) -> Answer
+    requires ready { IsClientOf block.now client.old }
+    ensures ready { IsClientOf block.now client.new }
+{
+    let _wrap = block.wrap();
+    if client.flushes() >= 10_000 {
+        return Answer::NotMade;
+    }
+    Answer::Word(client.flush(block, steps))
+}
+
 // What the client's calls answer.
 pub(crate) fn ask_client<L: Ledger>(
     block: &Block,
@@ -86,9 +98,7 @@ pub(crate) fn ask_client<L: Ledger>(
 {
     match *call {
         Call::Write(first, count) => write(block, client, first, count, steps),
-        Call::Flush if u64::from(client.flushes()) < MOST => {
-            Answer::Word(client.flush(block, steps))
-        }
+        Call::Flush => flush(block, client, steps),
         Call::Gains(word) => {
             client.set_gains(block, word, steps);
             Answer::Done

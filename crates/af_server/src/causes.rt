@@ -4,11 +4,12 @@ use crate::calls::{Answer, Call};
 use af_base::{ClientEvent, INVALID, Memory, Seen, ServerEvent};
 use af_client::{Sent, Wrote};
 
-// The sizes of a block, whether its client may poke, and what a proxy kept before a call: its position, the flush count, and the front and rear that shut it.
+// The sizes and the wrap of a block, whether its client may poke, and what a proxy kept before a call: its position, the flush count, and the front and rear that shut it.
 #[derive(Clone, Copy)]
 pub(crate) struct Kept {
     pub frames: u32,
     pub cells: u32,
+    pub wrap: u32,
     pub poked: bool,
     pub position: u32,
     pub flushes: u32,
@@ -184,7 +185,7 @@ fn note_look(list: &mut Vec<ServerEvent>, kept: &Kept, look: &Look) -> Result<()
     let Look { flush, rear, seen } = *look;
     let front = match seen {
         Seen::Shut { front, .. } => front,
-        Seen::Flushed { dropped } => rear.wrapping_sub(dropped),
+        Seen::Flushed { dropped } if kept.wrap == 0 => rear.wrapping_sub(dropped),
         _ => kept.position,
     };
     if kept.shut != None {
@@ -197,7 +198,10 @@ fn note_look(list: &mut Vec<ServerEvent>, kept: &Kept, look: &Look) -> Result<()
     ];
     note(list, &saw)?;
     match seen {
-        Seen::Flushed { .. } => note(list, &[ServerEvent::Drop { to: rear }]),
+        Seen::Flushed { dropped } => {
+            let to = front.wrapping_add(dropped);
+            note(list, &[ServerEvent::Drop { to }])
+        }
         _ => Ok(()),
     }
 }
@@ -239,16 +243,40 @@ pub(crate) fn note_server(
     }
 }
 
+// How many flushes a flush word tells of.
+fn flushes_by(kept: &Kept, word: u32) -> u32 {
+    match kept.wrap {
+        0 => word,
+        wrap => word / wrap,
+    }
+}
+
+// Whether a flush word is another than the one kept. Of a positional block the number of flushes alone is known.
+fn is_new(kept: &Kept, flush: u32) -> bool {
+    kept.wrap != 0 || flush != kept.flushes
+}
+
+// Whether so many frames are dropped: all that are there, or on a positional block those up to the place that the flush word tells.
+fn is_dropped(kept: &Kept, flush: u32, there: u32, dropped: u32) -> bool {
+    if kept.wrap == 0 {
+        return dropped == there;
+    }
+    let to = kept.position.wrapping_add(dropped);
+    dropped == 0 || (dropped <= there && to % kept.wrap == flush % kept.wrap)
+}
+
 // Whether what a look shows has its cause where the client may have poked any word.
 fn shown_after_pokes(kept: &Kept, ask: u32, look: &Look) -> bool {
     match look.seen {
         Seen::Shut { front, rear } => {
-            is_outside(kept, front, rear) && look.flush == kept.flushes && look.rear == rear
+            let same = kept.wrap != 0 || look.flush == kept.flushes;
+            is_outside(kept, front, rear) && same && look.rear == rear
         }
-        Seen::Flushed { .. } => kept.shut == None && look.flush != kept.flushes,
-        Seen::Empty => kept.shut == None && look.flush == kept.flushes,
+        Seen::Flushed { .. } => kept.shut == None && is_new(kept, look.flush),
+        Seen::Empty => kept.shut == None && flushes_by(kept, look.flush) == kept.flushes,
         Seen::Frames { count } => {
-            kept.shut == None && look.flush == kept.flushes && count >= 1 && count <= ask
+            let same = flushes_by(kept, look.flush) == kept.flushes;
+            kept.shut == None && same && count >= 1 && count <= ask
         }
         Seen::Absent => false,
     }
@@ -257,12 +285,15 @@ fn shown_after_pokes(kept: &Kept, ask: u32, look: &Look) -> bool {
 // The same where it has not poked: the server's own position is front, and flush counts rise.
 fn shown_by_cause(kept: &Kept, ask: u32, look: &Look) -> bool {
     let there = look.rear.wrapping_sub(kept.position);
+    let flushes = flushes_by(kept, look.flush);
     there <= kept.frames
         && match look.seen {
-            Seen::Flushed { dropped } => look.flush > kept.flushes && dropped == there,
-            Seen::Empty => look.flush == kept.flushes && there == 0,
+            Seen::Flushed { dropped } => {
+                flushes > kept.flushes && is_dropped(kept, look.flush, there, dropped)
+            }
+            Seen::Empty => flushes == kept.flushes && there == 0,
             Seen::Frames { count } => {
-                look.flush == kept.flushes && count >= 1 && count == ask.min(there)
+                flushes == kept.flushes && count >= 1 && count == ask.min(there)
             }
             _ => false,
         }

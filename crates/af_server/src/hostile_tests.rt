@@ -1,6 +1,8 @@
 //! A client and a server on two threads, on a stream block and a command block, that meet between their rounds. In each tenth run the client pokes.
 ghost use Rattle.std.specs.Prelude.{◌≡◌, ◌<◌, ◌≤◌, ◌^◌, IfOk};
 ghost use Rattle.af_model.specs.Merges.{IsStart};
+ghost use Rattle.af_cblk.specs.Rule.{new_client, new_server};
+ghost use Rattle.af_cblk.specs.Sides.{client_made, server_made};
 ghost use Rattle.af_client.specs.Order.{IsClientOf};
 ghost use Rattle.af_server.specs.Order.{IsServerOf};
 
@@ -9,7 +11,7 @@ use crate::calls::Call;
 use crate::causes::note;
 use crate::sides::{Recorded, Side, meet};
 use af_base::{ClientEvent, Memory, ServerEvent, Steps};
-use af_cblk::Block;
+use af_cblk::{Block, ClientPass, ServerPass};
 use af_client::Client;
 use af_model::{TrackPoint, merge_check};
 use std::alloc::Global;
@@ -138,7 +140,7 @@ fn round<R: Threads + Sync>(
 }
 
 // A block at its base.
-fn fresh(base: u64) -> TrackPoint
+fn fresh(base: u64, wrap: u32) -> TrackPoint
     requires { base < 2 ^ 32 }
     ensures { IsStart result }
 {
@@ -152,13 +154,16 @@ fn fresh(base: u64) -> TrackPoint
         flags: 0,
         status: 0,
         underruns: 0,
+        flush_at: 0,
+        drop_to: 0,
+        wrap,
     }
 }
 
 // Whether each answer had its cause, and, where the client does not poke, the lists have a legal order. Each list has at most 10,000 events.
 fn has_causes_and_order(
     alloc: Global,
-    base: u32,
+    block: &Block,
     client: &Recorded<Client, ClientEvent>,
     server: &Recorded<Server, ServerEvent>,
 ) -> Result<bool, Memory> {
@@ -169,7 +174,7 @@ fn has_causes_and_order(
     if client.list.len() > 10_000 || server.list.len() > 10_000 {
         return Ok(false);
     }
-    let from = fresh(u64::from(base));
+    let from = fresh(u64::from(block.base()), block.wrap());
     merge_check(
         alloc,
         client.list.as_slice(),
@@ -194,16 +199,17 @@ fn meet_both(
     let Both { stream, command } = blocks;
     meet(stream, &mut clients.stream, &mut servers.stream)?;
     meet(command, &mut clients.command, &mut servers.command)?;
-    let first = has_causes_and_order(alloc, stream.base(), &clients.stream, &servers.stream)?;
-    let second = has_causes_and_order(alloc, 0, &clients.command, &servers.command)?;
+    let first = has_causes_and_order(alloc, stream, &clients.stream, &servers.stream)?;
+    let second = has_causes_and_order(alloc, command, &clients.command, &servers.command)?;
     Ok(first && second)
 }
 
-// A run: the frames and the base of its stream block, and from which word on its client pokes, if it does.
+// A run: the frames and the base of its stream block, whether its flushes carry their position, and from which word on its client pokes, if it does.
 #[derive(Clone, Copy, Drop)]
 struct Plan {
     frames: u32,
     base: u32,
+    positional: bool,
     poked: Option<u32>,
 }
 
@@ -282,12 +288,24 @@ fn rounds<R: Threads + Sync>(
     Ok(all)
 }
 
+// A new stream block.
+fn stream_block(alloc: Global, plan: &Plan) -> Result<(Block, ClientPass, ServerPass), Memory>
+    requires { (1 ≤ plan.now.frames) × (plan.now.frames ≤ 8192) }
+    ensures made { IfOk result (λ r. (client_made r.1 ≡ r.0) × (server_made r.2 ≡ r.0)) }
+    ensures new { IfOk result (λ r. (r.1.part ≡ new_client r.0.shape) × (r.2.part ≡ new_server r.0.shape)) }
+{
+    if plan.positional {
+        return Block::make_positional(alloc, plan.frames, plan.base);
+    }
+    Block::make(alloc, plan.frames, plan.base)
+}
+
 // A run on two new blocks.
 fn run<R: Threads + Sync>(rt: &R, alloc: Global, plan: &Plan) -> Result<bool, Memory>
-    requires { (1 ≤ plan.now.frames) × (plan.now.frames ≤ 65536) }
+    requires { (1 ≤ plan.now.frames) × (plan.now.frames ≤ 8192) }
 {
     let poked = plan.poked.is_some();
-    let (stream, stream_client, stream_server) = Block::make(alloc, plan.frames, plan.base)?;
+    let (stream, stream_client, stream_server) = stream_block(alloc, plan)?;
     let (command, client, server) = Block::make(alloc, 128, 0)?;
     let clients = Both {
         stream: Recorded::new(alloc, Client::with(stream_client, &stream), poked),
@@ -300,9 +318,9 @@ fn run<R: Threads + Sync>(rt: &R, alloc: Global, plan: &Plan) -> Result<bool, Me
     rounds(rt, alloc, plan, &Both { stream, command }, clients, servers)
 }
 
-// The plan of the run of a number. Each tenth pokes.
+// The plan of the run of a number. Each tenth pokes, and half of the runs have flushes that carry their position.
 fn plan_of(number: u32) -> Plan
-    ensures { (1 ≤ result.frames) × (result.frames ≤ 65536) }
+    ensures { (1 ≤ result.frames) × (result.frames ≤ 8192) }
 {
     let (frames, base) = match number % 3 {
         0 => (3, 0xffff_fffe),
@@ -318,6 +336,7 @@ fn plan_of(number: u32) -> Plan
     Plan {
         frames,
         base,
+        positional: number % 2 == 0,
         poked,
     }
 }

@@ -1,7 +1,8 @@
 //! What a client and a server know of each other once they meet.
-ghost use Rattle.std.specs.Prelude.{◌≡◌, ℕ, ◌+◌, true, None, List, [], length, take};
+ghost use Rattle.std.specs.Prelude.{◌≡◌, ◌≢◌, ℕ, ◌+◌, true, None, List, [], length, take};
 ghost use Rattle.af_base.specs.declared.event.HandEvent.{HandEvent};
 ghost use Rattle.af_base.specs.declared.event.ServerEvent.TheVariants as server_event;
+ghost use Rattle.af_model.specs.Discards.{DiscardsBefore};
 ghost use Rattle.af_model.specs.Fates.{drops_none};
 ghost use Rattle.af_model.specs.History.{is_lawful, HasHistory};
 ghost use Rattle.af_model.specs.ClientCalls.{IsClientList};
@@ -17,7 +18,7 @@ use std::sync::ledger::Ledger;
 impl Server {
     /// Meets the client of the same block, whose list is spelled by the calls of a proxy: each learns what the other has done so far.
     ///
-    /// Where the client has not poked, their lists have a history, in which no look of this server was shut, and where no frames were discarded, those taken are a beginning of those released.
+    /// Where the client has not poked, their lists have a history, in which no look of this server was shut, and where no frames were discarded, those taken are a beginning of those released. On a positional block what a look discarded was released before the flush that it saw, and after it all that was released before that flush is taken or discarded.
     pub fn meet<L: Ledger>(&mut self, block: &Block, client: &mut ClientPass, steps: &mut Steps<L>)
         requires client { client_made client.old ≡ block.now }
         requires ready { IsServerOf block.now self.old }
@@ -30,6 +31,9 @@ impl Server {
             → (hand : List HandEvent) × (self.old.pass.has_hand ≡ true → hand ≡ [])
             × HasHistory block.now.shape client.new.part.events client.new.part.frames self.new.pass.part.events self.new.pass.part.frames hand }
         ensures unshut { is_lawful client.old.part.events ≡ true → self.new.shut ≡ None }
+        ensures flushed { is_lawful client.old.part.events ≡ true → block.now.shape.wrap ≢ 0
+            → (hand : List HandEvent)
+            × ((h : HasHistory block.now.shape client.new.part.events client.new.part.frames self.new.pass.part.events self.new.pass.part.frames hand) × DiscardsBefore block.now.shape h.order) }
         ensures begins { is_lawful client.old.part.events ≡ true → drops_none self.old.pass.part.events ≡ true
             → (n : ℕ) × (self.new.pass.part.frames ≡ take n client.new.part.frames) }
         ensures steps { steps.new ≡ steps.old + 5 }

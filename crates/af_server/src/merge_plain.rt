@@ -14,12 +14,24 @@ struct Order {
     at: [u64; 4],
 }
 
+/// The flush word at a point.
+fn flush_word(p: &TrackPoint) -> u32 {
+    if p.wrap == 0 {
+        return p.flushes;
+    }
+    let place = (p.flush_at % u64::from(p.wrap)) as u32;
+    place.wrapping_add(p.wrap.wrapping_mul(p.flushes))
+}
+
 impl Order {
     fn client(&mut self, event: &ClientEvent) -> bool {
         let p = &mut self.point;
         match *event {
             ClientEvent::Release { count } => p.released = p.released.wrapping_add(count.into()),
-            ClientEvent::Flush => p.flushes = p.flushes.wrapping_add(1),
+            ClientEvent::Flush => {
+                p.flushes = p.flushes.wrapping_add(1);
+                p.flush_at = p.released;
+            }
             ClientEvent::SetGain { word } => p.gains = word,
             ClientEvent::ClearFlags { old } => {
                 if old != p.flags {
@@ -41,15 +53,22 @@ impl Order {
         let p = &mut self.point;
         match *event {
             ServerEvent::SawGain { word } => return word == p.gains,
-            ServerEvent::SawFlush { flush } => return flush == p.flushes,
+            ServerEvent::SawFlush { flush } => {
+                p.drop_to = p.flush_at;
+                return flush == flush_word(p);
+            }
             ServerEvent::SawRear { rear } => {
                 p.rear_seen = p.released;
                 return u64::from(rear) == p.released % (1 << 32);
             }
             ServerEvent::SawFront { front } => return u64::from(front) == p.consumed % (1 << 32),
             ServerEvent::Drop { to } => {
-                p.consumed = p.rear_seen;
-                return u64::from(to) == p.rear_seen % (1 << 32);
+                p.consumed = match p.wrap {
+                    0 => p.rear_seen,
+                    _ if p.drop_to < p.consumed => p.consumed,
+                    _ => p.drop_to,
+                };
+                return u64::from(to) == p.consumed % (1 << 32);
             }
             ServerEvent::Take { count } => {
                 p.consumed = p.consumed.wrapping_add(count.into());

@@ -60,13 +60,13 @@ impl Draw {
         }
     }
 
-    fn server(&mut self) -> ServerEvent {
+    fn server(&mut self, wrap: u32) -> ServerEvent {
         match self.below(12) {
             0 => ServerEvent::SawGain {
                 word: self.below(2),
             },
             1 => ServerEvent::SawFlush {
-                flush: self.below(2),
+                flush: self.below(2 + wrap % 5 * 2),
             },
             2 | 3 => ServerEvent::SawRear { rear: self.word() },
             4 => ServerEvent::SawFront { front: self.word() },
@@ -108,6 +108,9 @@ impl Draw {
             flags: self.flags(),
             status: 0,
             underruns: 0,
+            flush_at: base + u64::from(self.below(2)),
+            drop_to: base + u64::from(self.below(2)),
+            wrap: self.below(2) * 4,
         }
     }
 }
@@ -120,10 +123,10 @@ fn clients(alloc: Global, draw: &mut Draw) -> Result<Vec<ClientEvent>, AllocErro
     Ok(events)
 }
 
-fn servers(alloc: Global, draw: &mut Draw) -> Result<Vec<ServerEvent>, AllocError> {
+fn servers(alloc: Global, draw: &mut Draw, wrap: u32) -> Result<Vec<ServerEvent>, AllocError> {
     let mut events = Vec::new(alloc);
     for _ in 0..draw.below(4) {
-        events.push(draw.server())?;
+        events.push(draw.server(wrap))?;
     }
     Ok(events)
 }
@@ -154,17 +157,17 @@ fn cut(draw: &mut Draw) -> Cut {
     )
 }
 
-/// 6,000 triples, whole and in three pieces.
+/// 6,000 triples, of blocks with either kind of flush, whole and in three pieces.
 #[test]
 fn answers_as_all_orders_do(rt: HostRuntime) -> Result<(), Fail> {
     let mut draw = Draw { state: 11 };
     let mut legal = 0u32;
     for number in 0..6000u32 {
+        let from = draw.point();
         let client = clients(rt.alloc(), &mut draw)?;
-        let server = servers(rt.alloc(), &mut draw)?;
+        let server = servers(rt.alloc(), &mut draw, from.wrap)?;
         let hand = hands(rt.alloc(), &mut draw)?;
         let lists = (client.as_slice(), server.as_slice(), hand.as_slice());
-        let from = draw.point();
         let middle = cut(&mut draw);
         let first = cut(&mut draw);
         let want = (

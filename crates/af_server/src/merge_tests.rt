@@ -23,6 +23,9 @@ fn fresh(base: u64) -> TrackPoint
         flags: 0,
         status: 0,
         underruns: 0,
+        flush_at: 0,
+        drop_to: 0,
+        wrap: 0,
     }
 }
 
@@ -173,6 +176,42 @@ fn meeting_may_stand_early(rt: HostRuntime) -> Result<(), Fail> {
         &fresh(0),
     )?;
     assert_eq!(rt; got, (false, (true, true, false)));
+    Ok(())
+}
+
+/// A flush of a positional block drops what was released before it, and no frame that came later.
+#[test]
+fn drops_only_what_the_flush_saw(rt: HostRuntime) -> Result<(), Fail> {
+    let client = [
+        ClientEvent::Flush,
+        ClientEvent::Release { count: 4 },
+        ClientEvent::SawFront { front: 4 },
+        ClientEvent::Release { count: 4 },
+    ];
+    let from = TrackPoint {
+        wrap: 16,
+        ..fresh(0)
+    };
+    for (to, want) in [(4, true), (8, false)] {
+        let server = [
+            ServerEvent::SawFlush { flush: 0 },
+            ServerEvent::SawRear { rear: 4 },
+            ServerEvent::SawFront { front: 0 },
+            ServerEvent::Take { count: 4 },
+            ServerEvent::SawFlush { flush: 16 },
+            ServerEvent::SawRear { rear: 8 },
+            ServerEvent::SawFront { front: 4 },
+            ServerEvent::Drop { to },
+        ];
+        let got = decide(
+            rt.alloc(),
+            (&client, &server, &[]),
+            (1, 4, 0),
+            (4, 7, 0),
+            &from,
+        )?;
+        assert_eq!(rt; (got.0, got.1.2), (want, want), "drop to {to}");
+    }
     Ok(())
 }
 

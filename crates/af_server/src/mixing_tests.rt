@@ -1,4 +1,4 @@
-use af_base::{Cycle, CycleEntry, FastLog, Frame, Seen, SlotEntry};
+use af_base::{Cycle, CycleEntry, FastLog, Frame, SLOTS, Seen, SlotEntry};
 use af_model::mix_entry;
 use std::test::Fail;
 
@@ -12,7 +12,7 @@ fn an_entry_is_mixed_with_silence_for_missing_frames(rt: HostRuntime) -> Result<
         seen: Seen::Absent,
         first: 0,
     };
-    let mut slots = [absent; 8];
+    let mut slots = [absent; SLOTS];
     slots[1] = SlotEntry {
         gains: 0x0800_1000,
         rear: 2,
@@ -40,11 +40,14 @@ fn an_entry_is_mixed_with_silence_for_missing_frames(rt: HostRuntime) -> Result<
             right: 30000,
         },
     ]);
+    let mut scales = [0; SLOTS];
+    scales[1] = 0x1000;
+    scales[4] = 0x0800;
     log.push(CycleEntry {
         state: 1,
         cycle: Cycle::Mixed,
         slots,
-        scales: [0, 0x1000, 0, 0, 0x0800, 0, 0, 0],
+        scales,
         mono: 0x10,
     });
     let mut out = [Frame { left: 9, right: 9 }; 3];

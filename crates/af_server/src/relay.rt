@@ -3,6 +3,7 @@ ghost use Rattle.std.specs.Prelude.{◌≡◌, ◌+◌, ◌++◌, ◌^◌, ◌<�
 ghost use Rattle.af_base.specs.Sample.{packed_word};
 ghost use Rattle.af_model.specs.Fates.{drops_none};
 ghost use Rattle.af_model.specs.History.{is_lawful};
+ghost use Rattle.af_cblk.specs.Rule.{new_client, new_server};
 ghost use Rattle.af_cblk.specs.Sides.{client_made, server_made};
 ghost use Rattle.af_client.specs.Order.{IsClientOf};
 ghost use Rattle.af_server.specs.Order.{IsServerOf};
@@ -10,7 +11,7 @@ ghost use Rattle.af_server.specs.Relay.{Sent, Received, count_of, IsFlushed};
 
 use crate::Server;
 use af_base::{Frame, Memory, Seen, Steps};
-use af_cblk::Block;
+use af_cblk::{Block, ClientPass, ServerPass};
 use af_client::{Client, Wrote};
 use std::alloc::Global;
 use std::marker::Brand;
@@ -55,7 +56,8 @@ fn stir<L: Ledger>(block: &Block, client: &mut Client, gains: u32, steps: &mut S
     ensures same { (client.new.pass.part.frames ≡ client.old.pass.part.frames) × (client.new.released ≡ client.old.released) }
 {
     client.set_gains(block, gains, steps);
-    if client.flushes() < 1_000_000 {
+    let _wrap = block.wrap();
+    if client.flushes() < 60_000 {
         client.flush(block, steps);
     }
 }
@@ -233,19 +235,29 @@ fn compare_in<L: Ledger>(
     server.meet(block, client.pass(), &mut steps);
 }
 
+// A block of three frames, whose flushes may carry their position.
+fn block_of(alloc: Global, positional: bool) -> Result<(Block, ClientPass, ServerPass), Memory>
+    ensures made { IfOk result (λ r. (client_made r.1 ≡ r.0) × (server_made r.2 ≡ r.0)) }
+    ensures new { IfOk result (λ r. (r.1.part ≡ new_client r.0.shape) × (r.2.part ≡ new_server r.0.shape)) }
+{
+    if positional {
+        return Block::make_positional(alloc, 3, 0);
+    }
+    Block::make(alloc, 3, 0)
+}
+
 // What one thread took of the frames that another wrote: a beginning of them where no flush was noticed.
 fn relay<R: Threads + Sync>(
     rt: &R,
     alloc: Global,
-    capacity: u32,
+    positional: bool,
     frames: &[Frame],
     busy: bool,
 ) -> Result<(Vec<Frame>, bool, bool), Memory>
-    requires capacity { (1 ≤ capacity) × (capacity ≤ 65536) }
     requires few { length frames.now ≤ 65536 }
     ensures { IfOk result (λ r. r.1 ≡ true → map packed_word r.0.items ≡ take (vec_len r.0) (map packed_word frames.now)) }
 {
-    let (block, client, server) = Block::make(alloc, capacity, 0)?;
+    let (block, client, server) = block_of(alloc, positional)?;
     let shared = &block;
     let total = frames.len() as u64;
     let client = Client::with(client, shared);
@@ -280,20 +292,29 @@ fn numbered(alloc: Global) -> Result<Vec<Frame>, Memory>
 }
 
 // Whether the frames came in place, and no flush was noticed but by a busy client.
-fn comes_in_place<R: Threads + Sync>(rt: &R, alloc: Global, busy: bool) -> Result<bool, Memory> {
+fn comes_in_place<R: Threads + Sync>(
+    rt: &R,
+    alloc: Global,
+    positional: bool,
+    busy: bool,
+) -> Result<bool, Memory> {
     let frames = numbered(alloc)?;
-    let (_, clean, in_place) = relay(rt, alloc, 3, frames.as_slice(), busy)?;
+    let (_, clean, in_place) = relay(rt, alloc, positional, frames.as_slice(), busy)?;
     Ok(in_place && (clean || busy))
 }
 
 #[test]
 fn frames_come_in_order_from_another_thread(rt: HostRuntime) {
-    let found = comes_in_place(&rt, rt.alloc(), false);
-    assert!(rt; found == Ok(true));
+    for positional in [false, true] {
+        let found = comes_in_place(&rt, rt.alloc(), positional, false);
+        assert!(rt; found == Ok(true));
+    }
 }
 
 #[test]
 fn frames_stay_in_place_across_flushes(rt: HostRuntime) {
-    let found = comes_in_place(&rt, rt.alloc(), true);
-    assert!(rt; found == Ok(true));
+    for positional in [false, true] {
+        let found = comes_in_place(&rt, rt.alloc(), positional, true);
+        assert!(rt; found == Ok(true));
+    }
 }

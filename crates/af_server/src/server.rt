@@ -23,8 +23,10 @@ pub(crate) const MOST_CONSUMED: u64 = 0x7fff_ffff_ffff_ffff;
 #[derive(Drop)]
 pub struct Server {
     pub(crate) pass: ServerPass,
-    // The flush count last seen.
+    // The flush word last seen.
     pub(crate) flush: u32,
+    // How many flushes there were at the last one that was noticed.
+    pub(crate) flushes: u32,
     // The front last seen.
     pub(crate) front: u32,
     // How many frames the last call showed, where it was a look that showed some.
@@ -38,7 +40,7 @@ impl Model for Server {
 
     ghost Value = { ServerState };
 
-    ghost view = { λ s. record { pass = s.pass; flush = s.flush; front = s.front; shown = s.shown; consumed = s.consumed; shut = s.shut } };
+    ghost view = { λ s. record { pass = s.pass; flush = s.flush; flushes = s.flushes; front = s.front; shown = s.shown; consumed = s.consumed; shut = s.shut } };
 }
 
 // A count of consumed frames, with some more.
@@ -55,13 +57,14 @@ impl Server {
         requires made { server_made pass ≡ block.now }
         requires new { pass.part ≡ new_server block.now.shape }
         ensures pass { result.pass ≡ pass }
-        ensures kept { (result.flush ≡ 0) × (result.consumed ≡ 0) × (result.shown ≡ None) × (result.shut ≡ None) }
+        ensures kept { (result.flush ≡ 0) × (result.flushes ≡ 0) × (result.consumed ≡ 0) × (result.shown ≡ None) × (result.shut ≡ None) }
         ensures ready { IsServerOf block.now result }
     {
         let front = block.base();
         Server {
             pass,
             flush: 0,
+            flushes: 0,
             front,
             shown: None,
             consumed: 0,
@@ -76,11 +79,11 @@ impl Server {
         self.consumed
     }
 
-    /// The flush count that the last look saw, and 0 before any look.
+    /// How many flushes the client had asked for, by the flush word that the last look noticed, and 0 before any.
     pub fn flush_seen(&self) -> u32
-        ensures { result ≡ self.now.flush }
+        ensures { result ≡ self.now.flushes }
     {
-        self.flush
+        self.flushes
     }
 
     /// The front and rear that shut this proxy, if it was shut.
@@ -106,7 +109,7 @@ impl Server {
     /// Lends the pass to a meeting.
     pub fn pass(&mut self) -> &mut ServerPass
         ensures value { result.now ≡ self.entry.now.pass }
-        ensures* lends { sem 𝓛 (Lends the_row pass_row self.entry result (λ p. record { pass = p; flush = self.entry.now.flush; front = self.entry.now.front; shown = self.entry.now.shown; consumed = self.entry.now.consumed; shut = self.entry.now.shut })) }
+        ensures* lends { sem 𝓛 (Lends the_row pass_row self.entry result (λ p. record { pass = p; flush = self.entry.now.flush; flushes = self.entry.now.flushes; front = self.entry.now.front; shown = self.entry.now.shown; consumed = self.entry.now.consumed; shut = self.entry.now.shut })) }
     {
         &mut self.pass
     }

@@ -71,6 +71,7 @@ impl Side for Recorded<Client, ClientEvent> {
         let kept = Kept {
             frames: block.frames(),
             cells: block.cells(),
+            wrap: block.wrap(),
             poked: self.poked,
             position: position_of(block.base(), self.proxy.released()),
             flushes: self.proxy.flushes(),
@@ -96,6 +97,7 @@ impl Side for Recorded<Server, ServerEvent> {
         let kept = Kept {
             frames: block.frames(),
             cells: block.cells(),
+            wrap: block.wrap(),
             poked: self.poked,
             position: position_of(block.base(), self.proxy.consumed()),
             flushes: self.proxy.flush_seen(),

@@ -26,6 +26,26 @@ fn is_server(call: &Call) -> bool {
     )
 }
 
+// What a call of either proxy answers.
+fn ask<L: Ledger>(
+    block: &Block,
+    client: &mut Client,
+    server: &mut Server,
+    call: &Call,
+    steps: &mut Steps<L>,
+) -> Answer
+    requires client { IsClientOf block.now client.old }
+    requires server { IsServerOf block.now server.old }
+    ensures client { IsClientOf block.now client.new }
+    ensures server { IsServerOf block.now server.new }
+{
+    if is_server(call) {
+        ask_server(block, server, call, steps)
+    } else {
+        ask_client(block, client, call, steps)
+    }
+}
+
 // Whether the calls answer as the table says.
 fn all_answer<L: Ledger>(
     block: &Block,
@@ -38,12 +58,7 @@ fn all_answer<L: Ledger>(
     requires server { IsServerOf block.now server }
 {
     for (call, answer) in table {
-        let found = if is_server(call) {
-            ask_server(block, &mut server, call, steps)
-        } else {
-            ask_client(block, &mut client, call, steps)
-        };
-        if found != *answer {
+        if ask(block, &mut client, &mut server, call, steps) != *answer {
             return false;
         }
     }
@@ -90,6 +105,18 @@ fn flushed(flush: u32, rear: u32, dropped: u32) -> Answer {
 fn took(flush: u32, rear: u32, count: u32, words: [u32; 3]) -> Answer {
     let seen = Seen::Frames { count };
     Answer::Took(Look { flush, rear, seen }, words)
+}
+
+// A call that was to take what a look shows, where there was nothing.
+fn took_none(answer: Answer) -> Answer {
+    match answer {
+        Answer::Saw(look) => Answer::Took(look, [0; 3]),
+        other => other,
+    }
+}
+
+fn shut(front: u32, rear: u32) -> Seen {
+    Seen::Shut { front, rear }
 }
 
 #[test]
@@ -157,6 +184,125 @@ fn each_new_flush_is_noticed_once(rt: HostRuntime) {
         (Call::Write(8, 1), dead),
     ];
     assert!(rt; plays(rt.alloc(), 8, 0, &table) == Ok(true));
+}
+
+// A call, and what it answers on a block whose flushes are counted and on a positional one.
+type Row = (Call, Answer, Answer);
+
+fn column_of(row: &Row, positional: bool) -> Answer {
+    if positional { row.2 } else { row.1 }
+}
+
+// Whether the calls answer as one of the two columns says.
+fn column_answers<L: Ledger>(
+    block: &Block,
+    mut client: Client,
+    mut server: Server,
+    positional: bool,
+    table: &[Row],
+    steps: &mut Steps<L>,
+) -> bool
+    requires client { IsClientOf block.now client }
+    requires server { IsServerOf block.now server }
+{
+    for row in table {
+        let (call, _, _) = row;
+        if ask(block, &mut client, &mut server, call, steps) != column_of(row, positional) {
+            return false;
+        }
+    }
+    true
+}
+
+// Whether the calls answer so on new blocks of both kinds.
+fn both_play_in<L: Ledger>(
+    blank: Blank,
+    alloc: Global,
+    frames: u32,
+    base: u32,
+    table: &[Row],
+) -> Result<bool, Memory>
+    requires ledger { (blank.name ≡ L.name) × (blank.parts ≡ L.parts) × (0 < blank.parts) }
+    requires frames { (1 ≤ frames) × (frames ≤ 8192) }
+{
+    let mut steps = Steps::<L>::start(blank);
+    let (counted, client, server) = Block::make(alloc, frames, base)?;
+    let client = Client::with(client, &counted);
+    let server = Server::with(server, &counted);
+    let first = column_answers(&counted, client, server, false, table, &mut steps);
+    let (placed, client, server) = Block::make_positional(alloc, frames, base)?;
+    let client = Client::with(client, &placed);
+    let server = Server::with(server, &placed);
+    let second = column_answers(&placed, client, server, true, table, &mut steps);
+    Ok(first && second && counted.wrap() == 0 && placed.wrap() == 4 * placed.cells())
+}
+
+fn both_play(alloc: Global, frames: u32, base: u32, table: &[Row]) -> Result<bool, Memory>
+    requires { (1 ≤ frames) × (frames ≤ 8192) }
+{
+    both_play_in::<Brand>(Blank::new(1), alloc, frames, base, table)
+}
+
+// The same answer on both.
+fn same(call: Call, answer: Answer) -> Row {
+    (call, answer, answer)
+}
+
+#[test]
+fn a_positional_flush_spares_what_is_written_after_it(rt: HostRuntime) {
+    let one = |flush| saw(flush, 4, Seen::Frames { count: 1 });
+    let table = [
+        same(Call::Write(1, 3), put(0, 3, 1)),
+        same(Call::Flush, Answer::Word(1)),
+        same(Call::Write(4, 1), put(0, 1, 0)),
+        (Call::Look(4), flushed(1, 4, 4), flushed(19, 4, 3)),
+        (Call::Look(4), saw(1, 4, Seen::Empty), one(19)),
+        (Call::Flush, Answer::Word(2), Answer::Word(2)),
+        (
+            Call::Take(3),
+            took_none(flushed(2, 4, 0)),
+            took_none(flushed(36, 4, 1)),
+        ),
+        (Call::Flush, Answer::Word(3), Answer::Word(3)),
+        (Call::Write(5, 2), put(4, 2, 2), put(4, 2, 2)),
+        (Call::Look(4), flushed(3, 6, 2), flushed(52, 6, 0)),
+        (
+            Call::Take(3),
+            took_none(saw(3, 6, Seen::Empty)),
+            took(52, 6, 2, [5, 6, 0]),
+        ),
+    ];
+    assert!(rt; both_play(rt.alloc(), 4, 0, &table) == Ok(true));
+}
+
+#[test]
+fn a_positional_flush_is_placed_across_the_wrap(rt: HostRuntime) {
+    let table = [
+        same(Call::Write(1, 4), put(0xffff_fffe, 2, 2)),
+        same(Call::Write(3, 1), put(0xffff_fffe, 1, 1)),
+        same(Call::Flush, Answer::Word(1)),
+        same(Call::Write(4, 1), put(0xffff_fffe, 1, 0)),
+        (Call::Look(4), flushed(1, 2, 4), flushed(17, 2, 3)),
+        (
+            Call::Take(3),
+            took_none(saw(1, 2, Seen::Empty)),
+            took(17, 2, 1, [4, 0, 0]),
+        ),
+        (Call::Write(5, 2), put(2, 2, 2), put(2, 2, 2)),
+        (Call::Poke(2, 0), Answer::Done, Answer::Done),
+        (Call::Poke(0, 90), Answer::Done, Answer::Done),
+        (
+            Call::Look(4),
+            flushed(0, 4, 0xffff_ffaa),
+            saw(0, 4, shut(90, 4)),
+        ),
+        (
+            Call::Look(4),
+            saw(0, 4, Seen::Empty),
+            saw(0, 4, shut(90, 4)),
+        ),
+    ];
+    assert!(rt; both_play(rt.alloc(), 4, 0xffff_fffe, &table) == Ok(true));
 }
 
 #[test]

@@ -1,4 +1,4 @@
-use Rattle.std.proofs.Common.{◌≡◌, ℕ, ◌+◌, ◌*◌, true, length, ap, subst, refl, ◌∙◌, arith}
+use Rattle.std.proofs.Common.{◌≡◌, ℕ, suc, ◌+◌, ◌*◌, ◌≤◌, true, length, ap, subst, refl, ◌∙◌, arith}
 use Rattle.af_base.specs.declared.log.CycleEntry.{CycleEntry}
 use Rattle.af_base.specs.declared.log.SlotEntry.{SlotEntry}
 use Rattle.af_base.specs.Log.{slots}
@@ -7,7 +7,9 @@ use Rattle.af_model.specs.StateQueue.{carries}
 use Rattle.af_model.proofs.EntrySlots.{with_slot}
 use Rattle.af_fast.specs.Slots.{LogsSlot, PlayedTo, PlaysSlots}
 use Rattle.af_fast.proofs.SlotSteps.{slot_step}
-use Rattle.af_fast.proofs.SlotsDone.{begins, ends, room_for, taken_few, one_more}
+use Rattle.af_fast.proofs.SlotsDone.{begins, ends, room_for, taken_few}
+use Rattle.af_fast.specs.Tracks.{tracks_below}
+use Rattle.af_fast.proofs.Counted.{slot_counted, all_below}
 use Rattle.af_fast.proofs.slots.play_slots.Goals as goal
 
 pub loop-slot-init : goal.loop-slot-init
@@ -31,7 +33,11 @@ loop-slot-preserved g c =
     let asked : ℕ = length c.args.buffer.now in
     let i : ℕ = c.loop-slot.slot in
     let begun : CycleEntry = with_slot c.marked_entry-entry.result 0 c.log_pipe.result in
-    let more : (i + 1) * (asked + 7) ≡ i * (asked + 7) + (asked + 7) = one_more i (asked + 7) in
+    let bound : ℕ = c.args.steps.now + (asked + 3) in
+    let counted : c.play_slot.new.steps ≤ bound + tracks_below c.args.state.now (suc i) * (asked + 7) =
+    slot_counted c.args.state.now i (asked + 7) c.play_slot.new.steps c.loop-slot.steps bound c.loop-slot.invariant.stepped
+    (λ on. omega (arith, c.play_slot.ensures.steps, c.loop-slot.auto.buffer, c.log_pipe.auto.buffer)) c.play_slot.ensures.none in
+    let next : suc i ≡ i + 1 = omega arith in
     record {
       low = omega arith;
       played = subst (λ (n : ℕ). PlayedTo asked c.args.state.now (length c.args.log.now.frames) c.args.observer.now c.play_slot.new.observer c.log_pipe.new.log.frames c.play_slot.new.log.frames begun c.play_slot.new.entry n) (omega arith) (
@@ -45,7 +51,7 @@ loop-slot-preserved g c =
         c.play_slot.ensures.log.1 ∙ c.loop-slot.invariant.log_is.1,
         omega (arith, c.play_slot.ensures.log, c.loop-slot.invariant.log_is),
       );
-      stepped = omega (arith, more, c.play_slot.ensures.steps, c.loop-slot.invariant.stepped, c.loop-slot.auto.buffer);
+      stepped = subst (λ (n : ℕ). c.play_slot.new.steps ≤ bound + tracks_below c.args.state.now n * (asked + 7)) next counted;
     }
 
 pub returns-clause-plays : goal.returns-clause-plays
@@ -57,5 +63,4 @@ returns-clause-plays g c =
 pub returns-clause-steps : goal.returns-clause-steps
 returns-clause-steps g c =
     let asked : ℕ = length c.args.buffer.now in
-    let all : c.loop-slot.slot * (asked + 7) ≡ slots * (asked + 7) = ap (λ n. n * (asked + 7)) (omega arith) in
-    omega (arith, all, c.loop-slot.invariant.stepped)
+    subst (λ (n : ℕ). c.loop-slot.steps ≤ c.args.steps.now + (asked + 3) + n * (asked + 7)) (ap (tracks_below c.args.state.now) (let e : c.loop-slot.slot ≡ slots = omega arith in e) ∙ all_below c.args.state.now) c.loop-slot.invariant.stepped

@@ -1,6 +1,5 @@
-use Rattle.std.proofs.Common.{◌≡◌, ◌∙◌, sym, subst, arith}
+use Rattle.std.proofs.Common.{◌∙◌, sym, arith}
 use Rattle.std.proofs.lemmas.Slice.Zip.{AllZip-long}
-use Rattle.af_cblk.specs.Sides.{Made}
 use Rattle.af_client.specs.Order.{IsClientOf}
 use Rattle.af_fast.proofs.Zips.{zip_at, zip_set}
 use Rattle.af_fast.proofs.table_tests.track_does.Goals as goal

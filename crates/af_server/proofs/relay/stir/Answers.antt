@@ -5,12 +5,12 @@ use Rattle.af_model.proofs.Counts.{lawful_more}
 use Rattle.af_cblk.specs.declared.view.ClientPart.{ClientPart}
 use Rattle.af_server.proofs.relay.stir.Goals as goal
 
-pub returns-then-flushes-lt1000000-clause-lawful : goal.returns-then-flushes-lt1000000-clause-lawful
-returns-then-flushes-lt1000000-clause-lawful g c = λ ok.
+pub returns-then-flushes-lt60000-clause-lawful : goal.returns-then-flushes-lt60000-clause-lawful
+returns-then-flushes-lt60000-clause-lawful g c = λ ok.
     let first : is_lawful c.set_gains.new.self.pass.part.events ≡ true =
     subst (λ (x : ClientPart). is_lawful x.events ≡ true) (sym c.set_gains.ensures.set) (lawful_more c.args.client.now.pass.part.events (client.SetGain c.args.gains) refl ok) in
     subst (λ (x : ClientPart). is_lawful x.events ≡ true) (sym c.flush.ensures.flushed) (lawful_more c.set_gains.new.self.pass.part.events client.Flush refl first)
 
-pub returns-else-flushes-lt1000000-clause-lawful : goal.returns-else-flushes-lt1000000-clause-lawful
-returns-else-flushes-lt1000000-clause-lawful g c = λ ok.
+pub returns-else-flushes-lt60000-clause-lawful : goal.returns-else-flushes-lt60000-clause-lawful
+returns-else-flushes-lt60000-clause-lawful g c = λ ok.
     subst (λ (x : ClientPart). is_lawful x.events ≡ true) (sym c.set_gains.ensures.set) (lawful_more c.args.client.now.pass.part.events (client.SetGain c.args.gains) refl ok)

@@ -11,4 +11,4 @@ fetch_and-found-requires g c =
     (ap (λ (m : Made). m.id) same, search rules, clear_by_client _ _ c.self.invariant.0 _ _ _ c.pass.invariant.0 (ap (λ (m : Made). m.shape) same) _ (ap (λ z. 4294967295 - z) c.requires.bits))
 
 pub invariant_of-pass : goal.invariant_of-pass
-invariant_of-pass g c = pass_did c.pass.inside.seat.me _ _ _ _ (client.ClearFlags _) c.pass.invariant c.fetch_and-found.ensures.2 refl refl refl
+invariant_of-pass g c = pass_did c.pass.inside.seat.me _ _ _ _ _ (client.ClearFlags _) c.pass.invariant c.fetch_and-found.ensures.2 refl refl refl refl

@@ -11,4 +11,4 @@ load-found-requires g c =
     (ap (λ (m : Made). m.id) same, search rules, front_by_client _ _ c.self.invariant.0 _ _ _ c.pass.invariant.0 (ap (λ (m : Made). m.shape) same) c.self.invariant.2)
 
 pub invariant_of-pass : goal.invariant_of-pass
-invariant_of-pass g c = pass_did c.pass.inside.seat.me _ _ _ _ (client.SawFront _) c.pass.invariant c.load-found.ensures.2.0 refl refl refl
+invariant_of-pass g c = pass_did c.pass.inside.seat.me _ _ _ _ _ (client.SawFront _) c.pass.invariant c.load-found.ensures.2.0 refl refl refl refl

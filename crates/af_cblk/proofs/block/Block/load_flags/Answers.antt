@@ -22,4 +22,4 @@ returns-clause-flags g c = λ ok.
     subst (λ (x : ClientPart × ℕ). HasFlags x.0 x.1) (λ i. (part i, word i)) (c.load-found.ensures.2.1 (subst (λ (p : ClientPart). is_lawful p.events ≡ true) (sym part) ok))
 
 pub invariant_of-pass : goal.invariant_of-pass
-invariant_of-pass g c = pass_did c.pass.inside.seat.me _ _ _ _ (client.SawFlags _) c.pass.invariant c.load-found.ensures.2.0 refl refl refl
+invariant_of-pass g c = pass_did c.pass.inside.seat.me _ _ _ _ _ (client.SawFlags _) c.pass.invariant c.load-found.ensures.2.0 refl refl refl refl

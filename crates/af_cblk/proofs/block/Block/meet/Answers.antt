@@ -10,4 +10,4 @@ invariant_of-client g c =
     let alone = c.part_client.ensures.alone in
     let is = ap (λ m. m.0.is_client) alone ∙ ap (λ m. m.0.is_client) learnt ∙ ap (λ m. m.0.is_client) two in
     let now = ap (λ m. m.0.client) alone ∙ ap (λ m. m.0.client) learnt ∙ ap (λ m. client_met m.0.client m.0.server.events) two in
-    pass_met c.client.inside.seat.me c.part_client.result.me _ _ _ c.client.invariant is (ap (λ m. m.1) alone) now
+    pass_met c.client.inside.seat.me c.part_client.result.me _ _ _ _ c.client.invariant is (ap (λ m. m.1) alone) now

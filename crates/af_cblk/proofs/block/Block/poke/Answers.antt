@@ -16,4 +16,4 @@ store-requires g c =
     )
 
 pub invariant_of-pass : goal.invariant_of-pass
-invariant_of-pass g c = pass_did c.pass.inside.seat.me _ _ _ _ (client.Poke _ _) c.pass.invariant c.store.ensures.2 refl refl refl
+invariant_of-pass g c = pass_did c.pass.inside.seat.me _ _ _ _ _ (client.Poke _ _) c.pass.invariant c.store.ensures.2 refl refl refl refl

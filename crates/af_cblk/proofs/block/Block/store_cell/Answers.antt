@@ -29,4 +29,4 @@ returns-clause-stored g c =
     ∙ ap (λ (p : ClientPart). stored_at p at c.args.word) part
 
 pub invariant_of-pass : goal.invariant_of-pass
-invariant_of-pass g c = let p = c.pass.invariant in pass_on c.pass.inside.seat.me _ _ _ _ _ _ p c.store.ensures.2 p.2 p.3
+invariant_of-pass g c = let p = c.pass.invariant in pass_on c.pass.inside.seat.me _ _ _ _ _ _ _ _ p c.store.ensures.2 p.2 p.3 p.4

@@ -24,4 +24,4 @@ pub invariant_of-pass : goal.invariant_of-pass
 invariant_of-pass g c =
     let p = c.pass.invariant in
     let me = c.pass.inside.seat.me in
-    pass_rear me _ _ _ _ _ p c.store.ensures.2 (rear_is me.0.client _ (search rules))
+    pass_rear me _ _ _ _ _ _ p c.store.ensures.2 (rear_is me.0.client _ (search rules))

@@ -1,5 +1,7 @@
-use Rattle.std.proofs.Common.{rules}
+use Rattle.std.proofs.Common.{rules, length, ap}
+use Rattle.af_base.specs.Log.{Logged}
 use Rattle.af_fast.proofs.HeldFacts.{begins_bare}
+use Rattle.af_fast.proofs.Noted.{nothing_reported}
 use Rattle.af_fast.proofs.mixer.FastMixer.make.Goals as goal
 
 pub returns-clause-order : goal.returns-clause-order
@@ -9,5 +11,5 @@ returns-clause-order c = record {
   room = search (rules);
   uses = search (rules);
   keeps = search (rules);
-  reports = search (rules);
+  reports = nothing_reported (length c.in_ok-log.log.entries) c.args.writer.events c.no_slot.result (ap (λ (l : Logged). length l.entries) c.in_ok-log.ensures) c.requires.unused.stored c.no_slot.ensures;
 }

@@ -1,4 +1,4 @@
-use Rattle.std.proofs.Common.{◌≡◌, ℕ, rules, sym, ap, subst, ◌∙◌}
+use Rattle.std.proofs.Common.{rules, sym, subst}
 use Rattle.af_model.specs.PipeHistory.{HasPipeHistory}
 use Rattle.af_cblk.specs.Sides.{Made}
 use Rattle.af_server.specs.Order.{ServerState}

@@ -1,14 +1,20 @@
-use Rattle.std.proofs.Common.{rules, ◌≡◌, ℕ, ◌==◌, ◌||◌, Bool, false, true≢false, length, List, Option, Some, refl, sym, ap, subst, ◌∙◌, arith}
+use Rattle.std.proofs.Common.{rules, ◌≡◌, ℕ, ◌+◌, ◌*◌, ◌≤◌, ◌==◌, ◌||◌, Bool, false, true≢false, length, List, Option, refl, sym, ap, subst, ◌∙◌, arith}
 use Rattle.af_base.specs.declared.frame.Frame.{Frame}
 use Rattle.af_base.specs.declared.state.FastState.{FastState}
 use Rattle.af_base.specs.Log.{takes_of}
 use Rattle.af_base.specs.Mix.{mix}
 use Rattle.af_model.specs.Cycles.{cycle_of, is_mixed, still_entry}
+use Rattle.af_server.specs.Order.{ServerState}
+use Rattle.af_stateq.specs.Observes.{Observes}
+use Rattle.af_link.specs.declared.names.StreamNames.{StreamNames}
 use Rattle.af_fast.specs.contracts.mixer.FastMixer.{the_view}
 use Rattle.af_fast.specs.Mixer.{MixerState, IsInOrder, AreFew, is_over}
 use Rattle.af_fast.specs.Mixing.{MixesOnce, StoresReport, notes}
+use Rattle.af_fast.specs.Tracks.{tracks_of}
 use Rattle.af_fast.proofs.Adopted.{rest_order}
-use Rattle.af_fast.proofs.Added.{mix_step, still_step, adds_so, few_reports, current_copied, none_current, goes_on, is_full}
+use Rattle.af_fast.proofs.Counted.{mixed_few}
+use Rattle.af_fast.proofs.HeldFacts.{some_same}
+use Rattle.af_fast.proofs.Added.{mix_step, still_step, adds_so, few_reports, current_copied, state_copied, none_current, goes_on, is_full}
 use Rattle.af_fast.proofs.mixer.FastMixer.mix.Goals as goal
 
 pub returns-then-self-clause-order : goal.returns-then-self-clause-order
@@ -41,8 +47,17 @@ returns-then-not-is_mixed g c =
       mixes = subst (λ (y : MixerState). MixesOnce y c.args.out.now c.cycle_of-cycle.result c.note.new.self c.args.out.now) c.self.view_is
           (adds_so m c.note.new.self c.args.out.now c.args.out.now c.cycle_of-cycle.result c.still_entry-entry.result goes comes.1 comes.2 ((λ mixed. absurd (true≢false (sym mixed ∙ dry))), (λ _. refl)));
       length = refl;
-      steps = search (rules);
+      steps = omega (arith, c.note.ensures.steps);
+      state = ap (λ (y : MixerState). y.observer.past) c.note.ensures.notes ∙ ap (λ (y : MixerState). y.observer.past) c.self.view_is;
     }
+
+pub note-requires-2-clause-state : goal.note-requires-2-clause-state
+note-requires-2-clause-state g c = λ x is.
+    let m : MixerState = the_view c.self.inside in
+    let mixed = c.mix_slots-entry.ensures in
+    some_same x c.in-Some.state (sym is)
+    ∙ state_copied m.observer c.current.result c.copied-state.result c.in-Some.state c.current.ensures c.copied-state.ensures c.in-Some.is
+    ∙ sym (ap (λ (y : Observes ServerState StreamNames). y.past.state) mixed.plays.same)
 
 pub note-requires-2-clause-few : goal.note-requires-2-clause-few
 note-requires-2-clause-few g c =
@@ -67,5 +82,8 @@ returns g c =
           (adds_so m c.note-2.new.self c.args.out.now c.mix_slots-entry.new.out c.cycle_of-cycle.result c.mix_slots-entry.result goes comes.1 comes.2
           ((λ _. mixed.mixes ∙ ap (λ (fs : List Frame). mix (takes_of fs c.mix_slots-entry.result) (length c.args.out.now)) (sym (ap (λ (y : MixerState). y.log.frames) c.note-2.ensures.notes))), (λ dry. absurd (true≢false (sym mixed.plays.mixed ∙ dry)))));
       length = search (rules);
-      steps = omega (arith, c.note-2.ensures.steps, mixed.steps, ap (λ (y : MixerState). y.frames) c.self.view_is);
+      steps = subst (λ (y : FastState × MixerState). c.note-2.new.steps ≤ c.args.steps.now + (tracks_of y.0 + 1) * y.1.frames + 7 * tracks_of y.0 + 4)
+          (λ i. ((state_copied m.observer c.current.result c.copied-state.result c.in-Some.state c.current.ensures c.copied-state.ensures c.in-Some.is ∙ ap (λ (y : MixerState). y.observer.past.state) c.self.view_is) i, c.self.view_is i))
+          (mixed_few (tracks_of c.in-Some.state) m.frames c.args.steps.now c.mix_slots-entry.new.steps c.note-2.new.steps mixed.steps c.note-2.ensures.steps);
+      state = ap (λ (y : MixerState). y.observer.past) c.note-2.ensures.notes ∙ ap (λ (y : Observes ServerState StreamNames). y.past) mixed.plays.same ∙ ap (λ (y : MixerState). y.observer.past) c.self.view_is;
     }

@@ -2,6 +2,7 @@ use Rattle.std.proofs.Common.{ℕ, ◌≤◌, List, All, length, subst, sym, ap,
 use Rattle.af_base.specs.declared.frame.Frame.{Frame}
 use Rattle.af_base.specs.declared.plain.Part.{Part}
 use Rattle.af_base.specs.Log.{takes_of}
+use Rattle.af_base.specs.Mix.{Take, mix}
 use Rattle.af_model.specs.StateQueue.{IsState}
 use Rattle.af_fast.proofs.Parts.{parts_fit}
 use Rattle.af_fast.proofs.mixer.FastMixer.mix_slots.Goals as goal
@@ -13,3 +14,9 @@ mix-requires-clause-fits g c =
     subst (λ (n : ℕ). All (λ (part : Part). (length part.frames.now ≤ n) × (part.scale ≤ 4096)) c.parts_of.result)
     (omega (arith, c.self.invariant, c.deref_mut.ensures.len, c.deref_mut-2.ensures.len, ap length c.deref_mut.ensures.value, ap length c.deref_mut-2.ensures.value))
     (parts_fit (length c.deref_mut.result.now) c.args.state.now c.play_slots-entry.new.log.frames c.play_slots-entry.result c.parts_of.result (subst IsState (sym c.requires.state) c.requires.order.state) parts_are p.within p.mixes.scales)
+
+pub returns-clause-mixes : goal.returns-clause-mixes
+returns-clause-mixes g c =
+    c.mix.ensures
+    ∙ ap (λ (takes : List Take). mix takes (length c.args.out.now)) c.parts_of.ensures
+    ∙ ap (λ (frames : List Frame). mix (takes_of frames c.play_slots-entry.result) (length c.args.out.now)) c.frames.ensures
