@@ -5,7 +5,6 @@ use Rattle.af_base.specs.Mix.{Take, mix}
 use Rattle.af_base.specs.Part.{take_of}
 use Rattle.af_fast.specs.Heard.{heard_takes}
 use Rattle.af_fast.proofs.HeardMix.{mix_all, one_then, parts_fit}
-
 use Rattle.af_fast.proofs.heard.mix_heard.Goals as goal
 
 -- one slot more was looked at
@@ -22,7 +21,7 @@ loop-slot-preserved c =
     record {
       few = c.add_heard-heard.ensures.few;
       takes = grown here (heard_takes c.args.frames.now c.args.entry.now i 1) (heard_takes c.args.frames.now c.args.entry.now (i + 1) n) (map take_of (take c.add_heard-heard.result c.add_heard-heard.new.parts)) (heard_takes c.args.frames.now c.args.entry.now i (slots - i)) (sym c.add_heard-heard.ensures.takes) then
-      ∙ c.loop-slot.invariant.takes;
+          ∙ c.loop-slot.invariant.takes;
     }
 
 -- all slots were looked at
