@@ -9,4 +9,4 @@ returns-clause-waiting c = one_taken c.args.streams.now c.args.servers.now c.arg
 pub returns-clause-stream : goal.returns-clause-stream
 returns-clause-stream c =
     one_given c.args.streams.now c.args.servers.now c.args.track c.take.result c.requires
-    (get_or_default c.args.servers.now c.args.track None c.index-servers-track.result (omega arith) ∙ sym c.index-servers-track.is ∙ sym c.take.ensures.value)
+    (get_or_default c.args.servers.now c.args.track None c.index-servers-track.result (omega arith) ∙ sym c.take.ensures.value)
