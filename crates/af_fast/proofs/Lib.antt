@@ -2,6 +2,7 @@ mod HeldFacts
 mod SlotSteps
 mod SlotsDone
 mod Counted
+mod HeardMix
 mod Parts
 mod Adopted
 mod Noted

@@ -1,5 +1,5 @@
 -- The proxies that wait for a slot.
-use Rattle.std.proofs.Common.{◌≡◌, ℕ, zero, suc, ◌<◌, ◌⊎◌, inl, inr, List, [], ◌∷◌, ◌++◌, length, take, Option, Some, None, slice_set, slice_get, refl, sym, ap, subst, ◌∙◌, arith}
+use Rattle.std.proofs.Common.{◌≡◌, ℕ, zero, suc, ◌<◌, ◌⊎◌, inl, inr, List, [], ◌∷◌, ◌++◌, length, take, Option, Some, None, IfSome, slice_set, slice_get, refl, sym, ap, subst, ◌∙◌, arith}
 use Rattle.std.proofs.lemmas.Bool.{cases_eq}
 use Rattle.std.proofs.lemmas.List.{get_or-set_same, get_or-set_other, length-append}
 use Rattle.std.proofs.Math.Seq.{take-append_seam}
@@ -23,6 +23,11 @@ one_taken blocks servers track o gone lt waiting = record { each = (λ i s is. b
 -- a server of the block of a place
 one_waits : (blocks : List Made) (i : ℕ) (b : Made) (x s : ServerState) → slice_get blocks i ≡ Some b → IsServerOf b x → Some x ≡ Some s → IsStreamOf blocks i s
 one_waits blocks i b x s here of is = subst (λ (t : ServerState). IsStreamOf blocks i t) (some_same x s is) (record { made = here ∙ ap (λ (m : Made). Some m) (sym of.0); in_order = of.1 })
+
+-- and it is of the block of its place
+pub one_given : (blocks : List Made) (servers : List (Option ServerState)) (track : ℕ) (o : Option ServerState) → AreWaiting blocks servers → at servers track ≡ o → IfSome o (λ s. IsStreamOf blocks track s)
+one_given blocks servers track None waiting is = tt
+one_given blocks servers track (Some s) waiting is = waiting.each track s is
 
 -- one came back
 pub one_put : (blocks : List Made) (servers : List (Option ServerState)) (track : ℕ) (x : ServerState) → IsStreamOf blocks track x → track < length servers → AreWaiting blocks servers → AreWaiting blocks (slice_set servers track (Some x))

@@ -13,13 +13,12 @@ ghost use Rattle.af_fast.specs.Mixing.{StoresReport, notes};
 ghost use Rattle.af_fast.specs.Slots.{PlaysSlots, SameEntries};
 ghost use Rattle.af_fast.specs.Tracks.{tracks_of};
 
+use crate::heard::mix_heard;
 use crate::mixer::FastMixer;
 use crate::report::reports_after;
 use crate::slots::play_slots;
 use af_base::{Cycle, CycleEntry, FastState, Frame, Report, Steps};
-use af_gain::mix;
 use af_link::Links;
-use af_model::parts_of;
 use std::sync::ledger::Ledger;
 
 // The cold generation performed last, after an entry under a state.
@@ -67,7 +66,7 @@ impl FastMixer {
         } = self;
         let (_, pipe) = ends;
         let entry = play_slots(observer, pipe, log, links, state, buffer, steps);
-        mix(&parts_of(log.frames(), &entry), sums, out);
+        mix_heard(log.frames(), &entry, sums, out);
         entry
     }
 

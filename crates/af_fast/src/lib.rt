@@ -3,6 +3,7 @@
 
 mod cycle;
 mod entry;
+mod heard;
 mod held;
 mod meetings;
 mod mixer;

@@ -1,10 +1,10 @@
--- What the words ask for, of the files that are there: a plan, or the first refusal in order.
+-- What the words ask for, of the files that are there: what is written and printed, or the first refusal in order.
 use Rattle.std.specs.Prelude.{ℕ, ◌+◌, ◌%◌, ◌^◌, nat_le, ◌==◌, ◌&&◌, not, Bool, List, [], ◌∷◌, length, take, codes, Option, Some, None, ok_or, Result, Ok, Err, if◌then◌else◌}
 use Rattle.std.specs.Str.{bytes_eq}
 use Rattle.af_base.specs.declared.frame.Frame.{Frame}
 use Rattle.af_io.specs.Files.{Files}
-use Rattle.af_io.specs.Pcm.{frames_from, frame_width}
-use Rattle.af_script.specs.Text.{is_name}
+use Rattle.af_base.specs.Sample.{pcm_bytes}
+use Rattle.af_io.specs.Pcm.{frames_from, stereo_frames, frame_width}
 use Rattle.af_script.specs.Data.{ScriptData}
 use Rattle.af_script.specs.Reading.{script_of}
 use Rattle.af_script.specs.Ops.{fast_cycles}
@@ -15,7 +15,11 @@ use Rattle.af_player.specs.declared.status.Refusal.TheVariants.{Usage, Script, F
 use Rattle.af_player.specs.declared.status.Role.{Role}
 use Rattle.af_player.specs.declared.status.Role.TheVariants as role
 use Rattle.af_player.specs.declared.status.Why.TheVariants.{Missing, Long, Ragged, Short, Total}
-use Rattle.af_player.specs.Plain.{PlanTrack, Plan}
+use Rattle.af_player.specs.declared.request.Sizes.{Sizes}
+use Rattle.af_player.specs.Requests.{Request, Render, Record, request_of}
+use Rattle.af_player.specs.Recorded.{heard, recorded, counts_of}
+use Rattle.af_player.specs.Line.{totals_text, counts_text}
+use Rattle.af_player.specs.Plain.{PlanTrack, Plan, plan_pcm, totals_of_plan}
 use Rattle.af_player.specs.declared.runnable.Written.{Written}
 use Rattle.af_player.specs.Runnable.{most_fast, written_of, are_runnable_turns}
 
@@ -28,12 +32,6 @@ Err refusal >>= next = Err refusal
 -- one more value before those of the steps that follow
 abbrev pub then_cons : {X : Type 0} → X → Result (List X) Refusal → Result (List X) Refusal
 then_cons x rest = rest >>= (λ xs. Ok (x ∷ xs))
-
--- the script's and the output's name, where the words are `render` and two different names
-abbrev pub names_of : List (List ℕ) → Option (List ℕ × List ℕ)
-names_of (command ∷ script ∷ out ∷ []) =
-    if (bytes_eq command (codes "render") && (is_name script && is_name out)) && not (bytes_eq script out) then Some (script, out) else None
-names_of words = None
 
 -- a file of at most so many bytes
 abbrev pub loaded : Role → ℕ → Option (List ℕ) → Result (List ℕ) Refusal
@@ -79,6 +77,10 @@ frames_in number mono asked bytes =
     else Err (File (record { role = role.Track number; why = Short (length (frames_from mono bytes)) asked })))
     else Err (File (record { role = role.Track number; why = Ragged (length bytes) }))
 
+-- the frames of a stereo file
+abbrev pub stereo_in : List ℕ → Result (List Frame) Refusal
+stereo_in bytes = if length bytes % 4 == 0 then Ok (stereo_frames bytes) else Err (File (record { role = role.Track 0; why = Ragged (length bytes) }))
+
 -- a file's bytes, where those of the files so far are not too many
 abbrev pub counted : ℕ → ℕ → List ℕ → Result (List ℕ) Refusal
 counted number total bytes =
@@ -114,6 +116,37 @@ plan_of files script =
 abbrev pub prepared_of : Files → List ℕ → Result Plan Refusal
 prepared_of files name = loaded role.Script most_script (files name) >>= (λ bytes. script_or (script_of bytes) >>= plan_of files)
 
--- what the words ask for: the output's name and the plan
-abbrev pub asked_of : Files → List (List ℕ) → Result (List ℕ × Plan) Refusal
-asked_of files words = ok_or (names_of words) Usage >>= (λ names. prepared_of files names.0 >>= (λ plan. Ok (names.1, plan)))
+-- what is written and printed: the output's name, its bytes, and the line
+pub record Job : Type 0 where
+  pub target : List ℕ
+  pub bytes : List ℕ
+  pub line : List ℕ
+
+-- a plan is played
+abbrev pub render_job : List ℕ → Plan → Job
+render_job target plan = record { target = target; bytes = plan_pcm plan; line = totals_text (totals_of_plan plan) }
+
+-- the frames of a file that is recorded
+abbrev pub recorded_from : Files → List ℕ → Result (List Frame) Refusal
+recorded_from files input = loaded (role.Track 0) most_file (files input) >>= (λ bytes. stereo_in bytes)
+
+-- frames are recorded
+abbrev pub record_job : List ℕ → Sizes → List Frame → Job
+record_job target sizes frames = record { target = target; bytes = pcm_bytes (heard (recorded sizes frames)); line = counts_text (counts_of sizes frames) }
+
+-- what is made of a script, for an output of this name
+abbrev pub render_asked : Files → List ℕ → List ℕ → Result Job Refusal
+render_asked files script target = prepared_of files script >>= (λ plan. Ok (render_job target plan))
+
+-- what is made of a file that is recorded
+abbrev pub record_asked : Files → List ℕ → List ℕ → Sizes → Result Job Refusal
+record_asked files input target sizes = recorded_from files input >>= (λ frames. Ok (record_job target sizes frames))
+
+-- what a request asks for
+abbrev pub job_of : Files → Request → Result Job Refusal
+job_of files (Render script target) = render_asked files script target
+job_of files (Record input target sizes) = record_asked files input target sizes
+
+-- what the words ask for
+abbrev pub asked_of : Files → List (List ℕ) → Result Job Refusal
+asked_of files words = ok_or (request_of words) Usage >>= job_of files

@@ -1,22 +1,27 @@
 -- The words after the program's name, as a simple command of `clap` reads them.
-use Rattle.std.specs.Prelude.{ℕ, ◌==◌, ◌&&◌, not, Bool, true, false, List, [], ◌∷◌, codes, Option, Some, None, option_and_then, if◌then◌else◌}
+use Rattle.std.specs.Prelude.{ℕ, Bool, true, false, List, [], ◌∷◌, ◌++◌, codes, Option, Some, None, option_and_then, if◌then◌else◌}
 use Rattle.std.specs.Str.{bytes_eq}
 use Rattle.clap.specs.Walk.{Row, Rule, Text, first_of}
 use Rattle.clap.specs.Simple.{App, Shape, new_rule, new_shape}
-use Rattle.af_script.specs.Text.{is_name}
-
--- a word that begins with `-`
-abbrev pub begins_dash : List ℕ → Bool
-begins_dash [] = false
-begins_dash (c ∷ rest) = c == 45
+use Rattle.af_player.specs.Requests.{Request, render_request, record_request}
 
 -- an argument that can't be left out
 abbrev pub needed : List ℕ → Rule
 needed id = record (new_rule id) { required = true }
 
+-- a command with more arguments
+abbrev pub with_rules : Shape → List Rule → Shape
+with_rules shape rules = record shape { rules = shape.rules ++ rules }
+
 -- the subcommand `render SCRIPT OUT`
 abbrev pub render_words : Shape
 render_words = record (new_shape (codes "render")) { rules = needed (codes "script") ∷ needed (codes "out") ∷ [] }
+
+-- the subcommand `record IN OUT N F K`
+abbrev pub record_words : Shape
+record_words = record (new_shape (codes "record")) {
+  rules = needed (codes "in") ∷ needed (codes "out") ∷ needed (codes "room") ∷ needed (codes "supply") ∷ needed (codes "read") ∷ [];
+}
 
 -- the command: one of its subcommands, and no help
 abbrev pub player_words : App
@@ -28,18 +33,25 @@ player_words = record {
     disable_help_subcommand = true;
     subcommand_required = true;
   };
-  subs = render_words ∷ [];
+  subs = render_words ∷ record_words ∷ [];
 }
 
--- two names that a script and an output may have
-abbrev pub two_names : List ℕ → List ℕ → Option (List ℕ × List ℕ)
-two_names script out = if (is_name script && is_name out) && not (bytes_eq script out) then Some (script, out) else None
+-- the value of an argument, and what is made of it
+abbrev pub with_value : List ℕ → List Row → (List ℕ → Option Request) → Option Request
+with_value id rows next = option_and_then next (first_of id rows)
 
--- the names among the matches of `render`
-abbrev pub render_names : List Row → Option (List ℕ × List ℕ)
-render_names rows = option_and_then (λ script. option_and_then (two_names script) (first_of (codes "out") rows)) (first_of (codes "script") rows)
+-- the request among the matches of `render`
+abbrev pub render_met : List Row → Option Request
+render_met rows = with_value (codes "script") rows (λ script. with_value (codes "out") rows (λ target. render_request (script ∷ target ∷ [])))
 
--- the names among the matches of a subcommand
-abbrev pub matched_names : Option (Text × List Row) → Option (List ℕ × List ℕ)
-matched_names None = None
-matched_names (Some met) = if bytes_eq met.0 (codes "render") then render_names met.1 else None
+-- the request among the matches of `record`
+abbrev pub record_met : List Row → Option Request
+record_met rows =
+    with_value (codes "in") rows (λ input. with_value (codes "out") rows (λ target. with_value (codes "room") rows (λ room.
+    with_value (codes "supply") rows (λ supply. with_value (codes "read") rows (λ read. record_request (input ∷ target ∷ room ∷ supply ∷ read ∷ []))))))
+
+-- the request among the matches of a subcommand
+abbrev pub matched_request : Option (Text × List Row) → Option Request
+matched_request None = None
+matched_request (Some met) =
+    if bytes_eq met.0 (codes "render") then render_met met.1 else if bytes_eq met.0 (codes "record") then record_met met.1 else None

@@ -1,8 +1,9 @@
 use crate::run::run;
 use crate::status::Status;
-use crate::words::names_of;
+use crate::words::request_of;
 use af_io::{MemSink, MemStore, NoGate};
 use std::alloc::Global;
+use std::collections::VecDeque;
 use std::process::Abort;
 use std::test::Fail;
 use std::thread::Threads;
@@ -83,8 +84,20 @@ fn refusals_print_their_lines(rt: HostRuntime) -> Result<(), Fail> {
         (3, Some("= 1"), 8, 3, "script: toml\n"),
         (3, Some(IDLE), 8, 9, "unbuilt\n"),
         (3, Some(SECOND), 8, 9, "unbuilt\n"),
-        (2, Some(ONE), 8, 2, "usage: render SCRIPT OUT\n"),
-        (0, Some(ONE), 8, 2, "usage: render SCRIPT OUT\n"),
+        (
+            2,
+            Some(ONE),
+            8,
+            2,
+            "usage: render SCRIPT OUT or record IN OUT N F K\n",
+        ),
+        (
+            0,
+            Some(ONE),
+            8,
+            2,
+            "usage: render SCRIPT OUT or record IN OUT N F K\n",
+        ),
     ] {
         let mut store = MemStore::new(alloc, Vec::new(alloc));
         if let Some(text) = script {
@@ -303,6 +316,15 @@ fn gains_are_applied(rt: HostRuntime) -> Result<(), Fail> {
     Ok(())
 }
 
+/// Words that are separated by spaces.
+fn words_of(alloc: Global, line: &str) -> Result<Vec<String>, Fail> {
+    let mut words = Vec::new(alloc);
+    for word in line.split_whitespace() {
+        words.push(String::from_str(alloc, word)?)?;
+    }
+    Ok(words)
+}
+
 /// Which words fit.
 #[test]
 fn words_that_fit(rt: HostRuntime) -> Result<(), Fail> {
@@ -321,12 +343,125 @@ fn words_that_fit(rt: HostRuntime) -> Result<(), Fail> {
         ("render a a", false),
         ("render .a b", false),
         ("play a b c", false),
+        ("record a b 8192 1024 1024", true),
+        ("record a b 1 1 1", true),
+        ("record a b 1 1", false),
+        ("record a b 1 1 1 1", false),
+        ("record a a 1 1 1", false),
+        ("record a .b 1 1 1", false),
+        ("record a b 0 1 1", false),
+        ("record a b 8193 1 1", false),
+        ("record a b 1 1025 1", false),
+        ("record a b 1 1 0", false),
+        ("record a b 01 1 1", false),
+        ("record a b 1 +1 1", false),
+        ("record -- a b 1 1 1", false),
+        ("record", false),
     ] {
-        let mut words = Vec::new(alloc);
-        for word in line.split_whitespace() {
-            words.push(String::from_str(alloc, word)?)?;
+        let words = words_of(alloc, line)?;
+        assert_eq!(rt; request_of(alloc, &words)?.is_some(), fits, "{line}");
+    }
+    Ok(())
+}
+
+/// The bytes of so many stereo frames, numbered from 1.
+fn numbered(alloc: Global, count: u8) -> Result<Vec<u8>, Fail> {
+    let mut bytes = Vec::new(alloc);
+    for number in 1..=count {
+        bytes.extend_from_slice(&[number, 0, number, 0])?;
+    }
+    Ok(bytes)
+}
+
+/// Up to so many frames of a queue are read.
+fn read_plain(queue: &mut VecDeque<u8>, count: usize, bytes: &mut Vec<u8>) -> Result<(), Fail> {
+    for _ in 0..count {
+        if let Some(number) = queue.pop_front() {
+            bytes.extend_from_slice(&[number, 0, number, 0])?;
         }
-        assert_eq!(rt; names_of(alloc, &words)?.is_some(), fits, "{line}");
+    }
+    Ok(())
+}
+
+/// What a recording of so many numbered frames reads, frame by frame.
+fn plain_record(alloc: Global, count: u8, sizes: (usize, usize, usize)) -> Result<Vec<u8>, Fail> {
+    let (room, supply, read) = sizes;
+    let mut queue = VecDeque::new(alloc);
+    let mut bytes = Vec::new(alloc);
+    for number in 1..=count {
+        if queue.len() < room {
+            queue.push_back(number)?;
+        }
+        if usize::from(number) % supply.max(1) == 0 || number == count {
+            read_plain(&mut queue, read, &mut bytes)?;
+        }
+    }
+    read_plain(&mut queue, room, &mut bytes)?;
+    Ok(bytes)
+}
+
+/// Recordings beside the plain one: no frame, one, a supply that ends early, odd and equal sizes, sizes larger than the file.
+#[test]
+fn recordings_are_as_the_plain_one(rt: HostRuntime) -> Result<(), Fail> {
+    let alloc = rt.alloc();
+    for (count, room, supply, read) in [
+        (10, 4, 3, 2),
+        (0, 4, 3, 2),
+        (1, 1, 1, 1),
+        (20, 1, 1, 1),
+        (21, 5, 5, 5),
+        (40, 8, 3, 1),
+        (33, 7, 8, 9),
+        (50, 1, 7, 3),
+        (60, 9, 1, 4),
+        (100, 16, 5, 3),
+        (40, 8192, 1024, 1024),
+    ] {
+        let mut store = MemStore::new(alloc, Vec::new(alloc));
+        store.put("in.pcm", &numbered(alloc, count)?)?;
+        let mut out = MemSink::new(alloc, Vec::new(alloc));
+        let line = format!(in alloc; "record in.pcm out.pcm {room} {supply} {read}")?;
+        let words = words_of(alloc, line.as_str())?;
+        let status = run(&rt, alloc, &words, &mut store, &mut out, &NoGate);
+        assert_eq!(rt; status, Status::Done, "{line}");
+        let want = plain_record(alloc, count, (room, supply, read))?;
+        assert_eq!(rt;
+            store.file("out.pcm").ok_or("no file")?,
+            want.as_slice(),
+            "{line}"
+        );
+        let read = want.len() / 4;
+        let lost = usize::from(count).saturating_sub(read);
+        let told = format!(in alloc; "supplied {count} read {read} lost {lost}\n")?;
+        assert_eq!(rt; out.bytes(), told.as_str().as_bytes(), "{line}");
+    }
+    Ok(())
+}
+
+/// The file of a recording: missing or ragged; and each call that fails in turn: the status, what the output holds, and what is printed.
+#[test]
+fn recordings_that_stop(rt: HostRuntime) -> Result<(), Fail> {
+    let alloc = rt.alloc();
+    let words = words_of(alloc, "record in.pcm out.pcm 4 3 2")?;
+    for (length, failing, status, left, printed) in [
+        (None, 0, 4, None, "file: track 0 missing\n"),
+        (Some(7), 0, 4, None, "file: track 0 ragged 7\n"),
+        (Some(40), 1, 5, None, ""),
+        (Some(40), 2, 5, None, ""),
+        (Some(40), 3, 5, Some(18), ""),
+        (Some(40), 4, 5, Some(36), "supplied 10 r"),
+    ] {
+        let mut store = MemStore::new(alloc, [failing].to_vec(alloc)?);
+        if let Some(length) = length {
+            let bytes = numbered(alloc, 10)?;
+            store.put("in.pcm", bytes.get(..length).unwrap_or(&[]))?;
+        }
+        let mut out = MemSink::new(alloc, [failing.saturating_sub(3)].to_vec(alloc)?);
+        let ended = run(&rt, alloc, &words, &mut store, &mut out, &NoGate);
+        assert_eq!(rt; ended.code(), status, "call {failing}");
+        let found = store.file("out.pcm").map(|bytes| bytes.len());
+        assert_eq!(rt; found, left, "call {failing}");
+        assert_eq!(rt; out.bytes(), printed.as_bytes(), "call {failing}");
     }
     Ok(())
 }

@@ -1,12 +1,16 @@
 //! The words after the program's name, read by a simple command of `clap` with subcommands.
-ghost use Rattle.std.specs.Prelude.{◌≡◌, false, map, option_map, IfOk, string_bytes};
+ghost use Rattle.std.specs.Prelude.{◌≡◌, ◌∷◌, [], false, map, option_map, IfOk, IfSome, string_bytes};
 ghost use Rattle.std.specs.List.{list_any};
 ghost use Rattle.clap.specs.Words.{app_of, first_of, found_of, rows_of, rule_of, shape_of, subcommand_rows_of};
 ghost use Rattle.clap.specs.declared.builder.command.Command.TheViews.{out-Command};
-ghost use Rattle.af_player.specs.Asked.{names_of};
-ghost use Rattle.af_player.specs.Words.{begins_dash, needed, render_words, player_words, two_names, render_names, matched_names};
+ghost use Rattle.af_player.specs.Asking.{request_view, IsSound};
+ghost use Rattle.af_player.specs.Captured.{AreSizes};
+ghost use Rattle.af_player.specs.Dash.{begins_dash};
+ghost use Rattle.af_player.specs.Requests.{request_of, sizes_of, two_names};
+ghost use Rattle.af_player.specs.Words.{needed, with_rules, render_words, record_words, player_words, render_met, record_met, matched_request};
 
-use af_script::is_name;
+use crate::request::{Request, Sizes};
+use af_script::{is_name, number_within};
 use clap::error::ErrorKind;
 use clap::{Arg, ArgMatches, Command};
 use std::alloc::{AllocError, Global};
@@ -46,28 +50,66 @@ fn render_command<'a>(alloc: Global) -> Result<Command<'a>, AllocError>
     Command::new(alloc, "render").arg(script)?.arg(out)
 }
 
+/// A command with one more argument that can't be left out.
+fn with_needed<'a>(
+    alloc: Global,
+    command: Command<'a>,
+    id: &'a str,
+) -> Result<Command<'a>, AllocError>
+    requires { (out-Command command).has_globals ≡ false }
+    ensures shape { IfOk result (λ more. shape_of more ≡ with_rules (shape_of command.entry) (needed id.entry.now ∷ [])) }
+    ensures local { IfOk result (λ more. (out-Command more).has_globals ≡ false) }
+{
+    command.arg(needed(alloc, id))
+}
+
+/// The subcommand `record IN OUT N F K`.
+fn record_command<'a>(alloc: Global) -> Result<Command<'a>, AllocError>
+    ensures shape { IfOk result (λ command. shape_of command ≡ record_words) }
+    ensures local { IfOk result (λ command. (out-Command command).has_globals ≡ false) }
+{
+    let command = with_needed(alloc, Command::new(alloc, "record"), "in")?;
+    let command = with_needed(alloc, command, "out")?;
+    let command = with_needed(alloc, command, "room")?;
+    let command = with_needed(alloc, command, "supply")?;
+    with_needed(alloc, command, "read")
+}
+
 /// The command with its subcommands, without help.
 fn player_command<'a>(alloc: Global) -> Result<Command<'a>, AllocError>
     ensures { IfOk result (λ command. app_of command ≡ player_words) }
 {
     let render = render_command(alloc)?;
+    let record = record_command(alloc)?;
     Command::new(alloc, "af_player")
         .no_binary_name(true)
         .disable_help_flag(true)
         .disable_help_subcommand(true)
         .subcommand_required(true)
-        .subcommand(render)
+        .subcommand(render)?
+        .subcommand(record)
 }
 
-/// Two names that a script and an output may have.
-fn two_names<'a>(script: &'a str, out: &'a str) -> Option<(&'a str, &'a str)>
-    ensures { option_map (λ names. (names.0.now, names.1.now)) result ≡ two_names script.now out.now }
+/// Two names of files that differ.
+fn two_names<'a>(first: &'a str, second: &'a str) -> Option<(&'a str, &'a str)>
+    ensures { option_map (λ names. (names.0.now, names.1.now)) result ≡ two_names first.now second.now }
 {
-    if is_name(script) && is_name(out) && script != out {
-        Some((script, out))
+    if is_name(first) && is_name(second) && first != second {
+        Some((first, second))
     } else {
         None
     }
+}
+
+/// The sizes of a recording that these words spell.
+fn sizes_of(room: &str, supply: &str, read: &str) -> Option<Sizes>
+    ensures value { result ≡ sizes_of room.now supply.now read.now }
+    ensures sound { IfSome result AreSizes }
+{
+    let room = number_within(room, 1, 8192)?;
+    let supply = number_within(supply, 1, 1024)?;
+    let read = number_within(read, 1, 1024)?;
+    Some(Sizes { room, supply, read })
 }
 
 /// The first value of an argument.
@@ -84,38 +126,62 @@ fn met<'a, 'm>(matches: &'m ArgMatches<'a>) -> Option<(&'a str, &'m ArgMatches<'
     matches.subcommand()
 }
 
-/// The names among the matches of `render`.
-fn render_names<'a>(matches: &ArgMatches<'a>) -> Option<(&'a str, &'a str)>
-    ensures { option_map (λ names. (names.0.now, names.1.now)) result ≡ render_names (rows_of (found_of matches.now)) }
+/// The request among the matches of `render`.
+fn render_met<'a>(matches: &ArgMatches<'a>) -> Option<Request<'a>>
+    ensures value { option_map request_view result ≡ render_met (rows_of (found_of matches.now)) }
+    ensures sound { IfSome result IsSound }
 {
-    two_names(value_of(matches, "script")?, value_of(matches, "out")?)
+    let script = value_of(matches, "script")?;
+    let target = value_of(matches, "out")?;
+    let (script, target) = two_names(script, target)?;
+    Some(Request::Render { script, target })
 }
 
-/// The names among the matches of a subcommand.
-fn matched_names<'a>(matches: &ArgMatches<'a>) -> Option<(&'a str, &'a str)>
-    ensures { option_map (λ names. (names.0.now, names.1.now)) result ≡ matched_names (subcommand_rows_of matches.now) }
+/// The request among the matches of `record`.
+fn record_met<'a>(matches: &ArgMatches<'a>) -> Option<Request<'a>>
+    ensures value { option_map request_view result ≡ record_met (rows_of (found_of matches.now)) }
+    ensures sound { IfSome result IsSound }
+{
+    let input = value_of(matches, "in")?;
+    let target = value_of(matches, "out")?;
+    let room = value_of(matches, "room")?;
+    let supply = value_of(matches, "supply")?;
+    let read = value_of(matches, "read")?;
+    let (input, target) = two_names(input, target)?;
+    let sizes = sizes_of(room, supply, read)?;
+    Some(Request::Record {
+        input,
+        target,
+        sizes,
+    })
+}
+
+/// The request among the matches of a subcommand.
+fn matched_request<'a>(matches: &ArgMatches<'a>) -> Option<Request<'a>>
+    ensures value { option_map request_view result ≡ matched_request (subcommand_rows_of matches.now) }
+    ensures sound { IfSome result IsSound }
 {
     let (name, inner) = met(matches)?;
     if name == "render" {
-        render_names(inner)
+        render_met(inner)
+    } else if name == "record" {
+        record_met(inner)
     } else {
         None
     }
 }
 
-/// The script's and the output's name, where the words are `render` and two names that differ.
-pub fn names_of<'a>(
-    alloc: Global,
-    words: &'a [String],
-) -> Result<Option<(&'a str, &'a str)>, AllocError>
-    ensures { IfOk result (λ found. option_map (λ names. (names.0.now, names.1.now)) found ≡ names_of (map string_bytes words.now)) }
+/// What the words ask for, none where they don't fit.
+pub fn request_of<'a>(alloc: Global, words: &'a [String]) -> Result<Option<Request<'a>>, AllocError>
+    ensures value { IfOk result (λ found. option_map request_view found ≡ request_of (map string_bytes words.now)) }
+    ensures sound { IfOk result (λ found. IfSome found IsSound) }
 {
     if any_dash(words) {
         return Ok(None);
     }
     let command = player_command(alloc)?;
     match command.try_get_matches_from(words) {
-        Ok(matches) => Ok(matched_names(&matches)),
+        Ok(matches) => Ok(matched_request(&matches)),
         Err(error) if error.kind() == ErrorKind::OutOfMemory => Err(AllocError),
         Err(_) => Ok(None),
     }

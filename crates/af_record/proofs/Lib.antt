@@ -1,4 +1,6 @@
 pub mod Puts
 pub mod Histories
 pub mod Rears
+pub mod Rooms
+pub mod Exact
 pub mod OneRead

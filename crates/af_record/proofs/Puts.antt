@@ -1,5 +1,5 @@
 -- What a look at front and a put leave of the list of the end that supplies.
-use Rattle.std.proofs.Common.{◌≡◌, ◌≢◌, ℕ, ◌+◌, ◌-◌, ◌%◌, ◌<◌, ◌≤◌, ◌==◌, min, nat_le, Bool, true, false, if◌then◌else◌, List, [], ◌∷◌, ◌++◌, length, take, drop, map, refl, sym, ap, ◌∙◌, subst, arith, append_assoc, length-append, length-take-le}
+use Rattle.std.proofs.Common.{◌≡◌, ◌≢◌, ℕ, zero, suc, ◌+◌, ◌-◌, ◌%◌, ◌<◌, ◌≤◌, ◌==◌, min, nat_le, Bool, true, false, if◌then◌else◌, List, [], ◌∷◌, ◌++◌, length, take, drop, map, refl, sym, ap, ◌∙◌, subst, arith, append_assoc, length-append, length-take-le}
 use Rattle.std.proofs.lemmas.Bool.{leb-false, eqb-true, eqb-false}
 use Rattle.std.proofs.lemmas.List.{length-drop, length-map, map-append, take_all}
 use Rattle.std.proofs.Math.Seq.{take-add}
@@ -12,7 +12,7 @@ use Rattle.af_model.specs.PipeHistory.{room_by, releases_of}
 use Rattle.af_cblk.specs.declared.view.ClientPart.{ClientPart}
 use Rattle.af_cblk.specs.Parts.{client_saw_front, client_met}
 use Rattle.af_link.specs.PipeEnds.{HasPut, room_of}
-use Rattle.af_record.specs.Ends.{put_by, last_room, room_seen, IsCounted, IsSupplying}
+use Rattle.af_record.specs.Ends.{put_by, last_room, room_seen, IsCounted, IsSupplying, LooksFirst}
 
 pub put_by-append : (xs ys : List ClientEvent) → put_by (xs ++ ys) ≡ put_by xs + put_by ys
 put_by-append [] ys = let e : put_by ys ≡ 0 + put_by ys = omega arith in e
@@ -148,3 +148,17 @@ supplying_met p q supplied lost theirs k is =
     let d : put_by q.events ≡ length q.frames = omega arith in
     let e = k.supplied_is in
     record { counted = d; supplied_is = omega arith }
+
+-- a look first, and then another
+looked_on : (a b c : List ClientEvent) → LooksFirst a b → LooksFirst b c → LooksFirst a c
+looked_on a b c first more =
+    record {
+      front = first.front;
+      behind = first.behind ++ client.SawFront more.front ∷ more.behind;
+      is = more.is ∙ ap (λ (es : List ClientEvent). es ++ client.SawFront more.front ∷ more.behind) first.is ∙ append_assoc a (client.SawFront first.front ∷ first.behind) (client.SawFront more.front ∷ more.behind);
+    }
+
+-- a look behind puts that began with a look, or behind none
+pub looked_first : (put : ℕ) (a b c : List ClientEvent) → (put ≡ 0 → b ≡ a) → (1 ≤ put → LooksFirst a b) → LooksFirst b c → LooksFirst a c
+looked_first zero a b c same looked more = subst (λ (es : List ClientEvent). LooksFirst es c) (same refl) more
+looked_first (suc put) a b c same looked more = looked_on a b c (looked (omega arith)) more

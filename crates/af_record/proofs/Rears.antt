@@ -10,7 +10,7 @@ use Rattle.af_record.specs.Ends.{put_by, SeesPut}
 use Rattle.af_record.proofs.Puts.{put_by-append}
 
 -- the frames put after one event more
-put_next : (p : PipePoint) (e : ClientEvent) → (next p (one e)).put ≡ p.put + put_by (e ∷ [])
+pub put_next : (p : PipePoint) (e : ClientEvent) → (next p (one e)).put ≡ p.put + put_by (e ∷ [])
 put_next p (client.Release count) = omega arith
 put_next p client.Flush = omega arith
 put_next p (client.SetGain word) = omega arith

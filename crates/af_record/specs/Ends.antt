@@ -1,5 +1,5 @@
 -- What contracts see of the two ends of a recording, and what always holds of them.
-use Rattle.std.specs.Prelude.{◌≡◌, ℕ, zero, suc, ◌+◌, ◌≤◌, ◌==◌, min, max, if◌then◌else◌, List, [], ◌∷◌, ◌++◌, length, take}
+use Rattle.std.specs.Prelude.{◌≡◌, ℕ, zero, suc, ◌+◌, ◌-◌, ◌≤◌, ◌==◌, min, max, if◌then◌else◌, List, [], ◌∷◌, ◌++◌, length, take}
 use Rattle.af_base.specs.declared.frame.Frame.{Frame}
 use Rattle.af_base.specs.declared.event.ClientEvent.{ClientEvent}
 use Rattle.af_base.specs.declared.event.ClientEvent.TheVariants as client
@@ -66,6 +66,12 @@ pub record IsSupplying (p : ClientPart) (supplied lost : ℕ) : Type 0 where
   pub counted : IsCounted p
   pub supplied_is : supplied ≡ length p.frames + lost
 
+-- a look at front came first, and other events behind it
+pub record LooksFirst (before now : List ClientEvent) : Type 0 where
+  pub front : ℕ
+  pub behind : List ClientEvent
+  pub is : now ≡ before ++ client.SawFront front ∷ behind
+
 -- ## Reading
 
 -- these reads led here: their frames are what was taken
@@ -93,6 +99,12 @@ abbrev pub after_take : ServerPart → List Frame → ServerPart
 after_take s [] = s
 after_take s (frame ∷ frames) = taken_by s (frame ∷ frames)
 
+-- how many frames these events took
+abbrev pub taken_in : List ServerEvent → ℕ
+taken_in [] = 0
+taken_in (server.Take count ∷ es) = count + taken_in es
+taken_in (_ ∷ es) = taken_in es
+
 -- ## Meeting
 
 -- Each rear seen is the number of frames put by then: no fewer than an earlier look saw, and no fewer than were put before a meeting that stands before it
@@ -102,3 +114,12 @@ SeesPut puts low (server.SawRear rear ∷ es) =
     (put : ℕ) × (low ≤ put) × (put ≤ put_by puts) × (rear ≡ wrapped put) × SeesPut puts put es
 SeesPut puts low (server.Learn count ∷ es) = SeesPut puts (max low (put_by (take count puts))) es
 SeesPut puts low (_ ∷ es) = SeesPut puts low es
+
+-- The room by each front seen, behind so many frames put: the block's size minus those put and not taken by then. Those taken are no fewer than an earlier look saw, and no fewer than before a meeting that stands before it
+abbrev pub SeesRoom : (size : ℕ) → List ServerEvent → (put low : ℕ) → List ClientEvent → Type 0
+SeesRoom size takes put low [] = Unit {0}
+SeesRoom size takes put low (client.SawFront front ∷ es) =
+    (taken : ℕ) × (low ≤ taken) × (taken ≤ taken_in takes) × (room_by size put front ≡ size - (put - taken)) × SeesRoom size takes put taken es
+SeesRoom size takes put low (client.Release count ∷ es) = SeesRoom size takes (put + count) low es
+SeesRoom size takes put low (client.Learn count ∷ es) = SeesRoom size takes put (max low (taken_in (take count takes))) es
+SeesRoom size takes put low (_ ∷ es) = SeesRoom size takes put low es

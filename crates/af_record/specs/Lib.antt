@@ -1,2 +1,3 @@
 pub mod Supplies
 pub mod Ends
+pub mod InStep

@@ -2,7 +2,7 @@
 ghost use Rattle.std.specs.Prelude.{◌≡◌, ℕ, ◌+◌, ◌*◌, ◌^◌, ◌++◌, ◌<◌, ◌≤◌, List, [], ◌∷◌, map, take, length};
 ghost use Rattle.af_base.specs.Sample.{packed_word};
 ghost use Rattle.af_record.specs.Supplies.{Supply, supply_of};
-ghost use Rattle.af_record.specs.Ends.{capture_made, CameBy, room_seen};
+ghost use Rattle.af_record.specs.Ends.{capture_made, CameBy, LooksFirst, room_seen};
 
 use crate::ends::Capture;
 use crate::putting::put_all;
@@ -33,6 +33,7 @@ impl Capture {
         ensures made { capture_made self.new ≡ block.now }
         ensures sum { result.put + result.lost ≡ length frames.now }
         ensures full { (1 ≤ result.lost → room_seen self.new.pass.part ≡ 0) × (room_seen self.new.pass.part ≡ 0 → 1 ≤ result.lost) }
+        ensures looked { LooksFirst self.old.pass.part.events self.new.pass.part.events }
         ensures put { self.new.pass.part.frames ≡ self.old.pass.part.frames ++ map packed_word (take result.put frames.now) }
         ensures counts { (self.new.supplied ≡ self.old.supplied + length frames.now) × (self.new.overrun ≡ self.old.overrun + result.lost) }
         ensures history { (supplies : List Supply) → CameBy supplies self.old → CameBy (supplies ++ supply_of frames.now result.put ∷ []) self.new }

@@ -5,8 +5,9 @@ ghost use Rattle.af_model.specs.PipeHistory.{HasPipeHistory};
 ghost use Rattle.af_cblk.specs.Parts.{client_met, server_did};
 ghost use Rattle.af_cblk.specs.Rule.{new_client, new_server};
 ghost use Rattle.af_cblk.specs.Shape.{IsShape};
+ghost use Rattle.af_link.specs.PipeEnds.{SeesTaken};
 ghost use Rattle.af_record.specs.Supplies.{Supply, IsCaptureHistory};
-ghost use Rattle.af_record.specs.Ends.{capture_made, listener_made, CameBy, ReadBy, SeesPut};
+ghost use Rattle.af_record.specs.Ends.{capture_made, listener_made, CameBy, ReadBy, SeesPut, SeesRoom};
 
 use af_base::{Memory, Steps};
 use af_cblk::Block;
@@ -76,7 +77,7 @@ pub fn make(alloc: Global, frames: u32) -> Result<(Block, Capture, Listener), Me
 
 /// Each end learns what the other has done so far: all of it stands before its own next event. It appends Learn to each list, in five steps.
 ///
-/// Whatever the order in which their steps came, the frames read are a beginning of those put: each supplied frame was read once in its order, is still queued, or was lost and counted. Each rear that a read saw is the number of frames put by then, no fewer than were put before a meeting that stands before it.
+/// Whatever the order in which their steps came, the frames read are a beginning of those put: each supplied frame was read once in its order, is still queued, or was lost and counted. Each rear that a read saw is the number of frames put by then, no fewer than were put before a meeting that stands before it. Each front that an end saw is the number of frames read by then, and the room by it is what these leave.
 pub fn meet_record<L: Ledger>(
     block: &Block,
     from: &mut Capture,
@@ -91,6 +92,8 @@ pub fn meet_record<L: Ledger>(
     ensures order { HasPipeHistory block.now.shape.frames from.new.pass.part.events from.new.pass.part.frames to.new.pass.part.events to.new.pass.part.frames }
     ensures history { (supplies : List Supply) (reads : List (List ℕ)) → CameBy supplies from.new → ReadBy reads to.new → IsCaptureHistory supplies reads }
     ensures rears { SeesPut from.new.pass.part.events 0 to.new.pass.part.events }
+    ensures fronts { SeesTaken 0 to.new.pass.part.events }
+    ensures rooms { SeesRoom block.now.shape.frames to.new.pass.part.events 0 0 from.new.pass.part.events }
     ensures steps { steps.new ≡ steps.old + 5 }
 {
     meet_pipe(block, &mut from.puts, &mut to.takes, steps);

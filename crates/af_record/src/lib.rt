@@ -3,11 +3,13 @@
 
 mod capture;
 mod ends;
+mod in_hand;
 mod listener;
 mod putting;
 
 pub use capture::Supplied;
 pub use ends::{Capture, Listener, make, meet_record};
+pub use in_hand::InHand;
 
 #[cfg(test)]
 mod latest_tests;

@@ -2,7 +2,7 @@
 ghost use Rattle.std.specs.Prelude.{◌≡◌, ◌+◌, ◌*◌, ◌++◌, ◌<◌, ◌≤◌, max, map, take, length};
 ghost use Rattle.af_base.specs.Sample.{packed_word};
 ghost use Rattle.af_link.specs.PipeEnds.{in_made};
-ghost use Rattle.af_record.specs.Ends.{IsCounted, room_seen};
+ghost use Rattle.af_record.specs.Ends.{IsCounted, LooksFirst, room_seen};
 
 use af_base::{Frame, Steps};
 use af_cblk::Block;
@@ -24,6 +24,7 @@ fn put_some<L: Ledger>(
     ensures put { puts.new.pass.part.frames ≡ puts.old.pass.part.frames ++ map packed_word (take result frames.now) }
     ensures counted { IsCounted puts.new.pass.part }
     ensures full { (result ≡ 0 → room_seen puts.new.pass.part ≡ 0) × (1 ≤ result → 1 ≤ room_seen puts.new.pass.part) }
+    ensures looked { LooksFirst puts.old.pass.part.events puts.new.pass.part.events }
     ensures steps { steps.new ≤ steps.old + max 1 (4 * result) }
 {
     let room = puts.room(block, steps) as usize;
@@ -47,6 +48,7 @@ pub(crate) fn put_all<L: Ledger>(
     ensures put { puts.new.pass.part.frames ≡ puts.old.pass.part.frames ++ map packed_word (take result frames.now) }
     ensures counted { IsCounted puts.new.pass.part }
     ensures full { (result < length frames.now → room_seen puts.new.pass.part ≡ 0) × (result ≡ length frames.now → 1 ≤ room_seen puts.new.pass.part) }
+    ensures looked { LooksFirst puts.old.pass.part.events puts.new.pass.part.events }
     ensures steps { steps.new ≤ steps.old + 4 * length frames.now }
 {
     let mut put = 0;

@@ -1,6 +1,7 @@
 use Rattle.af_record.proofs.Puts.{supplying_met}
 use Rattle.af_record.proofs.Histories.{capture_history}
 use Rattle.af_record.proofs.Rears.{sees_put}
+use Rattle.af_record.proofs.Rooms.{sees_room}
 use Rattle.std.proofs.Common.{ap}
 use Rattle.af_link.specs.PipeEnds.{InSide}
 use Rattle.af_record.proofs.ends.meet_record.Goals as goal
@@ -14,3 +15,6 @@ returns-clause-history g c = λ ss rs came read. capture_history ss rs _ _ c.mee
 
 pub returns-clause-rears : goal.returns-clause-rears
 returns-clause-rears g c = sees_put _ _ _ _ _ c.meet_pipe.ensures.history
+
+pub returns-clause-rooms : goal.returns-clause-rooms
+returns-clause-rooms g c = sees_room _ _ _ _ _ c.meet_pipe.ensures.history

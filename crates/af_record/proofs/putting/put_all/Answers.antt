@@ -2,7 +2,7 @@ use Rattle.std.proofs.Common.{◌≡◌, ◌≢◌, ℕ, ◌+◌, ◌-◌, ◌�
 use Rattle.std.proofs.lemmas.List.{take_all, length-drop}
 use Rattle.af_base.specs.declared.frame.Frame.{Frame}
 use Rattle.af_base.specs.Sample.{packed_word}
-use Rattle.af_record.proofs.Puts.{sent_on}
+use Rattle.af_record.proofs.Puts.{looked_first, sent_on}
 use Rattle.af_record.proofs.putting.put_all.Goals as goal
 
 pub loop-put-preserved : goal.loop-put-preserved
@@ -23,6 +23,8 @@ loop-put-preserved g c =
       sent = sent_on c.args.puts.now.pass.part.frames c.loop-put.puts.pass.part.frames c.put_some-count.new.puts.pass.part.frames frames put count within i.sent e.put;
       counted = e.counted;
       seen = λ more. e.full.1 some;
+      quiet = λ none. absurd (omega arith);
+      looked = λ more. looked_first put c.args.puts.now.pass.part.events c.loop-put.puts.pass.part.events c.put_some-count.new.puts.pass.part.events i.quiet i.looked e.looked;
       few = (let a = e.steps in let b = i.few in omega arith);
     }
 
@@ -34,3 +36,14 @@ returns-then-count-eq0-clause-put g c =
     let same : c.loop-put.put + c.put_some-count.result ≡ c.loop-put.put = (let e = c.if-count-eq0.true in omega arith) in
     sent_on old c.loop-put.puts.pass.part.frames c.put_some-count.new.puts.pass.part.frames frames c.loop-put.put c.put_some-count.result i.within i.sent c.put_some-count.ensures.put
     ∙ ap (λ (n : ℕ). old ++ map packed_word (take n frames)) same
+
+pub returns-then-count-eq0-clause-looked : goal.returns-then-count-eq0-clause-looked
+returns-then-count-eq0-clause-looked g c =
+    let i = c.loop-put.invariant in
+    looked_first c.loop-put.put c.args.puts.now.pass.part.events c.loop-put.puts.pass.part.events c.put_some-count.new.puts.pass.part.events i.quiet i.looked c.put_some-count.ensures.looked
+
+pub returns-clause-looked : goal.returns-clause-looked
+returns-clause-looked g c =
+    let some : 1 ≤ length c.args.frames.now = c.requires.some in
+    let end : length c.args.frames.now ≤ c.loop-put.put = omega arith in
+    c.loop-put.invariant.looked (omega arith)

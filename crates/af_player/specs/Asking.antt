@@ -1,0 +1,26 @@
+-- A request of the program and what it makes, as the definitions have them.
+use Rattle.std.specs.Prelude.{ℕ, List, string_bytes}
+use Rattle.af_player.specs.declared.deliver.Output.{Output}
+use Rattle.af_player.specs.declared.request.Request.{Request}
+use Rattle.af_player.specs.declared.request.Request.TheVariants as words
+use Rattle.af_player.specs.Requests as asked
+use Rattle.af_player.specs.Asked.{Job}
+use Rattle.af_player.specs.Captured.{AreSizes}
+
+abbrev pub request_view : Request → asked.Request
+request_view (words.Render script target) = asked.Render script.now target.now
+request_view (words.Record input target sizes) = asked.Record input.now target.now sizes
+
+-- the output's name
+abbrev pub target_of : Request → List ℕ
+target_of (words.Render script target) = target.now
+target_of (words.Record input target sizes) = target.now
+
+-- what is made, for an output of this name
+abbrev pub output_job : List ℕ → Output → Job
+output_job target output = record { target = target; bytes = output.bytes.items; line = string_bytes output.line }
+
+-- the sizes of a recording are such as words may ask for
+abbrev pub IsSound : Request → Type 0
+IsSound (words.Render script target) = Unit {0}
+IsSound (words.Record input target sizes) = AreSizes sizes

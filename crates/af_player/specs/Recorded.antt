@@ -1,0 +1,52 @@
+-- A recording on one thread, in periods: a supply and then a read.
+use Rattle.std.specs.Prelude.{ℕ, zero, suc, ◌+◌, ◌-◌, min, List, [], ◌∷◌, ◌++◌, length, take, drop}
+use Rattle.af_base.specs.declared.frame.Frame.{Frame}
+use Rattle.af_player.specs.declared.request.Sizes.{Sizes}
+
+-- the frames read so far and those that are queued, and how many were lost
+pub record Recording (X : Type 0) : Type 0 where
+  pub read : List X
+  pub queued : List X
+  pub lost : ℕ
+
+module _ {X : Type 0} where
+  -- before the first period
+  abbrev pub empty : Recording X
+  empty = record { read = []; queued = []; lost = 0 }
+
+  -- the first frames that there is room for are put, and the others are lost
+  abbrev pub supplied : ℕ → List X → Recording X → Recording X
+  supplied room frames r =
+      let put = min (length frames) (room - length r.queued) in
+      record { read = r.read; queued = r.queued ++ take put frames; lost = r.lost + (length frames - put) }
+
+  -- up to so many of the frames that are queued are read
+  abbrev pub read_up_to : ℕ → Recording X → Recording X
+  read_up_to count r = record { read = r.read ++ take count r.queued; queued = drop count r.queued; lost = r.lost }
+
+  -- a supply of these frames, and a read
+  abbrev pub period : Sizes → List X → Recording X → Recording X
+  period sizes frames r = read_up_to sizes.read (supplied sizes.room frames r)
+
+  -- periods until no frame is left, but no more than so many
+  abbrev pub periods : Sizes → ℕ → List X → Recording X → Recording X
+  periods sizes zero frames r = r
+  periods sizes (suc count) [] r = r
+  periods sizes (suc count) (frame ∷ frames) r = periods sizes count (drop sizes.supply (frame ∷ frames)) (period sizes (take sizes.supply (frame ∷ frames)) r)
+
+  -- all frames are supplied: each period takes at least one
+  abbrev pub recorded : Sizes → List X → Recording X
+  recorded sizes frames = periods sizes (length frames) frames empty
+
+  -- reads until one gives nothing take all that is queued
+  abbrev pub heard : Recording X → List X
+  heard r = r.read ++ r.queued
+
+-- how many frames were supplied, read and lost
+pub record Counts : Type 0 where
+  pub supplied : ℕ
+  pub read : ℕ
+  pub lost : ℕ
+
+abbrev pub counts_of : Sizes → List Frame → Counts
+counts_of sizes frames = let r = recorded sizes frames in record { supplied = length frames; read = length (heard r); lost = r.lost }

@@ -1,0 +1,39 @@
+//! What the words may ask for.
+ghost use Rattle.std.specs.Prelude.{◌≡◌};
+ghost use Rattle.af_player.specs.Asking.{target_of};
+
+/// The sizes of a recording: for how many frames there is room, how many each supply has, and how many places each read.
+#[derive(Clone, Copy, Debug, PartialEq, Eq)]
+pub struct Sizes {
+    pub room: u32,
+    pub supply: u32,
+    pub read: u32,
+}
+
+/// One command and its words.
+#[derive(Clone, Copy, Debug, PartialEq, Eq)]
+pub enum Request<'a> {
+    /// A script, and the output that it is rendered to.
+    Render {
+        script: &'a str,
+        target: &'a str,
+    },
+    /// A file that is recorded, the output, and the sizes of the recording.
+    Record {
+        input: &'a str,
+        target: &'a str,
+        sizes: Sizes,
+    },
+}
+
+impl<'a> Request<'a> {
+    /// The output's name.
+    pub fn target(self) -> &'a str
+        ensures { result.now ≡ target_of self.entry }
+    {
+        match self {
+            Request::Render { target, .. } => target,
+            Request::Record { target, .. } => target,
+        }
+    }
+}
