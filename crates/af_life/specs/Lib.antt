@@ -1,3 +1,15 @@
 pub mod State
 pub mod Commands
 pub mod Reports
+pub mod Kept
+pub mod Heard
+pub mod Obeys
+pub mod Looks
+pub mod Serves
+pub mod Edits
+pub mod Plays
+pub mod Turn
+pub mod TurnEvents
+pub mod Drained
+pub mod Small
+pub mod Plain

@@ -5,12 +5,28 @@
 #![tactic(auto)]
 
 mod command;
+mod edits;
+mod heard;
+mod kept;
+mod laws;
+mod obeys;
+mod plain;
+mod plays;
+mod serves;
 mod state;
 mod track;
 
 pub use command::{FLUSH, OPEN, PAUSE, REMOVE, START, STOP};
+pub use edits::{free_slot, next_command};
+pub use heard::NO_COUNTS;
+pub use kept::{Counts, Heard, Holder, Setting, TrackKept};
+pub use laws::a_drained_track_was_reached;
+pub use plain::{PlainMixer, is_small_turn, new_track};
+pub use serves::{is_found_shut, stored_over};
 pub use state::LifeState;
 pub use track::{Known, Life, RETRIES, fresh};
 
+#[cfg(test)]
+mod plain_tests;
 #[cfg(test)]
 mod tests;

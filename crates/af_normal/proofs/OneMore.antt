@@ -1,0 +1,98 @@
+-- One look more.
+use Rattle.std.proofs.Common.{◌≡◌, ℕ, suc, ◌+◌, ◌-◌, ◌<◌, ◌≤◌, Bool, true, false, true≢false, if◌then◌else◌, ◌&&◌, sym, refl, ap, ◌∙◌, subst, List, [], ◌∷◌, ◌++◌, append_assoc, append-nil, length, Option, arith}
+use Rattle.af_base.specs.declared.event.ServerEvent.{ServerEvent}
+use Rattle.af_base.specs.declared.turn.CommandLook.{CommandLook}
+use Rattle.af_model.specs.Cycles.{Listed, LooksBy}
+use Rattle.af_model.specs.declared.shape.Shape.{Shape}
+use Rattle.af_server.specs.Order.{ServerState}
+use Rattle.af_life.specs.declared.kept.TrackKept.{TrackKept}
+use Rattle.af_life.specs.Obeys.{shows_command, is_shut, ended, must_wait, obeyed, after_look, goes_on, after_looks, are_due, all_go_on}
+use Rattle.af_life.specs.Looks.{as_slot, command_events, all_command_events, words_taken}
+use Rattle.af_life.proofs.LooksSoFar.{after_all, after_looks-go, are_due-go}
+use Rattle.af_life.proofs.LooksMade.{after_events, legal-push, events-push}
+use Rattle.af_server.specs.Slot.{listed}
+use Rattle.af_normal.specs.Commands.{LooksOnce, LooksMade}
+
+words-push : (looks : List CommandLook) (look : CommandLook) → words_taken (looks ++ look ∷ []) ≡ words_taken looks ++ words_taken (look ∷ [])
+words-push [] look = refl
+words-push (l ∷ looks) look = ap (λ (ws : List ℕ). (if shows_command l.seen then l.code ∷ l.argument ∷ [] else []) ++ ws) (words-push looks look)
+    ∙ sym (append_assoc (if shows_command l.seen then l.code ∷ l.argument ∷ [] else []) (words_taken looks) (words_taken (look ∷ [])))
+
+pub begin_made : (s : ServerState) → LooksMade s [] s
+begin_made s = record { fronts = []; legal = tt; list = sym (append-nil s.pass.part.events); took = sym (append-nil s.pass.part.frames); shape = refl }
+
+pub push_made : (s t u : ServerState) (looks : List CommandLook) (look : CommandLook) → LooksMade s looks t → LooksOnce t look u → LooksMade s (looks ++ look ∷ []) u
+push_made s t u looks look m o =
+    let before : Listed = after_events (listed s) looks m.fronts in
+    let events : List ServerEvent = all_command_events (listed s) looks m.fronts in
+    let shaped : listed t ≡ record (listed s) { events = t.pass.part.events } = ap (λ (x : Shape). record { shape = x; events = t.pass.part.events }) m.shape in
+    let here : listed t ≡ before = shaped ∙ ap (λ (es : List ServerEvent). record (listed s) { events = es }) m.list in
+    record {
+      fronts = m.fronts ++ o.front ∷ [];
+      legal = legal-push (listed s) looks m.fronts look o.front m.legal (subst (λ (x : Listed). LooksBy 2 x (as_slot look) o.front) here o.looks) o.words;
+      list = o.list ∙ ap (λ (es : List ServerEvent). es ++ command_events (listed t) look o.front) m.list
+          ∙ append_assoc s.pass.part.events events (command_events (listed t) look o.front)
+          ∙ ap (λ (x : Listed). s.pass.part.events ++ (events ++ command_events x look o.front)) here
+          ∙ ap (λ (es : List ServerEvent). s.pass.part.events ++ es) (sym (events-push (listed s) looks m.fronts look o.front m.legal));
+      took = o.took ∙ ap (λ (ws : List ℕ). ws ++ words_taken (look ∷ [])) m.took ∙ append_assoc s.pass.part.frames (words_taken looks) (words_taken (look ∷ []))
+          ∙ ap (λ (ws : List ℕ). s.pass.part.frames ++ ws) (sym (words-push looks look));
+      shape = o.shape ∙ m.shape;
+    }
+
+module _ (given : Option ℕ) (flush_seen : ℕ) where
+  either_same : {A : Type 0} (b : Bool) (x : A) → (if b then x else x) ≡ x
+  either_same true x = refl
+  either_same false x = refl
+
+  -- one more look, whether it goes on or not
+  pub one_more : (s : TrackKept) (looks : List CommandLook) (look : CommandLook) → all_go_on given flush_seen looks s ≡ true
+      → after_looks given flush_seen (looks ++ look ∷ []) s ≡ after_look given flush_seen look (after_all given flush_seen s looks)
+  one_more s looks look h = after_looks-go given flush_seen looks (look ∷ []) s h ∙ either_same (goes_on look (after_look given flush_seen look (after_all given flush_seen s looks))) _
+
+  or_true : (b c : Bool) → b ≡ false → (if b then c else true) ≡ true
+  or_true true c e = absurd (true≢false e)
+  or_true false c e = refl
+
+  -- the look that ends them is due
+  pub last_due : (s : TrackKept) (looks : List CommandLook) (look : CommandLook) (n : ℕ) → all_go_on given flush_seen looks s ≡ true → length looks < n
+      → goes_on look (after_look given flush_seen look (after_all given flush_seen s looks)) ≡ false → are_due n given flush_seen (looks ++ look ∷ []) s ≡ true
+  last_due s looks look n h few stops = let k : ℕ = n - suc (length looks) in let is : n ≡ length looks + suc k = omega arith in
+      ap (λ (x : ℕ). are_due x given flush_seen (looks ++ look ∷ []) s) is ∙ are_due-go given flush_seen (suc k) looks (look ∷ []) s h
+      ∙ or_true (goes_on look (after_look given flush_seen look (after_all given flush_seen s looks))) _ stops
+
+  -- and so are as many as may be made
+  pub all_due : (s : TrackKept) (looks : List CommandLook) → all_go_on given flush_seen looks s ≡ true → are_due (length looks) given flush_seen looks s ≡ true
+  all_due s looks h = let is : length looks ≡ length looks + 0 = omega arith in
+      ap (λ (x : ℕ). are_due x given flush_seen looks s) is ∙ ap (λ (xs : List CommandLook). are_due (length looks + 0) given flush_seen xs s) (sym (append-nil looks)) ∙ are_due-go given flush_seen 0 looks [] s h
+
+  pub all_after : (s : TrackKept) (looks : List CommandLook) → all_go_on given flush_seen looks s ≡ true → after_looks given flush_seen looks s ≡ after_all given flush_seen s looks
+  all_after s looks h = ap (λ (xs : List CommandLook). after_looks given flush_seen xs s) (sym (append-nil looks)) ∙ after_looks-go given flush_seen looks [] s h
+
+  -- a look that goes on joins those that do
+  pub still_on : (s : TrackKept) (looks : List CommandLook) (look : CommandLook) → all_go_on given flush_seen looks s ≡ true
+      → goes_on look (after_look given flush_seen look (after_all given flush_seen s looks)) ≡ true → all_go_on given flush_seen (looks ++ look ∷ []) s ≡ true
+  still_on s [] look h on = ap (λ (b : Bool). b && true) on
+  still_on s (l ∷ looks) look h on = ap (λ (b : Bool). b && all_go_on given flush_seen (looks ++ look ∷ []) (after_look given flush_seen l s)) (first (goes_on l (after_look given flush_seen l s)) _ h).0
+      ∙ still_on (after_look given flush_seen l s) looks look (first (goes_on l (after_look given flush_seen l s)) _ h).1 on
+    where
+      first : (b d : Bool) → (b && d) ≡ true → (b ≡ true) × (d ≡ true)
+      first true d e = (refl, e)
+      first false d e = absurd (true≢false (sym e))
+
+  pub after-push : (s : TrackKept) (looks : List CommandLook) (look : CommandLook) → after_all given flush_seen s (looks ++ look ∷ []) ≡ after_look given flush_seen look (after_all given flush_seen s looks)
+  after-push s [] look = refl
+  after-push s (l ∷ looks) look = after-push (after_look given flush_seen l s) looks look
+
+  -- a look settles one command at most
+  pub settles_one : (look : CommandLook) (s : TrackKept) → (after_look given flush_seen look s).settled ≤ s.settled + 1
+  unfolding after_look obeyed
+  settles_one look s = by_look (shows_command look.seen) (is_shut look.seen)
+    where
+      by_wait : (b : Bool) (t u : TrackKept) (n : ℕ) → t.settled ≤ n → u.settled ≤ n → (if b then t else u).settled ≤ n
+      by_wait true t u n e f = e
+      by_wait false t u n e f = f
+
+      by_look : (b d : Bool) → (if b then obeyed given flush_seen look.code look.argument s else if d then ended s else s).settled ≤ s.settled + 1
+      by_look true d = by_wait (must_wait flush_seen look.code look.argument s.life) _ _ (s.settled + 1) (omega arith) (omega arith)
+      by_look false true = omega arith
+      by_look false false = omega arith

@@ -1,0 +1,4 @@
+//! The normal mixer: each turn it hears of the tracks, obeys their commands, edits and pushes the fast mixer's state, and mixes the tracks that have no slot into the pipe.
+#![tactic(auto)]
+
+mod commands;
