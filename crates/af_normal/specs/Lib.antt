@@ -1,2 +1,4 @@
+pub mod AllMixed
 pub mod Commands
 pub mod Mixing
+pub mod Sums

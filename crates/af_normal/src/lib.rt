@@ -2,3 +2,5 @@
 #![tactic(auto)]
 
 mod commands;
+mod plays;
+mod sums;
