@@ -3,7 +3,8 @@ use Rattle.std.proofs.Common.{◌≡◌, ℕ, ◌<◌, ◌≤◌, ◌≢◌, ◌
 use Rattle.std.proofs.lemmas.Bool.{cases_eq}
 use Rattle.std.proofs.lemmas.List.{get_or-map, length-map}
 use Rattle.std.proofs.Math.Seq.{map-set_same}
-use Rattle.af_base.specs.Turn.{TakeSeen}
+use Rattle.af_base.specs.declared.turn.NormalTake.{NormalTake}
+use Rattle.af_base.specs.Turn.{TakeSeen, take_seen}
 use Rattle.af_cblk.specs.Sides.{Made}
 use Rattle.af_server.specs.Order.{ServerState, IsServerOf}
 use Rattle.af_life.specs.declared.kept.TrackKept.{TrackKept}
@@ -11,6 +12,10 @@ use Rattle.af_life.specs.Kept.{track_at, new_track}
 use Rattle.af_life.specs.Plays.{is_mixed_here, after_take, counted}
 use Rattle.af_normal.specs.Mixing.{Mixing, TakesOf, MixesTrack, stream_at}
 use Rattle.af_normal.specs.AllMixed.{AreHome, AreServersOf}
+
+-- the tracks, the proxies and the takes of the program
+abbrev pub mixing : List TrackKept → List (Option ServerState) → List NormalTake → Mixing
+mixing tracks streams takes = record { tracks = tracks; streams = streams; takes = map take_seen takes }
 
 pub passed : (asked i : ℕ) (x : Mixing) → is_mixed_here (track_at x.tracks i) ≡ false → MixesTrack asked i x x
 passed asked i x e = subst (λ (b : Bool). MatchBool b (TakesOf asked i x x) (x ≡ x)) (sym e) refl
