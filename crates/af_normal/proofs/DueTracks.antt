@@ -1,15 +1,15 @@
 -- What mixing one track changes, and what it leaves.
-use Rattle.std.proofs.Common.{◌≡◌, ℕ, ◌<◌, ◌≤◌, ◌≢◌, ◌⊎◌, Bool, true, false, MatchBool, List, length, map, is_some, slice_index_or, slice_set, Option, Some, None, MatchOption, refl, sym, ap, subst, ◌∙◌, length-set, get_or-set_other, get_or-set_same, arith, ⊎_elim}
+use Rattle.std.proofs.Common.{◌≡◌, ℕ, ◌<◌, ◌≢◌, Bool, true, false, MatchBool, List, length, map, is_some, slice_index_or, slice_set, Option, Some, None, MatchOption, refl, sym, ap, subst, ◌∙◌, get_or-set_other, get_or-set_same, arith, ⊎_elim}
 use Rattle.std.proofs.lemmas.Bool.{cases_eq}
 use Rattle.std.proofs.lemmas.List.{get_or-map, length-map}
 use Rattle.std.proofs.Math.Seq.{map-set_same}
 use Rattle.af_base.specs.declared.turn.NormalTake.{NormalTake}
-use Rattle.af_base.specs.Turn.{TakeSeen, take_seen}
+use Rattle.af_base.specs.Turn.{take_seen}
 use Rattle.af_cblk.specs.Sides.{Made}
 use Rattle.af_server.specs.Order.{ServerState, IsServerOf}
 use Rattle.af_life.specs.declared.kept.TrackKept.{TrackKept}
 use Rattle.af_life.specs.Kept.{track_at, new_track}
-use Rattle.af_life.specs.Plays.{is_mixed_here, after_take, counted}
+use Rattle.af_life.specs.Plays.{is_mixed_here, counted}
 use Rattle.af_normal.specs.Mixing.{Mixing, TakesOf, MixesTrack, stream_at}
 use Rattle.af_normal.specs.AllMixed.{AreHome, AreServersOf}
 

@@ -1,5 +1,5 @@
 -- What the takes of a turn give to the mix.
-use Rattle.std.proofs.Common.{◌≡◌, ℕ, ◌<◌, ◌≤◌, List, [], ◌∷◌, length, map, take, All, slice_index_or, slice_set, ◌+◌, ◌≢◌, ⊎_elim, refl, sym, ap, subst, ◌∙◌, length-take, get_or-take, get_or-set_same, get_or-set_other, arith}
+use Rattle.std.proofs.Common.{◌≡◌, ℕ, ◌<◌, ◌≤◌, List, [], ◌∷◌, length, map, take, All, slice_index_or, slice_set, ◌+◌, ◌≢◌, ⊎_elim, sym, ap, subst, ◌∙◌, length-take, get_or-take, get_or-set_same, get_or-set_other, arith}
 use Rattle.std.proofs.lemmas.Bool.{cases_eq}
 use Rattle.std.proofs.lemmas.List.{get_or-map, length-map, ext_get_or, get_or_default}
 use Rattle.std.proofs.lemmas.List.Elements.{All-from_get_or, All-get_or}
@@ -11,7 +11,7 @@ use Rattle.af_base.specs.Mix.{Take, mix}
 use Rattle.af_base.specs.Part.{take_of as take_of_part, no_part}
 use Rattle.af_base.specs.Turn.{take_seen}
 use Rattle.af_life.specs.declared.kept.Setting.{Setting}
-use Rattle.af_life.specs.Kept.{Setup, asked, setting_of, no_setting}
+use Rattle.af_life.specs.Kept.{Setup, asked, no_setting}
 use Rattle.af_life.specs.Plays.{take_of, put_by}
 use Rattle.af_normal.specs.Sums.{Fits}
 

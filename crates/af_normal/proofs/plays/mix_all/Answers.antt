@@ -1,7 +1,6 @@
-use Rattle.std.proofs.Common.{◌≡◌, ℕ, suc, ◌+◌, ◌^◌, ◌<◌, ◌≤◌, ◌≢◌, List, [], length, slice_index_or, MatchOption, refl, sym, ap, subst, ◌∙◌, arith}
+use Rattle.std.proofs.Common.{◌≡◌, ℕ, suc, ◌+◌, ◌^◌, ◌<◌, ◌≢◌, List, [], length, slice_index_or, MatchOption, refl, sym, ap, subst, ◌∙◌, arith}
 use Rattle.std.proofs.lemmas.List.{get_or_default}
 use Rattle.std.proofs.lemmas.List.Elements.{All-get_or}
-use Rattle.af_base.specs.declared.turn.NormalTake.{NormalTake}
 use Rattle.af_cblk.specs.Sides.{Made}
 use Rattle.af_server.specs.Order.{IsServerOf}
 use Rattle.af_life.specs.declared.kept.TrackKept.{TrackKept}
