@@ -1,10 +1,10 @@
 mod Effects
 mod Drains
-mod Lives
+pub mod Lives
 mod Reached
-mod Settles
-mod Smalls
-mod SmallTurns
+pub mod Settles
+pub mod Smalls
+pub mod SmallTurns
 mod SmallTests
 pub mod LooksSoFar
 pub mod LooksMade

@@ -1,4 +1,9 @@
 pub mod AllMixed
+pub mod Coming
 pub mod Commands
+pub mod Editing
 pub mod Mixing
+pub mod Ready
+pub mod Serving
+pub mod State
 pub mod Sums

@@ -58,6 +58,7 @@ pub(crate) fn look_at_commands<L: Ledger>(
     ensures looks { LooksMade server.old looks.new.items server.new }
     ensures due { are_due most_looks given flush_seen looks.new.items track ≡ true }
     ensures track { result ≡ after_looks given flush_seen looks.new.items track }
+    ensures few { result.settled ≤ track.settled + most_looks }
     ensures room { looks.new.room ≡ looks.old.room }
 {
     let mut track = track;

@@ -1,0 +1,38 @@
+-- When the parts of a track belong to the blocks of a run's links.
+use Rattle.std.specs.Prelude.{◌≡◌, ℕ, ◌<◌, List, length, map, slice_get, Some}
+use Rattle.std.specs.List.{All}
+use Rattle.af_base.specs.declared.turn.TrackTurn.{TrackTurn}
+use Rattle.af_base.specs.Turn.{track_seen}
+use Rattle.af_cblk.specs.Sides.{HandSide, hand_made}
+use Rattle.af_server.specs.Order.{ServerState}
+use Rattle.af_link.specs.Names.{IsStreamOf}
+use Rattle.af_link.specs.declared.links.Links.{Links}
+use Rattle.af_life.specs.Serves.{most_looks}
+use Rattle.af_normal.specs.Mixing.{stream_at}
+use Rattle.af_normal.specs.Serving.{Serving}
+use Rattle.af_normal.specs.State.{NormalState}
+
+-- the parts of a mixer that serve its tracks
+abbrev pub serving_of : NormalState → Serving
+serving_of m = record { tracks = m.tracks; streams = m.streams; commands = m.commands; hands = m.hands; turns = map track_seen m.entry.tracks.items }
+
+-- the command proxy, the hand and, where it is home, the stream proxy of the track i are those of its two blocks
+pub record IsTrackReady (links : Links) (x : Serving) (i : ℕ) : Type 0 where
+  pub command : ServerState
+  pub has_command : slice_get x.commands i ≡ Some command
+  pub command_is : IsStreamOf links.commands.now i command
+  pub flag : HandSide
+  pub has_flag : slice_get x.hands i ≡ Some flag
+  pub flag_is : slice_get links.streams.now i ≡ Some (hand_made flag)
+  pub stream_is : (s : ServerState) → stream_at x.streams i ≡ Some s → IsStreamOf links.streams.now i s
+
+-- there is one of each for each of so many tracks
+pub record AreWhole (n : ℕ) (x : Serving) : Type 0 where
+  pub tracks : length x.tracks ≡ n
+  pub streams : length x.streams ≡ n
+  pub commands : length x.commands ≡ n
+  pub hands : length x.hands ≡ n
+
+-- each has room for the looks of a turn
+abbrev pub HaveRoom : List TrackTurn → Type 0
+HaveRoom turns = All (λ t. t.looks.room ≡ most_looks) turns

@@ -1,0 +1,44 @@
+//! The normal mixer, and what contracts see of it.
+use af_base::{Frame, NormalTakes, TrackTurns, TurnEntry};
+use af_cblk::FlagHand;
+use af_gain::Sum;
+use af_life::{Setting, TrackKept};
+use af_link::{PipeIn, ReportReader, StreamNames};
+use af_server::Server;
+use af_stateq::Mutator;
+use std::marker::Model;
+
+/// The mixer that hears of all tracks, tells the fast mixer what to do, and mixes the tracks that have no slot into the pipe (AOSP's MixerThread).
+#[derive(Drop)]
+pub struct NormalMixer {
+    pub(crate) frames: u32,
+    pub(crate) normal: u32,
+    pub(crate) settings: Vec<Setting>,
+    pub(crate) tracks: Vec<TrackKept>,
+    // The stream proxies that are home.
+    pub(crate) streams: Vec<Option<Server>>,
+    pub(crate) commands: Vec<Server>,
+    // They are there from the first turn on.
+    pub(crate) hands: Vec<FlagHand>,
+    pub(crate) mutator: Mutator<Server, StreamNames>,
+    pub(crate) ends: (ReportReader, PipeIn),
+    pub(crate) entry: TurnEntry,
+    // What fills the next entry.
+    pub(crate) spare_turns: TrackTurns,
+    pub(crate) spare_takes: NormalTakes,
+    pub(crate) ended: bool,
+    pub(crate) turns: u32,
+    pub(crate) sums: Vec<Sum>,
+    pub(crate) buffer: Vec<Frame>,
+}
+
+impl Model for NormalMixer {
+    ghost use Rattle.std.specs.Prelude.{◌≡◌, ◌*◌, length};
+    ghost use Rattle.af_normal.specs.State.{NormalState};
+
+    ghost Value = { NormalState };
+
+    ghost view = { λ m. record { frames = m.frames; normal = m.normal; settings = m.settings.items; tracks = m.tracks.items; streams = m.streams.items; commands = m.commands.items; hands = m.hands.items; mutator = m.mutator; reader = m.ends.0; pipe = m.ends.1; entry = m.entry; spare_turns = m.spare_turns; spare_takes = m.spare_takes; ended = m.ended; turns = m.turns } };
+
+    ghost invariant = { λ m. (length m.sums.items ≡ m.normal * m.frames) × (length m.buffer.items ≡ m.normal * m.frames) };
+}
