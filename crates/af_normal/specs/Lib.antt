@@ -1,7 +1,9 @@
-pub mod State
-pub mod Commands
-pub mod Mixing
-pub mod Serving
-pub mod Ready
-pub mod Editing
+pub mod AllMixed
 pub mod Coming
+pub mod Commands
+pub mod Editing
+pub mod Mixing
+pub mod Ready
+pub mod Serving
+pub mod State
+pub mod Sums

@@ -6,6 +6,8 @@ mod attend;
 mod commands;
 mod edits;
 mod mixer;
+mod plays;
 mod serve;
+mod sums;
 
 pub use mixer::NormalMixer;
