@@ -1,5 +1,5 @@
 -- Servers that go on, one step after the other.
-use Rattle.std.proofs.Common.{◌≡◌, ℕ, sym, ap, ◌∙◌, refl, subst, List, [], ◌∷◌, ◌++◌, append_assoc, append-nil, Option, Some, None}
+use Rattle.std.proofs.Common.{ℕ, sym, ap, ◌∙◌, refl, subst, List, [], ◌++◌, append_assoc, append-nil}
 use Rattle.af_base.specs.declared.event.ServerEvent.{ServerEvent}
 use Rattle.af_base.specs.declared.turn.CommandLook.{CommandLook}
 use Rattle.af_server.specs.Order.{ServerState}

@@ -1,6 +1,5 @@
 -- What the normal mixer does with the tracks that have no slot: each is looked at for one buffer, and what it shows is taken.
 use Rattle.std.specs.Prelude.{◌≡◌, ℕ, zero, suc, ◌≤◌, MatchBool, List, [], ◌∷◌, ◌++◌, length, map, slice_set, slice_index_or, Option, Some, None}
-use Rattle.af_base.specs.declared.turn.NormalTake.{NormalTake}
 use Rattle.af_base.specs.Log.{count_seen}
 use Rattle.af_base.specs.Sample.{packed_word}
 use Rattle.af_base.specs.Turn.{TakeSeen}

@@ -1,5 +1,5 @@
 -- When the parts of a track belong to the blocks of a run's links.
-use Rattle.std.specs.Prelude.{◌≡◌, ℕ, ◌<◌, List, length, map, slice_get, Some}
+use Rattle.std.specs.Prelude.{◌≡◌, ℕ, List, length, map, slice_get, Some}
 use Rattle.std.specs.List.{All}
 use Rattle.af_base.specs.declared.turn.TrackTurn.{TrackTurn}
 use Rattle.af_base.specs.Turn.{track_seen}

@@ -1,4 +1,8 @@
-//! The normal mixer: each turn it hears of the tracks, obeys their commands, edits and pushes the fast mixer's state, and mixes the tracks that have no slot into the pipe.
+//! The normal mixer, in pieces: what it does at the blocks and at the draft, each piece with its own contract.
+//!
+//! There is one track's part of a turn with its proxies and its hand (`attend`, by looks at its commands), what a proxy that is home knows, one track lent, let go and welcomed, and the buffer: all tracks without a slot mixed in order, and their takes summed. The definition of a whole turn stands in af_life.
+//!
+//! What it lacks is a turn: the loops over the tracks but that of the mix, the push, the report, the making of the mixer and its meetings. No call of it is public yet.
 #![tactic(auto)]
 
 mod acks;

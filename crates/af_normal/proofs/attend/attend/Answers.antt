@@ -1,9 +1,8 @@
-use Rattle.std.proofs.Common.{◌≡◌, ℕ, Bool, ap, ◌∙◌, List}
+use Rattle.std.proofs.Common.{ℕ, Bool, ap, ◌∙◌, List}
 use Rattle.af_base.specs.declared.turn.CommandLook.{CommandLook}
 use Rattle.af_life.specs.declared.kept.TrackKept.{TrackKept}
 use Rattle.af_life.specs.declared.track.Life.{Life}
 use Rattle.af_life.specs.Reports.{by_report}
-use Rattle.af_life.specs.Obeys.{commanded}
 use Rattle.af_life.specs.Serves.{is_found_shut, status_word, after_part}
 use Rattle.af_normal.proofs.attend.attend.Goals as goal
 

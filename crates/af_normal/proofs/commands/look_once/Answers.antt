@@ -1,4 +1,4 @@
-use Rattle.std.proofs.Common.{◌≡◌, ◌≢◌, ℕ, ◌∷◌, ◌++◌, [], true, false, refl, sym, ap, ◌∙◌, List, length, map, arith}
+use Rattle.std.proofs.Common.{◌≡◌, ◌≢◌, ℕ, ◌∷◌, ◌++◌, [], false, refl, sym, ap, ◌∙◌, List, length, arith}
 use Rattle.std.specs.Prelude.{◌==◌, slice_index_or}
 use Rattle.af_base.specs.declared.event.ServerEvent.TheVariants as server
 use Rattle.af_base.specs.declared.turn.CommandLook.{CommandLook}

@@ -1,4 +1,4 @@
-use Rattle.std.proofs.Common.{◌≡◌, ◌<◌, ap, ◌∙◌, sym, subst, length, Option, Some, None, arith}
+use Rattle.std.proofs.Common.{◌≡◌, ◌<◌, ap, ◌∙◌, sym, subst, length, Some, None, arith}
 use Rattle.std.proofs.lemmas.List.{get_or_default}
 use Rattle.af_server.specs.Order.{ServerState, IsInOrder}
 use Rattle.af_link.specs.Names.{IsStreamOf}

@@ -1,4 +1,4 @@
-use Rattle.std.proofs.Common.{◌≡◌, ◌<◌, ap, ◌∙◌, sym, length, None, arith}
+use Rattle.std.proofs.Common.{◌<◌, ap, ◌∙◌, sym, length, None, arith}
 use Rattle.std.proofs.lemmas.List.{get_or_default}
 use Rattle.af_normal.specs.Mixing.{stream_at}
 use Rattle.af_normal.specs.State.{NormalState}
