@@ -2,3 +2,4 @@ pub mod Loops
 pub mod Ends
 pub mod Numbers
 pub mod Played
+pub mod InStep

@@ -5,11 +5,13 @@
 
 mod ends;
 mod head;
+mod in_hand;
 mod playing;
 mod setting;
 
 pub use ends::{Player, Setter, Shared, Unrolled, make, meet_static};
 pub use head::Head;
+pub use in_hand::InHand;
 pub use setting::Setting;
 
 #[cfg(test)]

@@ -2,7 +2,7 @@
 ghost use Rattle.std.specs.Prelude.{◌≡◌, ◌<◌};
 ghost use Rattle.af_static.specs.Ends.{IsPlayerOf};
 
-use crate::{Player, Shared, Unrolled, make};
+use crate::{InHand, Player, Shared, Unrolled, make};
 use af_base::{Frame, Gains, Memory, Steps};
 use std::alloc::Global;
 use std::marker::Brand;
@@ -260,5 +260,24 @@ fn a_loop_of_fifteen_frames_shuts_the_player(rt: HostRuntime) -> Result<(), Fail
     };
     assert_eq!(rt; samples, [[0; 8]; 5]);
     assert_eq!(rt; answers, [shut; 5]);
+    Ok(())
+}
+
+#[test]
+fn both_ends_in_one_hand(rt: HostRuntime) -> Result<(), Fail> {
+    let frames = [
+        Frame { left: 1, right: 2 },
+        Frame { left: 3, right: 4 },
+        Frame { left: 5, right: 6 },
+    ];
+    let mut hand = InHand::make(rt.alloc(), &frames)?;
+    let mut out = [SILENCE; 2];
+    let first = hand.play(Gains::clamped(0x1000_1000), &mut out);
+    assert_eq!(rt; out, [frames[0], frames[1]]);
+    assert_eq!(rt; hand.set(1, 0, 0), 1);
+    let second = hand.play(Gains::clamped(0x1000_1000), &mut out);
+    assert_eq!(rt; out, [frames[1], frames[2]]);
+    assert_eq!(rt; (first.number, first.filled, first.shut), (0, 2, None));
+    assert_eq!(rt; (second.number, second.filled, second.shut), (1, 2, None));
     Ok(())
 }
