@@ -2,6 +2,7 @@
 #![tactic(auto)]
 
 mod events;
+mod journal;
 mod merging;
 mod mixing;
 mod newest;
@@ -15,6 +16,7 @@ mod shape;
 mod states;
 mod step;
 
+pub use journal::{Journal, Rounds};
 pub use merging::{Merge, merge_check};
 pub use mixing::{mix_entry, parts_of};
 pub use newest::{ReaderEvent, WriterEvent};
