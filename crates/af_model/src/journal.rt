@@ -162,10 +162,11 @@ impl Journal {
         (round.first, round.cycles)
     }
 
-    /// The log of all entries, with the frames that they took.
+    /// The log of all entries, with the frames that they took. The clause `form` says what every journal keeps.
     pub fn log(&self) -> &FastLog
         ensures entries { map (λ e. e.entry) (entries_of self.now.rounds) ≡ result.now.entries }
         ensures frames { frames_of (entries_of self.now.rounds) ≡ result.now.frames }
+        ensures form { IsJournal self.now }
     {
         &self.log
     }

@@ -1,0 +1,130 @@
+//! The lines of the fast mixer's entries.
+ghost use Rattle.std.specs.Prelude.{◌≡◌, ◌+◌, ◌<◌, ◌≤◌, true, take, drop, flat_map, length, string_bytes, IfOk, All};
+ghost use Rattle.af_base.specs.Log.{count_seen, entry_slot, slots};
+ghost use Rattle.af_model.specs.Cycles.{is_mixed};
+ghost use Rattle.af_journal.specs.Texts.{GoesOn, is_shown, kind_of};
+ghost use Rattle.af_journal.specs.Logged.{LieWithin, logged_entry, logged_fast, logged_shown, logged_slot, logged_slots};
+
+use crate::line::Line;
+use crate::turn::{add, add_frames};
+use af_base::{Cycle, CycleEntry, FastLog, Frame, Memory, SLOTS, Seen};
+
+// The number of a kind of cycle.
+fn kind_of(cycle: Cycle) -> u32
+    ensures { result ≡ kind_of cycle }
+{
+    match cycle {
+        Cycle::Mixed => 0,
+        Cycle::Idle => 1,
+        Cycle::Cold => 2,
+        Cycle::Exit => 3,
+        Cycle::Spent { .. } => 4,
+    }
+}
+
+// Whether a slot shows something.
+fn is_shown(seen: Seen) -> bool
+    ensures { result ≡ is_shown seen }
+{
+    !matches!(seen, Seen::Absent)
+}
+
+// Adds a slot that shows something.
+fn add_shown(
+    text: &mut String,
+    frames: &[Frame],
+    entry: &CycleEntry,
+    slot: usize,
+) -> Result<(), Memory>
+    requires slot { slot < slots }
+    requires within { (entry_slot entry.now slot).first + count_seen (entry_slot entry.now slot).seen ≤ length frames.now }
+    ensures { IfOk result (λ _. GoesOn (string_bytes text.old) (logged_shown frames.now entry.now slot) (string_bytes text.new)) }
+{
+    let seen = entry.slots[slot];
+    let line = Line::Slot {
+        slot: slot as u32,
+        scale: entry.scales[slot],
+        mono: (entry.mono >> slot) & 1 == 1,
+        gains: seen.gains,
+        flush: seen.flush,
+        rear: seen.rear,
+        seen: seen.seen,
+    };
+    let end = seen.first + seen.seen.count() as usize;
+    add(text, line)?;
+    add_frames(text, &frames[seen.first..end])?;
+    Ok(())
+}
+
+// Adds a slot of a mix, where it shows something.
+fn add_slot(
+    text: &mut String,
+    frames: &[Frame],
+    entry: &CycleEntry,
+    slot: usize,
+) -> Result<(), Memory>
+    requires slot { slot < slots }
+    requires within { (entry_slot entry.now slot).first + count_seen (entry_slot entry.now slot).seen ≤ length frames.now }
+    ensures { IfOk result (λ _. GoesOn (string_bytes text.old) (logged_slot frames.now entry.now slot) (string_bytes text.new)) }
+{
+    if !is_shown(entry.slots[slot].seen) {
+        return Ok(());
+    }
+    add_shown(text, frames, entry, slot)
+}
+
+// Adds the slots of a mix.
+fn add_slots(text: &mut String, frames: &[Frame], entry: &CycleEntry) -> Result<(), Memory>
+    requires mixed { is_mixed entry.now.cycle ≡ true }
+    requires within { LieWithin frames.now entry.now }
+    ensures { IfOk result (λ _. GoesOn (string_bytes text.old) (logged_slots frames.now entry.now) (string_bytes text.new)) }
+{
+    for slot in 0..SLOTS {
+        add_slot(text, frames, entry, slot)?;
+    }
+    Ok(())
+}
+
+// Adds an entry.
+fn add_entry(text: &mut String, frames: &[Frame], entry: &CycleEntry) -> Result<(), Memory>
+    requires within { LieWithin frames.now entry.now }
+    ensures { IfOk result (λ _. GoesOn (string_bytes text.old) (logged_entry frames.now entry.now) (string_bytes text.new)) }
+{
+    let kind = kind_of(entry.cycle);
+    add(
+        text,
+        Line::Entry {
+            state: entry.state,
+            kind,
+        },
+    )?;
+    if !matches!(entry.cycle, Cycle::Mixed) {
+        return Ok(());
+    }
+    add_slots(text, frames, entry)
+}
+
+/// Adds so many entries from a place of the log on, where there are some.
+pub(crate) fn add_entries(
+    text: &mut String,
+    log: &FastLog,
+    first: usize,
+    count: usize,
+) -> Result<(), Memory>
+    requires there { first + count ≤ length log.now.entries }
+    requires within { All (LieWithin log.now.frames) log.now.entries }
+    ensures { IfOk result (λ _. GoesOn (string_bytes text.old) (logged_fast log.now.frames (take count (drop first log.now.entries))) (string_bytes text.new)) }
+{
+    let _entries = log.len();
+    if count == 0 {
+        return Ok(());
+    }
+    add(text, Line::Fast)?;
+    for i in 0..count {
+        let Some(entry) = log.entry(first + i) else {
+            unreachable!()
+        };
+        add_entry(text, log.frames(), entry)?;
+    }
+    Ok(())
+}
