@@ -1,7 +1,5 @@
-use Rattle.std.proofs.Common.{◌≡◌, ◌+◌, ◌%◌, ◌^◌, ◌++◌, ℕ, List, [], length, map, ap, sym, ◌∙◌, arith, mod-eq_of_lt}
+use Rattle.std.proofs.Common.{◌++◌, ℕ, List, map, ap, ◌∙◌}
 use Rattle.af_base.specs.Sample.{packed_word}
-use Rattle.af_model.specs.Point.{wrapped}
-use Rattle.af_cblk.specs.Parts.{next_position}
 use Rattle.af_server.proofs.take.load_frames.Goals as goal
 
 pub returns-clause-loaded : goal.returns-clause-loaded

@@ -1,6 +1,5 @@
-use Rattle.std.proofs.Common.{arith, ◌≡◌, ◌≤◌, ◌<◌, ◌+◌, ◌-◌, ◌%◌, ◌^◌, ℕ, length, ap, ◌∙◌}
-use Rattle.af_cblk.specs.Sides.{Made, ServerSide, server_made}
-use Rattle.af_cblk.proofs.Runs.{runs_join, run_begins}
+use Rattle.std.proofs.Common.{arith, ◌≡◌, ◌+◌, ◌-◌, ℕ, length}
+use Rattle.af_cblk.proofs.Runs.{runs_join}
 use Rattle.af_cblk.proofs.block.Block.load_cells.Goals as goal
 
 pub loop-done-preserved : goal.loop-done-preserved

@@ -1,5 +1,4 @@
-use Rattle.std.proofs.Common.{arith, ◌≡◌, ◌<◌, ◌+◌, ℕ, length, ap, ◌∙◌}
-use Rattle.af_model.specs.declared.shape.Shape.{Shape}
+use Rattle.std.proofs.Common.{arith, ◌≡◌, ◌<◌, ◌+◌, length, ap}
 use Rattle.af_cblk.specs.Sides.{Made}
 use Rattle.af_cblk.proofs.Runs.{run_on}
 use Rattle.af_cblk.proofs.block.Block.load_run.Goals as goal
