@@ -124,6 +124,14 @@ saw_cell s j word =
       loaded = if j == wrapped (s.front + length s.loaded) % s.shape.cells then s.loaded ++ word ∷ [] else s.loaded;
     }
 
+-- the position of the next cell to load: past the front by the cells that were loaded
+abbrev pub next_position : ServerPart → ℕ
+next_position s = s.front + length s.loaded
+
+-- the server has loaded the next cells, with these words
+abbrev pub saw_next : ServerPart → List ℕ → ServerPart
+saw_next s words = record s { loaded = s.loaded ++ words }
+
 -- the server has taken the frames up to this front
 abbrev pub took : ServerPart → ℕ → ServerPart
 took s front =

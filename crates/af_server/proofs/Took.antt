@@ -1,37 +1,13 @@
 -- What a take leaves in order.
-use Rattle.std.proofs.Common.{◌≡◌, ◌≢◌, ℕ, ◌+◌, ◌%◌, ◌^◌, ◌≤◌, ◌<◌, Bool, true, false, true≢false, if◌then◌else◌, Option, Some, None, List, [], ◌∷◌, ◌++◌, length, take, map, set, refl, sym, ap, ◌∙◌, subst, arith, eq-eqb, length-take-le}
-use Rattle.std.proofs.lemmas.List.{length-map, take_more_set, map-append}
-use Rattle.af_base.specs.declared.frame.Frame.{Frame}
+use Rattle.std.proofs.Common.{◌≡◌, ◌≢◌, ℕ, ◌+◌, ◌%◌, ◌^◌, ◌≤◌, ◌<◌, Bool, true, false, true≢false, if◌then◌else◌, Option, Some, None, List, [], ◌∷◌, ◌++◌, length, take, refl, sym, ap, ◌∙◌, subst, arith}
 use Rattle.af_base.specs.declared.event.ServerEvent.TheVariants as server
-use Rattle.af_base.specs.Sample.{packed_word}
-use Rattle.af_model.specs.Point.{wrapped}
 use Rattle.af_model.specs.Room.{ahead}
 use Rattle.af_model.specs.ServerCalls.{ServerKept, IsServerList, flushes_by, takes}
 use Rattle.af_cblk.specs.declared.view.ServerPart.{ServerPart}
-use Rattle.af_cblk.specs.Parts.{front_stored, dropped, took, saw_cell, SawInOrder, MayStoreFront}
-use Rattle.af_cblk.specs.Sides.{ServerSide, ServerIs}
+use Rattle.af_cblk.specs.Parts.{front_stored, dropped, took, SawInOrder, MayStoreFront}
 use Rattle.af_cblk.proofs.Numbers.{ahead_of}
 use Rattle.af_server.specs.Order.{ServerState, Keeps, IsReady, server_kept_of, counted, IsInOrder}
-use Rattle.af_server.specs.Looks.{Reads}
 use Rattle.af_server.proofs.Kept.{kept-more, fewer}
-
--- one more cell in order
-saw_next : (s : ServerPart) (cells position word : ℕ) → s.shape.cells ≡ cells → position ≡ wrapped (s.front + length s.loaded) → saw_cell s (position % cells) word ≡ (record s { loaded = s.loaded ++ word ∷ [] })
-saw_next s cells position word sized is =
-    let same : position % cells ≡ wrapped (s.front + length s.loaded) % s.shape.cells = ap (λ (n : ℕ). position % n) (sym sized) ∙ ap (λ (n : ℕ). n % s.shape.cells) is in
-    ap (λ (b : Bool). record s { loaded = if b then s.loaded ++ word ∷ [] else s.loaded }) (eq-eqb (position % cells) (wrapped (s.front + length s.loaded) % s.shape.cells) same)
-
-pub reads_on : (p q r : ServerSide) (into : List Frame) (i position word cells : ℕ) (frame : Frame) → Reads p q (take i into) → i < length into → q.part.shape.cells ≡ cells → position ≡ wrapped (p.part.front + i)
-    → packed_word frame ≡ word → ServerIs (saw_cell q.part (position % cells) word) q r → Reads p r (take (i + 1) (set into i frame))
-reads_on p q r into i position word cells frame before here sized is packed saw =
-    let words : List ℕ = map packed_word (take i into) in
-    let s : ServerPart = record p.part { loaded = words } in
-    let size : s.shape.cells ≡ cells = sym (ap (λ (x : ServerSide). x.part.shape.cells) before) ∙ sized in
-    let count : length words ≡ i = length-map (take i into) packed_word ∙ length-take-le i into (omega arith) in
-    let next : saw_cell s (position % cells) word ≡ (record s { loaded = words ++ word ∷ [] }) = saw_next s cells position word size (is ∙ ap (λ (n : ℕ). wrapped (p.part.front + n)) (sym count)) in
-    let more : words ++ word ∷ [] ≡ map packed_word (take (i + 1) (set into i frame)) =
-    ap (λ (w : ℕ). words ++ w ∷ []) (sym packed) ∙ sym (map-append packed_word (take i into) (frame ∷ [])) ∙ ap (map packed_word) (sym (take_more_set into i frame here)) in
-    saw ∙ ap (λ (x : ServerSide). record x { part = saw_cell x.part (position % cells) word }) before ∙ ap (λ (x : ServerPart). record p { part = x }) next ∙ ap (λ (l : List ℕ). record p { part = record p.part { loaded = l } }) more
 
 -- ## Front raised by what was loaded
 

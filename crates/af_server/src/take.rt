@@ -27,10 +27,7 @@ pub fn load_frames<L: Ledger>(
     ensures loaded { Reads pass.old pass.new into.new }
     ensures steps { steps.new ≡ steps.old + length into.old }
 {
-    for i in 0..into.len() {
-        let word = block.load_cell(pass, front.wrapping_add(i as u32), steps);
-        into[i] = Frame::unpack(word);
-    }
+    block.load_cells(pass, front, into, steps);
 }
 
 impl Server {

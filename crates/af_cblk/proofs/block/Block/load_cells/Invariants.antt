@@ -1,0 +1,11 @@
+use Rattle.std.proofs.Common.{◌≡◌, ◌+◌, ◌-◌, ◌≤◌, length, take, map}
+use Rattle.af_base.specs.Sample.{packed_word}
+use Rattle.af_cblk.specs.Parts.{saw_next}
+use Rattle.af_cblk.specs.Sides.{ServerIs}
+use Rattle.af_cblk.proofs.block.Block.load_cells.Given as goal
+
+abbrev pub invariant-loop-done : goal.invariant-loop-done
+invariant-loop-done g l = ServerIs (saw_next l.initial.pass.part (map packed_word (take l.done l.into))) l.initial.pass l.pass × (l.steps ≡ l.initial.steps + l.done) × (l.done ≤ length l.into)
+
+abbrev pub decreases-loop-done : goal.decreases-loop-done
+decreases-loop-done g l = length l.into - l.done

@@ -1,0 +1,78 @@
+//! Loading the cells of a run of positions.
+ghost use Rattle.std.specs.Prelude.{◌≡◌, ◌+◌, ◌-◌, ◌%◌, ◌<◌, ◌≤◌, ◌^◌, length, map};
+ghost use Rattle.af_base.specs.Sample.{packed_word};
+ghost use Rattle.af_model.specs.Point.{wrapped};
+ghost use Rattle.af_cblk.specs.Parts.{saw_cell, saw_next, next_position};
+ghost use Rattle.af_cblk.specs.Shape.{IsShape};
+ghost use Rattle.af_cblk.specs.Sides.{server_made, ServerIs};
+
+use crate::block::Block;
+use crate::pass::ServerPass;
+use crate::plays::SeesCell;
+use crate::words::CELLS;
+use af_base::{Frame, Steps};
+use std::sync::ledger::Ledger;
+
+impl Block {
+    // Loads the cell that is this word of the block.
+    fn load_word<L: Ledger>(&self, pass: &mut ServerPass, index: usize, steps: &mut Steps<L>) -> u32
+        requires made { server_made pass.old ≡ self.now }
+        requires cell { (7 ≤ index) × (index < 7 + self.now.shape.cells) }
+        ensures made { server_made pass.new ≡ self.now }
+        ensures saw { ServerIs (saw_cell pass.old.part (index - 7) result) pass.old pass.new }
+        ensures steps { steps.new ≡ steps.old + 1 }
+    {
+        let found = self.table.shared.load::<SeesCell>(&mut pass.seat, index);
+        steps.tick();
+        (found & 0xffff_ffff) as u32
+    }
+
+    // Loads the next cells, which lie one behind the other from a word of the block on.
+    fn load_run<L: Ledger>(
+        &self,
+        pass: &mut ServerPass,
+        first: usize,
+        into: &mut [Frame],
+        steps: &mut Steps<L>,
+    )
+        requires made { server_made pass.old ≡ self.now }
+        requires shape { IsShape self.now.shape }
+        requires next { first ≡ 7 + wrapped (next_position pass.old.part) % self.now.shape.cells }
+        requires within { first + length into.old ≤ 7 + self.now.shape.cells }
+        ensures made { server_made pass.new ≡ self.now }
+        ensures saw { ServerIs (saw_next pass.old.part (map packed_word into.new)) pass.old pass.new }
+        ensures steps { steps.new ≡ steps.old + length into.old }
+    {
+        for i in 0..into.len() {
+            let word = self.load_word(pass, first + i, steps);
+            into[i] = Frame::unpack(word);
+        }
+    }
+
+    /// Loads the cells of the next positions, one for each frame of `into`, below 2^32 of them: from `position` on, which is as far past the front last seen as cells were loaded since. They are part of a later Take, and append nothing by themselves. So many steps.
+    ///
+    /// The cells are loaded run by run: up to the last cell, and on from the first.
+    pub fn load_cells<L: Ledger>(
+        &self,
+        pass: &mut ServerPass,
+        position: u32,
+        into: &mut [Frame],
+        steps: &mut Steps<L>,
+    )
+        requires made { server_made pass.old ≡ self.now }
+        requires next { position ≡ wrapped (next_position pass.old.part) }
+        requires few { length into.old < 2 ^ 32 }
+        ensures made { server_made pass.new ≡ self.now }
+        ensures saw { ServerIs (saw_next pass.old.part (map packed_word into.new)) pass.old pass.new }
+        ensures steps { steps.new ≡ steps.old + length into.old }
+    {
+        let end = CELLS + self.cells() as usize;
+        let mut done = 0;
+        while done < into.len() {
+            let first = self.cell_of(position.wrapping_add(done as u32));
+            let count = (end - first).min(into.len() - done);
+            self.load_run(pass, first, &mut into[done..done + count], steps);
+            done += count;
+        }
+    }
+}
