@@ -8,3 +8,6 @@ mod writing;
 
 pub use line::Line;
 pub use writing::write;
+
+#[cfg(test)]
+mod tests;
