@@ -1,3 +1,4 @@
 mod Texts
 mod Entries
 mod Small
+mod Begun

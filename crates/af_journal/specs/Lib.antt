@@ -1,3 +1,5 @@
+pub mod Clients
+pub mod Kept
 pub mod Lines
 pub mod Texts
 pub mod Logged

@@ -1,12 +1,16 @@
-//! The text of a journal: what anyone can read of a run.
+//! Runs as anyone can audit them: what a client does by its ops, and the text of a journal.
 #![tactic(auto)]
 
+mod client;
 mod fast;
 mod line;
 mod turn;
+mod want;
 mod writing;
 
+pub use client::Client;
 pub use line::Line;
+pub use want::{ClientCommand, Due, Mode, Want};
 pub use writing::write;
 
 #[cfg(test)]
