@@ -14,4 +14,6 @@ pub use want::{ClientCommand, Due, Mode, Want};
 pub use writing::write;
 
 #[cfg(test)]
+mod client_tests;
+#[cfg(test)]
 mod tests;

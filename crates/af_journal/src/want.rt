@@ -28,7 +28,9 @@ pub enum ClientCommand {
 #[derive(Clone, Copy, Debug, PartialEq, Eq)]
 pub enum Want {
     /// To send a command.
-    Send { command: ClientCommand },
+    Send {
+        command: ClientCommand,
+    },
     /// A status by which all commands sent are settled.
     Settled,
     /// A status by which the track is stopped, too.
@@ -36,9 +38,14 @@ pub enum Want {
     /// To flush.
     Flush,
     /// To set its gains, each in 4.12.
-    Gain { left: u32, right: u32 },
+    Gain {
+        left: u32,
+        right: u32,
+    },
     /// To write so many frames.
-    Write { count: u32 },
+    Write {
+        count: u32,
+    },
     /// To clear DISABLED.
     Clear,
     /// To overwrite a word of the command block, or else of the stream block.
