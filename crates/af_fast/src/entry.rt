@@ -15,7 +15,7 @@ ghost use Rattle.af_fast.specs.Tracks.{tracks_of};
 
 use crate::heard::mix_heard;
 use crate::mixer::FastMixer;
-use crate::report::reports_after;
+use crate::report::report_all;
 use crate::slots::play_slots;
 use af_base::{Cycle, CycleEntry, FastState, Frame, Report, Steps};
 use af_link::Links;
@@ -90,9 +90,9 @@ impl FastMixer {
         ensures steps { steps.new ≡ steps.old + 1 }
     {
         self.log.push(*entry);
-        self.reports = reports_after(
+        report_all(
             &mut self.observer,
-            &self.reports,
+            &mut self.reports,
             state,
             self.last,
             entry,

@@ -1,5 +1,5 @@
 //! What is reported of the slots after an entry.
-ghost use Rattle.std.specs.Prelude.{◌≡◌, ℕ, ◌<◌, ◌^◌, true, Some};
+ghost use Rattle.std.specs.Prelude.{◌≡◌, ℕ, ◌<◌, ◌^◌, true, Some, length};
 ghost use Rattle.af_base.specs.Log.{slots};
 ghost use Rattle.af_model.specs.Reports.{no_slot, report_at, carried, counted_look, is_full, is_partial, is_empty, slot_report};
 ghost use Rattle.af_base.specs.declared.state.FastState.{FastState};
@@ -126,27 +126,27 @@ fn report_after(
     counted_look(asked, generation, seen, known, no_slot())
 }
 
-/// The reports of the slots after an entry under a state, after one under the state before it.
-pub(crate) fn reports_after(
+/// The reports of the slots go on by an entry under a state, after one under the state before it.
+pub(crate) fn report_all(
     observer: &mut Observer<Server, StreamNames>,
-    before: &[SlotReport; SLOTS],
+    reports: &mut [SlotReport; SLOTS],
     state: Option<FastState>,
     last: Option<FastState>,
     entry: &CycleEntry,
     asked: usize,
-) -> [SlotReport; SLOTS]
+)
     requires state { (x : FastState) → state ≡ Some x → x ≡ observer.old.past.state }
     requires order { InOrder stream_fits observer.old }
-    requires few { (i : ℕ) → i < slots → ((report_at before.now i).fulls < 2 ^ 31) × ((report_at before.now i).partials < 2 ^ 31) × ((report_at before.now i).empties < 2 ^ 31) }
+    requires few { (i : ℕ) → i < slots → ((report_at reports.old i).fulls < 2 ^ 31) × ((report_at reports.old i).partials < 2 ^ 31) × ((report_at reports.old i).empties < 2 ^ 31) }
     ensures same { observer.new ≡ observer.old }
-    ensures each { (i : ℕ) → i < slots → report_at result i ≡ slot_report asked state last entry.now (known observer.old i) i (report_at before.now i) }
+    ensures whole { length reports.new ≡ slots }
+    ensures each { (i : ℕ) → i < slots → report_at reports.new i ≡ slot_report asked state last entry.now (known observer.old i) i (report_at reports.old i) }
 {
-    let mut reports = *before;
     let Some(state) = state else {
-        return reports;
+        return;
     };
     for slot in 0..SLOTS {
-        reports[slot] = report_after(observer, before[slot], &state, last, entry, slot, asked);
+        let before = reports[slot];
+        reports[slot] = report_after(observer, before, &state, last, entry, slot, asked);
     }
-    reports
 }

@@ -1,0 +1,18 @@
+use Rattle.std.proofs.Common.{rules, ◌+◌, ◌∷◌, [], length, refl, ap, ◌∙◌, length-append}
+use Rattle.af_base.specs.Log.{Logged}
+use Rattle.af_model.specs.Reports.{report_at, slot_report}
+use Rattle.af_fast.specs.Known.{known}
+use Rattle.af_fast.specs.Mixer.{MixerState}
+use Rattle.af_fast.proofs.mixer.FastMixer.note.Goals as goal
+
+pub returns-clause-reports : goal.returns-clause-reports
+returns-clause-reports g c = record {
+  report = record { cycle = c.len.result; slots = c.report_all.new.reports };
+  stored = search (rules);
+  number = c.len.ensures ∙ ap (λ (l : Logged). length l.entries) c.push.ensures ∙ length-append c.self.inside.log.entries (c.args.entry.now ∷ []) ∙ ap (λ (y : MixerState). length y.log.entries + 1) c.self.view_is;
+  slots_are = refl;
+  whole = c.report_all.ensures.whole;
+  each = (λ i lt.
+      c.report_all.ensures.each i lt
+      ∙ ap (λ (y : MixerState). slot_report y.frames c.args.state y.last c.args.entry.now (known y.observer i) i (report_at y.reports i)) c.self.view_is);
+}

@@ -1,0 +1,14 @@
+use Rattle.std.proofs.Common.{◌≡◌, ℕ, ◌≤◌, ◌<◌, Some, length}
+use Rattle.af_base.specs.Log.{slots}
+use Rattle.af_model.specs.Reports.{report_at, slot_report}
+use Rattle.af_fast.specs.Known.{known}
+use Rattle.af_fast.proofs.report.report_all.Given as goal
+
+abbrev pub invariant-loop-slot : goal.invariant-loop-slot
+invariant-loop-slot l = record {
+  same : l.observer ≡ l.fn.observer;
+  state_is : l.state ≡ l.fn.observer.past.state;
+  whole : length l.reports ≡ slots;
+  each : (i : ℕ) → i < l.slot → report_at l.reports i ≡ slot_report l.asked (Some l.state) l.last l.entry (known l.fn.observer i) i (report_at l.fn.reports i);
+  behind : (i : ℕ) → l.slot ≤ i → report_at l.reports i ≡ report_at l.fn.reports i;
+}
