@@ -83,8 +83,8 @@ module _ (k : Shape) where
   kept-more es more = fold-append (server_keeps k) (server_begins k) es more
 
   pub looks_calm : (kept asked flush rear front : ℕ) → kept ≡ 0 → flush ≡ 0 → drops_of (look_at k kept asked flush rear front) front ≡ []
-  looks_calm kept asked flush rear front none zero =
-      ap (λ (x : ℕ × ℕ). drops_of (look_at k x.0 asked x.1 rear front) front) (λ i. (none i, zero i)) ∙ no_drop _ _ front rear _
+  looks_calm kept asked flush rear front none unflushed =
+      ap (λ (x : ℕ × ℕ). drops_of (look_at k x.0 asked x.1 rear front) front) (λ i. (none i, unflushed i)) ∙ no_drop _ _ front rear _
 
   flush-quiet : (kept : ServerKept) (e : ServerEvent) → is_calm e ≡ true → kept.flush ≡ 0 → (server_keeps k kept e).flush ≡ 0
   flush-quiet kept (server.SawFlush flush) calm none = eqb-true flush 0 calm
@@ -110,15 +110,15 @@ module _ (k : Shape) where
   more_calm es more first second = let all = all_both is_calm es more first second in record { flush_is = kept_zero (es ++ more) all; calm = all }
 
   look_all : (flush rear front : ℕ) (drops : List ServerEvent) → flush ≡ 0 → drops ≡ [] → list_all is_calm (server.SawFlush flush ∷ server.SawRear rear ∷ server.SawFront front ∷ drops) ≡ true
-  look_all flush rear front drops zero none = ap (λ (x : ℕ × List ServerEvent). list_all is_calm (server.SawFlush x.0 ∷ server.SawRear rear ∷ server.SawFront front ∷ x.1)) (λ i. (zero i, none i))
+  look_all flush rear front drops unflushed none = ap (λ (x : ℕ × List ServerEvent). list_all is_calm (server.SawFlush x.0 ∷ server.SawRear rear ∷ server.SawFront front ∷ x.1)) (λ i. (unflushed i, none i))
 
   stays_calm : (shown : Option ℕ) (events : List ServerEvent) → IsServerList k shown events → list_all is_reading events ≡ true → list_all is_zero events ≡ true → StaysCalm k events
   stays_calm shown events begins reads zeros = record { flush_is = refl; calm = refl }
-  stays_calm shown events (looks es before asked flush rear front list open some) reads zeros =
+  stays_calm shown events (looks es before asked flush rear front list unshut some) reads zeros =
       let shows : Seen = look_at k (server_kept k es).flush asked flush rear front in
       let on = stays_calm before es list (all_first is_reading es (look_events shows flush rear front) reads) (all_first is_zero es (look_events shows flush rear front) zeros) in
-      let zero : flush ≡ 0 = eqb-true flush 0 (both_left (flush == 0) _ (all_second is_zero es (look_events shows flush rear front) zeros)) in
-      more_calm es (look_events shows flush rear front) on.calm (look_all flush rear front (drops_of shows front) zero (looks_calm (server_kept k es).flush asked flush rear front on.flush_is zero))
+      let unflushed : flush ≡ 0 = eqb-true flush 0 (both_left (flush == 0) _ (all_second is_zero es (look_events shows flush rear front) zeros)) in
+      more_calm es (look_events shows flush rear front) on.calm (look_all flush rear front (drops_of shows front) unflushed (looks_calm (server_kept k es).flush asked flush rear front on.flush_is unflushed))
   stays_calm shown events (takes es count list) reads zeros =
       let on = stays_calm (Some count) es list (all_first is_reading es (server.Take count ∷ []) reads) (all_first is_zero es (server.Take count ∷ []) zeros) in
       more_calm es (server.Take count ∷ []) on.calm refl

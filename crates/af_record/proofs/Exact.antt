@@ -21,7 +21,7 @@ use Rattle.af_model.specs.Room.{ahead}
 use Rattle.af_model.specs.PipeHistory.{room_by}
 use Rattle.af_model.specs.ServerCalls.{look_at, look_events, drops_of, server_kept}
 use Rattle.af_model.proofs.Logic.{ahead-between, nat_lt-no, both_left, both_right}
-use Rattle.af_link.specs.PipeEnds.{SeesTaken}
+use Rattle.af_record.specs.Ends.{SeesTaken}
 use Rattle.af_cblk.specs.declared.view.ClientPart.{ClientPart}
 use Rattle.af_cblk.specs.declared.view.ServerPart.{ServerPart}
 use Rattle.af_cblk.specs.Parts.{client_met, server_did}
@@ -178,8 +178,8 @@ shown_as false true places front rear fits same = let e = same refl in omega ari
 shown_as false false places front rear fits same = refl
 
 shown_rest : (k : Shape) (kept places flush rear front : ℕ) → kept ≡ 0 → flush ≡ 0 → front < 2 ^ 32 → ahead front rear ≤ k.frames → count_seen (look_at k kept places flush rear front) ≡ min places (ahead front rear)
-shown_rest k kept places flush rear front none zero low fits =
-    ap (λ (x : ℕ × ℕ). count_seen (look_at k x.0 places x.1 rear front)) (λ i. (none i, zero i))
+shown_rest k kept places flush rear front none unflushed low fits =
+    ap (λ (x : ℕ × ℕ). count_seen (look_at k x.0 places x.1 rear front)) (λ i. (none i, unflushed i))
     ∙ shown_as (nat_lt k.frames (ahead front rear)) (rear == front) places front rear (nat_lt-no k.frames (ahead front rear) fits) (λ d. let e = eqb-true rear front d in omega arith)
 
 -- ## What nothing disturbs
@@ -220,13 +220,13 @@ record LookedAt (s t : ServerPart) (places count : ℕ) : Type 0 where
   rear : ℕ
   front : ℕ
   kept : (server_kept_of s).flush ≡ 0
-  zero : flush ≡ 0
+  unflushed : flush ≡ 0
   count_is : count ≡ count_seen (look_at s.shape (server_kept_of s).flush places flush rear front)
   events : t.events ≡ s.events ++ server.SawFlush flush ∷ server.SawRear rear ∷ server.SawFront front ∷ takes_of count
 
 looked_at : (s t : ServerPart) (places count : ℕ) → (server_kept_of s).shut ≡ None → HasRead s places count t → list_all is_calm t.events ≡ true → LookedAt s t places count
-looked_at s t places count open read calm =
-    let r = subst (λ (o : Option (ℕ × ℕ)). MatchOption o (SawWords s places count t) (λ words. (count ≡ 0) × (t.events ≡ s.events))) open read in
+looked_at s t places count unshut read calm =
+    let r = subst (λ (o : Option (ℕ × ℕ)). MatchOption o (SawWords s places count t) (λ words. (count ≡ 0) × (t.events ≡ s.events))) unshut read in
     let flush : ℕ = r.0 in
     let rear : ℕ = r.1 in
     let front : ℕ = r.2 in
@@ -236,14 +236,14 @@ looked_at s t places count open read calm =
     let whole : list_all is_calm ((s.events ++ words) ++ takes_of count) ≡ true = ap (list_all is_calm) (sym r.3.1) ∙ calm in
     let first : list_all is_calm (s.events ++ words) ≡ true = all_first is_calm (s.events ++ words) (takes_of count) whole in
     let kept : keeps ≡ 0 = kept_zero s.shape s.events (all_first is_calm s.events words first) in
-    let zero : flush ≡ 0 = eqb-true flush 0 (both_left (flush == 0) _ (all_second is_calm s.events words first)) in
-    let none : drops ≡ [] = looks_calm s.shape keeps places flush rear front kept zero in
+    let unflushed : flush ≡ 0 = eqb-true flush 0 (both_left (flush == 0) _ (all_second is_calm s.events words first)) in
+    let none : drops ≡ [] = looks_calm s.shape keeps places flush rear front kept unflushed in
     record {
       flush = flush;
       rear = rear;
       front = front;
       kept = kept;
-      zero = zero;
+      unflushed = unflushed;
       count_is = r.3.0;
       events = r.3.1 ∙ ap (λ (es : List ServerEvent). (s.events ++ server.SawFlush flush ∷ server.SawRear rear ∷ server.SawFront front ∷ es) ++ takes_of count) none
           ∙ append_assoc s.events (server.SawFlush flush ∷ server.SawRear rear ∷ server.SawFront front ∷ []) (takes_of count);
@@ -319,7 +319,7 @@ module _ (block : Made) (c : CaptureState) (l : ListenerState) (step : IsInStep 
       let puts : List ClientEvent = c2.pass.part.events in
       let learn : List ServerEvent = server.Learn (length c.pass.part.events) ∷ [] in
       let rest : List ServerEvent = takes_of count ++ learn in
-      let r = looked_at l.pass.part l1.pass.part places count step.open read (calm_first l1.pass.part.events learn (ap (λ (s : ServerPart). list_all is_calm s.events) (sym to) ∙ calm)) in
+      let r = looked_at l.pass.part l1.pass.part places count step.unshut read (calm_first l1.pass.part.events learn (ap (λ (s : ServerPart). list_all is_calm s.events) (sym to) ∙ calm)) in
       let looks : List ServerEvent = server.SawFlush r.flush ∷ server.SawRear r.rear ∷ server.SawFront r.front ∷ rest in
       let puts_are : puts ≡ clients ++ client.Learn (length step.servers) ∷ client.Learn (length l1.pass.part.events) ∷ [] =
       ap (λ (p : ClientPart). p.events) from ∙ ap (λ (es : List ClientEvent). es ++ client.Learn (length l1.pass.part.events) ∷ []) step.clients_are
@@ -347,7 +347,7 @@ module _ (block : Made) (c : CaptureState) (l : ListenerState) (step : IsInStep 
       let shown : put_by puts - taken_in l.pass.part.events ≡ length (queued_in c l) = omega arith in
       let made : block.shape.frames ≡ l.pass.part.shape.frames = ap (λ (m : Made). m.shape.frames) (sym step.to) in
       let low : r.front < 2 ^ 32 = omega arith in
-      r.count_is ∙ shown_rest l.pass.part.shape (server_kept_of l.pass.part).flush places r.flush r.rear r.front r.kept r.zero low (omega arith) ∙ ap (λ (n : ℕ). min places n) (far ∙ shown)
+      r.count_is ∙ shown_rest l.pass.part.shape (server_kept_of l.pass.part).flush places r.flush r.rear r.front r.kept r.unflushed low (omega arith) ∙ ap (λ (n : ℕ). min places n) (far ∙ shown)
 
   -- what was read is what was queued first
   pub read_exact : (c2 : CaptureState) (l1 l2 : ListenerState) (count : ℕ) (words : List ℕ) → l1.pass.part.frames ≡ l.pass.part.frames ++ words → length words ≡ count

@@ -7,7 +7,7 @@ use Rattle.af_base.specs.declared.event.ServerEvent.TheVariants as server
 use Rattle.af_model.specs.Order.{Event, one, two, twos, Legal}
 use Rattle.af_model.specs.PipeHistory.{PipePoint, start, next}
 use Rattle.af_record.specs.History.{legal, HasTapeHistory}
-use Rattle.af_link.specs.PipeEnds.{SeesTaken}
+use Rattle.af_record.specs.Ends.{SeesTaken}
 
 module _ (size : ℕ) where
   -- a step of the end that supplies takes no frames

@@ -7,4 +7,4 @@ pub mod Rears
 pub mod Rooms
 pub mod Exact
 pub mod OneRead
-pub mod Met
+pub mod BothMet

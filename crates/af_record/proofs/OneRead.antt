@@ -28,7 +28,7 @@ module _ (c d : ServerState) (t : ServerPart) (look : Look) (places count : ℕ)
       (look.seen ≡ shows) × (d.pass.part.events ≡ s.events ++ look_events shows look.flush look.rear front)))
       (λ words. (look.seen ≡ seen.Shut words.0 words.1) × (d.pass.part.events ≡ s.events))
       → HasRead s places count t
-  read_as None open l =
+  read_as None unshut l =
       let front : ℕ = l.0 in
       let kept : ℕ = (server_kept_of s).flush in
       let words : SawWords s places count t =
@@ -38,7 +38,7 @@ module _ (c d : ServerState) (t : ServerPart) (look : Look) (places count : ℕ)
       front,
       (is ∙ ap count_seen l.1.0 ∙ ap (λ (n : ℕ). count_seen (look_at s.shape n places look.flush look.rear front)) order.flush_is,
       took ∙ ap (λ (es : List ServerEvent). es ++ takes count) (l.1.1 ∙ ap (λ (n : ℕ). s.events ++ look_events (look_at s.shape n places look.flush look.rear front) look.flush look.rear front) order.flush_is))) in
-      subst (λ (o : Option (ℕ × ℕ)). MatchOption o (SawWords s places count t) (λ words. (count ≡ 0) × (t.events ≡ s.events))) (sym open ∙ order.shut_is) words
+      subst (λ (o : Option (ℕ × ℕ)). MatchOption o (SawWords s places count t) (λ words. (count ≡ 0) × (t.events ≡ s.events))) (sym unshut ∙ order.shut_is) words
   read_as (Some pair) shut l =
       let none : count ≡ 0 = is ∙ ap count_seen l.0 in
       let same : t.events ≡ s.events = took ∙ ap (λ (x : List ServerEvent × ℕ). x.0 ++ takes x.1) (λ i. (l.1 i, none i)) ∙ append-nil s.events in
@@ -52,7 +52,7 @@ module _ (c d : ServerState) (t : ServerPart) (look : Look) (places count : ℕ)
       (look.seen ≡ shows) × (d.shown ≡ shown_by shows) × (d.pass.part.events ≡ s.events ++ look_events shows look.flush look.rear front)))
       (λ words. (look.seen ≡ seen.Shut words.0 words.1) × (look.flush ≡ c.flush) × (look.rear ≡ words.1) × (d ≡ (record c { shown = None })))
       → HasRead s places count t
-  looked_as None open l = read_as None open (l.0, (l.1.0, l.1.2))
+  looked_as None unshut l = read_as None unshut (l.0, (l.1.0, l.1.2))
   looked_as (Some pair) shut l = read_as (Some pair) shut (l.0, ap (λ (x : ServerState). x.pass.part.events) l.3)
 
   -- what a look showed was taken

@@ -1,5 +1,5 @@
 -- What a write leaves of the list of the end that supplies.
-use Rattle.std.proofs.Common.{◌≡◌, ◌⊎◌, inl, inr, ◌≢◌, ℕ, zero, suc, ◌+◌, ◌-◌, ◌<◌, ◌≤◌, ◌==◌, min, bit_and, Bool, true, false, true≢false, not, List, [], ◌∷◌, ◌++◌, length, take, drop, map, refl, sym, ap, ◌∙◌, subst, arith, append_assoc, append-nil, length-append, length-take-le, ne_eqb}
+use Rattle.std.proofs.Common.{◌≡◌, ◌⊎◌, inl, inr, ◌≢◌, ℕ, zero, suc, ◌+◌, ◌-◌, ◌*◌, ◌<◌, ◌≤◌, ◌==◌, min, max, bit_and, Bool, true, false, true≢false, not, List, [], ◌∷◌, ◌++◌, length, take, drop, map, refl, sym, ap, ◌∙◌, subst, arith, append_assoc, append-nil, length-append, length-take-le, ne_eqb}
 use Rattle.std.proofs.lemmas.List.{length-drop, length-map, map-append, take_all}
 use Rattle.std.proofs.Math.Seq.{take-add}
 use Rattle.af_base.specs.declared.frame.Frame.{Frame}
@@ -147,7 +147,7 @@ module _ (c d : ClientState) (asked : List Frame) (order : IsInOrder c) (only : 
   Wrote_ w = Does c (length asked) (wrote_call w) d → Releases c (map packed_word (take (written_by w) asked)) d → (IsCorrupt w → ⊥) → Written p q (written_by w)
 
   pub written : (w : Wrote) → Wrote_ w
-  written (wrote.Put front count rest) does frames open =
+  written (wrote.Put front count rest) does frames unshut =
       let some : 1 ≤ count = puts_some c (length asked) front count only.shape does.0 in
       let few : count ≤ length asked = puts_few c (length asked) front count does.0 in
       let words : List ℕ = map packed_word (take count asked) in
@@ -162,33 +162,33 @@ module _ (c d : ClientState) (asked : List Frame) (order : IsInOrder c) (only : 
       let shown = room_is p q only same more words does.1 frames.0 in
       let left : 1 ≤ room_seen q = omega arith in
       record {
-        writes = still_writes p q only same more words does.1 frames.0 (let e : count + 0 ≡ length words = omega arith in e) (tt, tt, may, tt);
-        none = λ zero. absurd (omega arith);
+        writes = still_writes p q only same more words does.1 frames.0 (let e : count + 0 ≡ length words = omega arith in e) (tt, (tt, (may, tt)));
+        none = λ x. absurd (omega arith);
         some = λ _. goes_on q (dead_is p q only same more words does.1 frames.0) left;
         looked = record { flags = 0; behind = client.SawFront front ∷ client.Release count ∷ []; is = does.1; next = λ _. (front, client.Release count ∷ [], refl) };
       }
-  written (wrote.Full front) does frames open =
+  written (wrote.Full front) does frames unshut =
       let more : List ClientEvent = client.SawFlags 0 ∷ client.SawFront front ∷ [] in
       let room = room_at p.shape.frames (length p.frames) (client_kept_of p).position front (ahead front (wrapped (client_kept_of p).position)) at refl in
       let shown = room_is p q only same more [] does.1 frames.0 in
       let full = does.0.1 in
       let left : room_seen q ≡ 0 = omega arith in
       record {
-        writes = still_writes p q only same more [] does.1 frames.0 refl (tt, tt, tt);
+        writes = still_writes p q only same more [] does.1 frames.0 refl (tt, (tt, tt));
         none = λ _. inr left;
-        some = λ more. absurd (omega arith);
+        some = λ x. absurd (omega arith);
         looked = record { flags = 0; behind = client.SawFront front ∷ []; is = does.1; next = λ _. (front, [], refl) };
       }
-  written (wrote.Dead flags) does frames open =
+  written (wrote.Dead flags) does frames unshut =
       let more : List ClientEvent = client.SawFlags flags ∷ [] in
       let invalid : bit_and flags 4 ≢ 0 = does.0.1 in
       record {
         writes = still_writes p q only same more [] does.1 frames.0 refl (tt, tt);
         none = λ _. inl (dead_is p q only same more [] does.1 frames.0 ∙ ap not (ne_eqb (bit_and flags 4) 0 invalid));
-        some = λ more. absurd (omega arith);
+        some = λ x. absurd (omega arith);
         looked = record { flags = flags; behind = []; is = does.1; next = λ alive. absurd (invalid alive) };
       }
-  written (wrote.Corrupt front rear) does frames open = absurd (open tt)
+  written (wrote.Corrupt front rear) does frames unshut = absurd (unshut tt)
 
 -- ## Further frames
 

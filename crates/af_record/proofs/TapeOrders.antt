@@ -20,17 +20,17 @@ use Rattle.af_model.proofs.Orders.{ones_one, ones_two, twos_one, twos_two, after
 use Rattle.af_model.proofs.Splits.{legal_at}
 use Rattle.af_model.proofs.Logic.{both_left, both_right, ahead-between}
 use Rattle.af_record.specs.History.{legal, HasTapeHistory, may_supply, IsSupplyList, IsReadList, is_alive, is_calm}
-use Rattle.af_record.proofs.Calm.{all_first, all_second, all_zero, drops_nothing}
+use Rattle.af_record.proofs.Calm.{is_zero, all_first, all_second, all_zero, drops_nothing}
 
 -- ## The lists alone
 
 -- an end that supplies never flushes
 pub flushes_none : (size : ℕ) (k : PutKept) (es : List ClientEvent) → Legal (may_supply size) after_put k es → flushes_of es ≡ 0
 flushes_none size k [] l = refl
-flushes_none size k (client.Release count ∷ es) l = flushes_none size (after_put k (client.Release count)) es l.1
-flushes_none size k (client.SawFront front ∷ es) l = flushes_none size (after_put k (client.SawFront front)) es l.1
-flushes_none size k (client.SawFlags flags ∷ es) l = flushes_none size (after_put k (client.SawFlags flags)) es l.1
-flushes_none size k (client.Learn count ∷ es) l = flushes_none size (after_put k (client.Learn count)) es l.1
+flushes_none size k (client.Release count ∷ es) l = (let e = flushes_none size (after_put k (client.Release count)) es l.1 in omega arith)
+flushes_none size k (client.SawFront front ∷ es) l = (let e = flushes_none size (after_put k (client.SawFront front)) es l.1 in omega arith)
+flushes_none size k (client.SawFlags flags ∷ es) l = (let e = flushes_none size (after_put k (client.SawFlags flags)) es l.1 in omega arith)
+flushes_none size k (client.Learn count ∷ es) l = (let e = flushes_none size (after_put k (client.Learn count)) es l.1 in omega arith)
 flushes_none size k (client.Flush ∷ es) l = absurd l.0
 flushes_none size k (client.SetGain word ∷ es) l = absurd l.0
 flushes_none size k (client.ClearFlags old ∷ es) l = absurd l.0
@@ -253,7 +253,7 @@ pub stays_calm : (shape : Shape) (size : ℕ) (ce : List ClientEvent) (cf : List
     → IsServerList shape shown se → list_all is_calm se ≡ true
 stays_calm shape size ce cf se sf shown flat h puts reads list =
     let none : flushes_of (client_of h.order) ≡ 0 = ap flushes_of h.client_is ∙ flushes_none size nothing_put ce puts in
-    drops_nothing shape shown se list reads (subst (λ (es : List ServerEvent). list_all _ es ≡ true) h.server_is (all_zero shape flat h.order h.legal none))
+    drops_nothing shape shown se list reads (subst (λ (es : List ServerEvent). list_all is_zero es ≡ true) h.server_is (all_zero shape flat h.order h.legal none))
 
 -- ## What each end saw
 

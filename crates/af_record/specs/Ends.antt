@@ -148,7 +148,7 @@ taken_in (_ ∷ es) = taken_in es
 pub record IsCalm (puts : List ClientEvent) (s : ServerPart) : Type 0 where
   pub alive : list_all is_alive puts ≡ true
   pub unflushed : list_all is_calm s.events ≡ true
-  pub open : (server_kept_of s).shut ≡ None
+  pub unshut : (server_kept_of s).shut ≡ None
 
 -- Each rear seen is the number of frames put by then: no fewer than an earlier look saw, and no fewer than were put before a meeting that stands before it
 abbrev pub SeesPut : List ClientEvent → ℕ → List ServerEvent → Type 0
@@ -166,3 +166,10 @@ SeesRoom size takes put low (client.SawFront front ∷ es) =
 SeesRoom size takes put low (client.Release count ∷ es) = SeesRoom size takes (put + count) low es
 SeesRoom size takes put low (client.Learn count ∷ es) = SeesRoom size takes put (max low (taken_in (take count takes))) es
 SeesRoom size takes put low (_ ∷ es) = SeesRoom size takes put low es
+
+-- Each front that the end that reads saw is the number of frames that it took before
+abbrev pub SeesTaken : ℕ → List ServerEvent → Type 0
+SeesTaken taken [] = Unit {0}
+SeesTaken taken (server.SawFront front ∷ es) = (front ≡ wrapped taken) × SeesTaken taken es
+SeesTaken taken (server.Take count ∷ es) = SeesTaken (taken + count) es
+SeesTaken taken (_ ∷ es) = SeesTaken taken es

@@ -26,7 +26,7 @@ pub record IsInStep (block : Made) (c : CaptureState) (l : ListenerState) : Type
   pub to : listener_made l ≡ block
   pub small : block.shape.frames ≤ 8192
   pub total_is : l.total ≡ length l.pass.part.frames
-  pub open : (server_kept_of l.pass.part).shut ≡ None
+  pub unshut : (server_kept_of l.pass.part).shut ≡ None
   pub clients : List ClientEvent
   pub servers : List ServerEvent
   pub clients_are : c.pass.part.events ≡ clients ++ client.Learn (length servers) ∷ []

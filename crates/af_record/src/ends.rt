@@ -4,10 +4,9 @@ ghost use Rattle.af_base.specs.declared.event.ServerEvent.TheVariants as server_
 ghost use Rattle.af_cblk.specs.Parts.{client_met, server_did};
 ghost use Rattle.af_cblk.specs.Rule.{new_client, new_server};
 ghost use Rattle.af_cblk.specs.Shape.{IsShape};
-ghost use Rattle.af_link.specs.PipeEnds.{SeesTaken};
 ghost use Rattle.af_record.specs.Supplies.{Supply, IsCaptureHistory};
 ghost use Rattle.af_record.specs.History.{HasTapeHistory};
-ghost use Rattle.af_record.specs.Ends.{capture_made, listener_made, CameBy, IsCalm, ReadBy, SeesPut, SeesRoom};
+ghost use Rattle.af_record.specs.Ends.{capture_made, listener_made, CameBy, IsCalm, ReadBy, SeesPut, SeesRoom, SeesTaken};
 
 use af_base::{Memory, Steps};
 use af_cblk::Block;

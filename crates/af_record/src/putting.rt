@@ -2,6 +2,7 @@
 ghost use Rattle.std.specs.Prelude.{◌≡◌, ◌+◌, ◌*◌, ◌^◌, ◌++◌, ◌<◌, ◌≤◌, max, map, take, length};
 ghost use Rattle.af_base.specs.Sample.{packed_word};
 ghost use Rattle.af_cblk.specs.Sides.{client_made};
+ghost use Rattle.af_client.specs.Calls.{put_by};
 ghost use Rattle.af_client.specs.Order.{IsInOrder};
 ghost use Rattle.af_record.specs.Ends.{IsStopped, LooksFirst, OnlyWrites};
 
@@ -9,6 +10,16 @@ use af_base::{Frame, Steps};
 use af_cblk::Block;
 use af_client::{Client, Wrote};
 use std::sync::ledger::Ledger;
+
+// How many frames a write put.
+fn count_put(wrote: Wrote) -> u32
+    ensures { result ≡ put_by wrote }
+{
+    match wrote {
+        Wrote::Put { count, .. } => count,
+        _ => 0,
+    }
+}
 
 // Writes the first of these frames, and answers how many: none where the block is full, or the flags have INVALID.
 fn put_some<L: Ledger>(
@@ -32,10 +43,7 @@ fn put_some<L: Ledger>(
     ensures looked { LooksFirst client.old.pass.part.events client.new.pass.part.events }
     ensures steps { steps.new ≤ steps.old + max 2 (4 * result) }
 {
-    match client.write(block, frames, steps) {
-        Wrote::Put { count, .. } => count as usize,
-        _ => 0,
-    }
+    count_put(client.write(block, frames, steps)) as usize
 }
 
 // Writes these frames, until all are put or a write puts none. It answers how many were put.

@@ -1,4 +1,4 @@
-use Rattle.std.proofs.Common.{◌≡◌, true, length, sym, ap, ◌∙◌}
+use Rattle.std.proofs.Common.{◌≡◌, ◌+◌, true, length, sym, ap, ◌∙◌}
 use Rattle.af_base.specs.declared.event.ServerEvent.TheVariants as server_event
 use Rattle.af_model.specs.History.{is_lawful}
 use Rattle.af_model.specs.PipeHistory.{nothing_put}
@@ -11,7 +11,7 @@ use Rattle.af_record.specs.Ends.{OnlyWrites}
 use Rattle.af_record.proofs.Puts.{writes_met}
 use Rattle.af_record.proofs.OneRead.{reads_met}
 use Rattle.af_record.proofs.TapeOrders.{supplies_lawful}
-use Rattle.af_record.proofs.Met.{met_history, met_calm}
+use Rattle.af_record.proofs.BothMet.{met_history, met_calm}
 use Rattle.af_record.proofs.Fronts.{sees_taken}
 use Rattle.af_record.proofs.Histories.{capture_history}
 use Rattle.af_record.proofs.Rears.{sees_put}

@@ -28,4 +28,4 @@ module _ (k : Shape) (p : ClientPart) (s : ServerPart) (shown : Option ℕ) (han
 
   -- nothing disturbed them
   pub met_calm : (server_kept_of s).shut ≡ None → IsCalm p.events s
-  met_calm open = record { alive = stays_alive k.frames p.events p.frames s.events s.frames met_history; unflushed = calm; open = open }
+  met_calm unshut = record { alive = stays_alive k.frames p.events p.frames s.events s.frames met_history; unflushed = calm; unshut = unshut }
