@@ -1,5 +1,5 @@
 -- What a meeting shows of both ends.
-use Rattle.std.proofs.Common.{◌≡◌, ℕ, true, Option, None, List, [], sym, ap, ◌∙◌, subst}
+use Rattle.std.proofs.Common.{◌≡◌, ℕ, true, Option, None, List, [], sym, ◌∙◌, subst}
 use Rattle.std.specs.List.{list_all}
 use Rattle.af_base.specs.declared.event.HandEvent.{HandEvent}
 use Rattle.af_model.specs.declared.shape.Shape.{Shape}

@@ -1,5 +1,5 @@
 -- Where the client never flushed, no flush word seen is other than 0, and a server that looks and takes drops nothing.
-use Rattle.std.proofs.Common.{◌≡◌, ℕ, ◌+◌, ◌*◌, ◌%◌, ◌==◌, if◌then◌else◌, Bool, true, false, true≢false, ◌&&◌, ◌||◌, not, Option, Some, None, fold, List, [], ◌∷◌, ◌++◌, refl, sym, ap, ◌∙◌, subst, arith, eq-eqb, eqb-true}
+use Rattle.std.proofs.Common.{◌≡◌, ℕ, ◌+◌, ◌*◌, ◌%◌, ◌==◌, if◌then◌else◌, Bool, true, false, true≢false, Option, Some, fold, List, [], ◌∷◌, ◌++◌, refl, sym, ap, ◌∙◌, arith, eq-eqb, eqb-true}
 use Rattle.std.specs.List.{list_all}
 use Rattle.std.proofs.lemmas.Grind.{fold-append}
 use Rattle.std.proofs.lemmas.List.Folds.{list_all-append}
@@ -10,10 +10,9 @@ use Rattle.af_base.specs.declared.seen.Seen.{Seen}
 use Rattle.af_base.specs.declared.seen.Seen.TheVariants as seen
 use Rattle.af_model.specs.declared.shape.Shape.{Shape}
 use Rattle.af_model.specs.declared.point.TrackPoint.{TrackPoint}
-use Rattle.af_model.specs.Point.{wrapped, start, flush_word, ServerMay}
-use Rattle.af_model.specs.Room.{ahead}
-use Rattle.af_model.specs.History.{Moment, by_client, by_server, by_hand, client_of, server_of, after, IsLegal, flush_in, flushes_of}
-use Rattle.af_model.specs.ServerCalls.{ServerKept, server_keeps, server_begins, server_kept, is_noticed, dropped_by, look_at, drops_of, look_events, IsServerList, begins, looks, takes, reads_gains, tallies, sets_flags, sets_status, rests, meets}
+use Rattle.af_model.specs.Point.{wrapped, start, ServerMay}
+use Rattle.af_model.specs.History.{Moment, by_client, by_server, by_hand, client_of, server_of, after, IsLegal, flushes_of}
+use Rattle.af_model.specs.ServerCalls.{ServerKept, server_keeps, server_begins, server_kept, look_at, drops_of, look_events, IsServerList, begins, looks, takes, reads_gains, tallies, sets_flags, sets_status, rests, meets}
 use Rattle.af_model.proofs.Counts.{flushes_are}
 use Rattle.af_model.proofs.Fates.{in_turn}
 use Rattle.af_model.proofs.Logic.{both_left, both_right, both_are}

@@ -1,17 +1,14 @@
 -- With both ends in one hand a supply finds all the room that there is, and a read all that is queued.
-use Rattle.std.proofs.Common.{◌≡◌, ◌⊎◌, inl, inr, ℕ, zero, suc, ◌+◌, ◌-◌, ◌*◌, ◌^◌, ◌%◌, ◌≤◌, ◌<◌, ◌==◌, nat_lt, bit_and, Bool, true, false, true≢false, not, if◌then◌else◌, MatchOption, Option, None, max, min, eqb-true, List, [], ◌∷◌, ◌++◌, length, take, drop, map, refl, sym, ap, ◌∙◌, subst, arith, append_assoc, length-append, length-take-le}
+use Rattle.std.proofs.Common.{◌≡◌, inl, inr, ℕ, zero, suc, ◌+◌, ◌-◌, ◌^◌, ◌≤◌, ◌<◌, ◌==◌, nat_lt, bit_and, Bool, true, false, true≢false, not, if◌then◌else◌, MatchOption, Option, None, max, min, eqb-true, List, [], ◌∷◌, ◌++◌, length, take, drop, refl, sym, ap, ◌∙◌, subst, arith, append_assoc, length-append}
 use Rattle.std.proofs.Common.{length-drop, length-take}
 use Rattle.std.proofs.lemmas.List.{drop-take, drop_at}
 use Rattle.std.proofs.Math.Seq.{take-append_seam}
-use Rattle.af_base.specs.declared.frame.Frame.{Frame}
 use Rattle.af_base.specs.declared.event.ClientEvent.{ClientEvent}
 use Rattle.af_base.specs.declared.event.ClientEvent.TheVariants as client
 use Rattle.af_base.specs.declared.event.ServerEvent.{ServerEvent}
 use Rattle.af_base.specs.declared.event.ServerEvent.TheVariants as server
-use Rattle.af_base.specs.declared.seen.Seen.{Seen}
 use Rattle.af_base.specs.declared.seen.Seen.TheVariants as seen
 use Rattle.af_base.specs.Log.{count_seen}
-use Rattle.af_base.specs.Sample.{packed_word}
 use Rattle.std.specs.List.{list_all}
 use Rattle.std.proofs.lemmas.List.Folds.{list_all-append}
 use Rattle.af_model.specs.declared.shape.Shape.{Shape}
@@ -19,7 +16,7 @@ use Rattle.af_server.specs.Order.{server_kept_of}
 use Rattle.af_model.specs.Point.{wrapped}
 use Rattle.af_model.specs.Room.{ahead}
 use Rattle.af_model.specs.PipeHistory.{room_by}
-use Rattle.af_model.specs.ServerCalls.{look_at, look_events, drops_of, server_kept}
+use Rattle.af_model.specs.ServerCalls.{look_at, drops_of}
 use Rattle.af_model.proofs.Logic.{ahead-between, nat_lt-no, both_left, both_right}
 use Rattle.af_record.specs.Ends.{SeesTaken}
 use Rattle.af_cblk.specs.declared.view.ClientPart.{ClientPart}

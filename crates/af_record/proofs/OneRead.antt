@@ -1,5 +1,5 @@
 -- A look and a take, as one read.
-use Rattle.std.proofs.Common.{◌≡◌, ℕ, zero, suc, ◌+◌, ◌≤◌, Bool, true, false, ◌&&◌, if◌then◌else◌, is_some, arith, MatchOption, Option, Some, None, List, [], ◌∷◌, ◌++◌, refl, sym, ap, ◌∙◌, subst, append-nil}
+use Rattle.std.proofs.Common.{◌≡◌, ℕ, zero, suc, ◌+◌, ◌≤◌, Bool, true, false, if◌then◌else◌, is_some, arith, MatchOption, Option, Some, None, List, [], ◌∷◌, ◌++◌, refl, sym, ap, ◌∙◌, subst, append-nil}
 use Rattle.std.specs.List.{list_all}
 use Rattle.af_base.specs.declared.event.ServerEvent.{ServerEvent}
 use Rattle.af_base.specs.declared.event.ServerEvent.TheVariants as server
@@ -31,13 +31,15 @@ module _ (c d : ServerState) (t : ServerPart) (look : Look) (places count : ℕ)
   read_as None unshut l =
       let front : ℕ = l.0 in
       let kept : ℕ = (server_kept_of s).flush in
-      let words : SawWords s places count t =
-      (
-      look.flush,
-      look.rear,
-      front,
-      (is ∙ ap count_seen l.1.0 ∙ ap (λ (n : ℕ). count_seen (look_at s.shape n places look.flush look.rear front)) order.flush_is,
-      took ∙ ap (λ (es : List ServerEvent). es ++ takes count) (l.1.1 ∙ ap (λ (n : ℕ). s.events ++ look_events (look_at s.shape n places look.flush look.rear front) look.flush look.rear front) order.flush_is))) in
+      let words : SawWords s places count t = (
+        look.flush,
+        look.rear,
+        front,
+        (
+          is ∙ ap count_seen l.1.0 ∙ ap (λ (n : ℕ). count_seen (look_at s.shape n places look.flush look.rear front)) order.flush_is,
+          took ∙ ap (λ (es : List ServerEvent). es ++ takes count) (l.1.1 ∙ ap (λ (n : ℕ). s.events ++ look_events (look_at s.shape n places look.flush look.rear front) look.flush look.rear front) order.flush_is),
+        ),
+      ) in
       subst (λ (o : Option (ℕ × ℕ)). MatchOption o (SawWords s places count t) (λ words. (count ≡ 0) × (t.events ≡ s.events))) (sym unshut ∙ order.shut_is) words
   read_as (Some pair) shut l =
       let none : count ≡ 0 = is ∙ ap count_seen l.0 in

@@ -1,9 +1,8 @@
 -- What a write leaves of the list of the end that supplies.
-use Rattle.std.proofs.Common.{◌≡◌, ◌⊎◌, inl, inr, ◌≢◌, ℕ, zero, suc, ◌+◌, ◌-◌, ◌*◌, ◌<◌, ◌≤◌, ◌==◌, min, max, bit_and, Bool, true, false, true≢false, not, List, [], ◌∷◌, ◌++◌, length, take, drop, map, refl, sym, ap, ◌∙◌, subst, arith, append_assoc, append-nil, length-append, length-take-le, ne_eqb}
+use Rattle.std.proofs.Common.{◌≡◌, inl, inr, ◌≢◌, ℕ, zero, suc, ◌+◌, ◌-◌, ◌≤◌, ◌==◌, bit_and, Bool, false, true≢false, not, List, [], ◌∷◌, ◌++◌, length, take, drop, map, refl, sym, ap, ◌∙◌, subst, arith, append_assoc, append-nil, length-append, length-take-le, ne_eqb}
 use Rattle.std.proofs.lemmas.List.{length-drop, length-map, map-append, take_all}
 use Rattle.std.proofs.Math.Seq.{take-add}
 use Rattle.af_base.specs.declared.frame.Frame.{Frame}
-use Rattle.af_base.specs.declared.event.ClientCall.TheVariants as call
 use Rattle.af_base.specs.declared.event.ClientEvent.{ClientEvent}
 use Rattle.af_base.specs.declared.event.ClientEvent.TheVariants as client
 use Rattle.af_base.specs.declared.event.ServerEvent.{ServerEvent}
@@ -12,8 +11,6 @@ use Rattle.af_model.specs.Point.{wrapped}
 use Rattle.af_model.specs.Room.{ahead}
 use Rattle.af_model.specs.Order.{Legal, after}
 use Rattle.af_model.specs.PipeHistory.{room_by, PutKept, nothing_put, after_put}
-use Rattle.af_model.specs.ClientCalls.{IsInvalid}
-use Rattle.af_model.proofs.Orders.{legal_end}
 use Rattle.af_model.specs.declared.shape.Shape.{Shape}
 use Rattle.af_cblk.specs.declared.view.ClientPart.{ClientPart}
 use Rattle.af_cblk.specs.Parts.{client_met}
@@ -24,7 +21,7 @@ use Rattle.af_client.specs.Calls.{Does, Releases, wrote_call, put_by as written_
 use Rattle.af_client.specs.Order.{ClientState, IsInOrder, client_kept_of}
 use Rattle.af_client.proofs.Answered.{puts_few, puts_some}
 use Rattle.af_record.specs.History.{may_supply, IsSupplyList}
-use Rattle.af_record.specs.Ends.{put_by, last_room, last_dead, room_seen, IsCounted, IsStopped, OnlyWrites, LooksFirst}
+use Rattle.af_record.specs.Ends.{put_by, last_room, last_dead, room_seen, IsStopped, OnlyWrites, LooksFirst}
 
 pub put_by-append : (xs ys : List ClientEvent) → put_by (xs ++ ys) ≡ put_by xs + put_by ys
 put_by-append [] ys = let e : put_by ys ≡ 0 + put_by ys = omega arith in e

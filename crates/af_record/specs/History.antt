@@ -1,5 +1,5 @@
 -- The history of a recording: which order of its two ends' events is legal, and what each end does by itself.
-use Rattle.std.specs.Prelude.{◌≡◌, ℕ, ◌==◌, bit_and, Bool, true, false, List, length, take}
+use Rattle.std.specs.Prelude.{◌≡◌, ℕ, ◌==◌, bit_and, Bool, true, List, length, take}
 use Rattle.std.specs.List.{list_all}
 use Rattle.af_base.specs.declared.event.ClientEvent.{ClientEvent}
 use Rattle.af_base.specs.declared.event.ClientEvent.TheVariants as client

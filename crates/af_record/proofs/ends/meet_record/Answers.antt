@@ -1,13 +1,9 @@
 use Rattle.std.proofs.Common.{◌≡◌, ◌+◌, true, length, sym, ap, ◌∙◌}
-use Rattle.af_base.specs.declared.event.ServerEvent.TheVariants as server_event
 use Rattle.af_model.specs.History.{is_lawful}
 use Rattle.af_model.specs.PipeHistory.{nothing_put}
-use Rattle.af_cblk.specs.Parts.{client_met, server_did}
 use Rattle.af_cblk.specs.Sides.{Made}
 use Rattle.af_client.specs.Order.{ClientState}
 use Rattle.af_server.specs.Order.{ServerState}
-use Rattle.af_record.specs.History.{IsReadList}
-use Rattle.af_record.specs.Ends.{OnlyWrites}
 use Rattle.af_record.proofs.Puts.{writes_met}
 use Rattle.af_record.proofs.OneRead.{reads_met}
 use Rattle.af_record.proofs.TapeOrders.{supplies_lawful}
