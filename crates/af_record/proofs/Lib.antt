@@ -1,6 +1,10 @@
+pub mod Calm
+pub mod TapeOrders
+pub mod Fronts
 pub mod Puts
 pub mod Histories
 pub mod Rears
 pub mod Rooms
 pub mod Exact
 pub mod OneRead
+pub mod BothMet

@@ -1,6 +1,5 @@
--- What a look at front and a put leave of the list of the end that supplies.
-use Rattle.std.proofs.Common.{◌≡◌, ◌≢◌, ℕ, zero, suc, ◌+◌, ◌-◌, ◌%◌, ◌<◌, ◌≤◌, ◌==◌, min, nat_le, Bool, true, false, if◌then◌else◌, List, [], ◌∷◌, ◌++◌, length, take, drop, map, refl, sym, ap, ◌∙◌, subst, arith, append_assoc, length-append, length-take-le}
-use Rattle.std.proofs.lemmas.Bool.{leb-false, eqb-true, eqb-false}
+-- What a write leaves of the list of the end that supplies.
+use Rattle.std.proofs.Common.{◌≡◌, inl, inr, ◌≢◌, ℕ, zero, suc, ◌+◌, ◌-◌, ◌≤◌, ◌==◌, bit_and, Bool, false, true≢false, not, List, [], ◌∷◌, ◌++◌, length, take, drop, map, refl, sym, ap, ◌∙◌, subst, arith, append_assoc, append-nil, length-append, length-take-le, ne_eqb}
 use Rattle.std.proofs.lemmas.List.{length-drop, length-map, map-append, take_all}
 use Rattle.std.proofs.Math.Seq.{take-add}
 use Rattle.af_base.specs.declared.frame.Frame.{Frame}
@@ -8,11 +7,21 @@ use Rattle.af_base.specs.declared.event.ClientEvent.{ClientEvent}
 use Rattle.af_base.specs.declared.event.ClientEvent.TheVariants as client
 use Rattle.af_base.specs.declared.event.ServerEvent.{ServerEvent}
 use Rattle.af_base.specs.Sample.{packed_word}
-use Rattle.af_model.specs.PipeHistory.{room_by, releases_of}
+use Rattle.af_model.specs.Point.{wrapped}
+use Rattle.af_model.specs.Room.{ahead}
+use Rattle.af_model.specs.Order.{Legal, after}
+use Rattle.af_model.specs.PipeHistory.{room_by, PutKept, nothing_put, after_put}
+use Rattle.af_model.specs.declared.shape.Shape.{Shape}
 use Rattle.af_cblk.specs.declared.view.ClientPart.{ClientPart}
-use Rattle.af_cblk.specs.Parts.{client_saw_front, client_met}
-use Rattle.af_link.specs.PipeEnds.{HasPut, room_of}
-use Rattle.af_record.specs.Ends.{put_by, last_room, room_seen, IsCounted, IsSupplying, LooksFirst}
+use Rattle.af_cblk.specs.Parts.{client_met}
+use Rattle.af_cblk.specs.Shape.{IsShape}
+use Rattle.af_client.specs.declared.write.Wrote.{Wrote}
+use Rattle.af_client.specs.declared.write.Wrote.TheVariants as wrote
+use Rattle.af_client.specs.Calls.{Does, Releases, wrote_call, put_by as written_by, IsCorrupt}
+use Rattle.af_client.specs.Order.{ClientState, IsInOrder, client_kept_of}
+use Rattle.af_client.proofs.Answered.{puts_few, puts_some}
+use Rattle.af_record.specs.History.{may_supply, IsSupplyList}
+use Rattle.af_record.specs.Ends.{put_by, last_room, last_dead, room_seen, IsStopped, OnlyWrites, LooksFirst}
 
 pub put_by-append : (xs ys : List ClientEvent) → put_by (xs ++ ys) ≡ put_by xs + put_by ys
 put_by-append [] ys = let e : put_by ys ≡ 0 + put_by ys = omega arith in e
@@ -43,76 +52,140 @@ module _ (size : ℕ) where
   last_room-append put room (client.Poke word value ∷ xs) ys = last_room-append put room xs ys
   last_room-append put room (client.Learn count ∷ xs) ys = last_room-append put room xs ys
 
--- some releases, of so many frames in all
-record Releases (es : List ClientEvent) (n : ℕ) : Type 0 where
-  puts : put_by es ≡ n
-  quiet : (size put room : ℕ) → last_room size put room es ≡ room
+-- whether the last look at the flags showed INVALID, after some events
+last_dead-append : (dead : Bool) (xs ys : List ClientEvent) → last_dead dead (xs ++ ys) ≡ last_dead (last_dead dead xs) ys
+last_dead-append dead [] ys = refl
+last_dead-append dead (client.SawFlags flags ∷ xs) ys = last_dead-append (not (bit_and flags 4 == 0)) xs ys
+last_dead-append dead (client.Release count ∷ xs) ys = last_dead-append dead xs ys
+last_dead-append dead (client.Flush ∷ xs) ys = last_dead-append dead xs ys
+last_dead-append dead (client.SetGain word ∷ xs) ys = last_dead-append dead xs ys
+last_dead-append dead (client.ClearFlags old ∷ xs) ys = last_dead-append dead xs ys
+last_dead-append dead (client.SawFront front ∷ xs) ys = last_dead-append dead xs ys
+last_dead-append dead (client.SawStatus word ∷ xs) ys = last_dead-append dead xs ys
+last_dead-append dead (client.Poke word value ∷ xs) ys = last_dead-append dead xs ys
+last_dead-append dead (client.Learn count ∷ xs) ys = last_dead-append dead xs ys
 
-split_at_end : (n left : ℕ) (b : Bool) → (b ≡ false → left < n) → 1 ≤ n → Releases (if b then client.Release n ∷ [] else client.Release left ∷ client.Release (n - left) ∷ []) n
-split_at_end n left true past some =
-    record { puts = (let e : n + 0 ≡ n = omega arith in e); quiet = λ size put room. refl }
-split_at_end n left false past some =
-    let lt : left < n = past refl in
-    record { puts = (let e : left + ((n - left) + 0) ≡ n = omega arith in e); quiet = λ size put room. refl }
+module _ (size : ℕ) where
+  -- what the list tells of an end that supplies
+  abbrev known_of : PutKept → List ClientEvent → PutKept
+  known_of k events = after (may_supply size) after_put k events
 
-releases_by : (n left : ℕ) (z : Bool) → (z ≡ true → n ≡ 0) → (z ≡ false → 1 ≤ n) → Releases (if z then [] else if nat_le n left then client.Release n ∷ [] else client.Release left ∷ client.Release (n - left) ∷ []) n
-releases_by n left true a b = let e = a refl in record { puts = sym e; quiet = λ size put room. refl }
-releases_by n left false a b = split_at_end n left (nat_le n left) (λ e. leb-false n left e) (b refl)
+  known_put : (k : PutKept) (es : List ClientEvent) → (known_of k es).put ≡ k.put + put_by es
+  known_put k [] = omega arith
+  known_put k (client.Release count ∷ es) = let e = known_put (after_put k (client.Release count)) es in omega arith
+  known_put k (client.Flush ∷ es) = known_put k es
+  known_put k (client.SetGain word ∷ es) = known_put k es
+  known_put k (client.ClearFlags old ∷ es) = known_put k es
+  known_put k (client.SawFlags flags ∷ es) = known_put k es
+  known_put k (client.SawFront front ∷ es) = known_put (after_put k (client.SawFront front)) es
+  known_put k (client.SawStatus word ∷ es) = known_put k es
+  known_put k (client.Poke word value ∷ es) = known_put k es
+  known_put k (client.Learn count ∷ es) = known_put k es
 
-releases : (cells put n : ℕ) → Releases (releases_of cells put n) n
-releases cells put n = releases_by n (cells - put % cells) (n == 0) (λ e. eqb-true n 0 e) (λ e. let d : n ≢ 0 = eqb-false n 0 e in omega arith)
+  supply_more : (k : PutKept) (xs ys : List ClientEvent) → Legal (may_supply size) after_put k xs → Legal (may_supply size) after_put (known_of k xs) ys → Legal (may_supply size) after_put k (xs ++ ys)
+  supply_more k [] ys l more = more
+  supply_more k (x ∷ xs) ys l more = (l.0, supply_more (after_put k x) xs ys l.1 more)
 
--- ## A look and a put
+-- ## A write
 
-by_room : (seen room asked n : ℕ) → seen ≡ room → 1 ≤ asked → n ≡ min asked room → (n ≡ 0 → seen ≡ 0) × (1 ≤ n → 1 ≤ seen)
-by_room seen room asked n e some is = (λ none. omega arith, λ more. omega arith)
+-- what a write of n frames leaves
+pub record Written (p q : ClientPart) (n : ℕ) : Type 0 where
+  pub writes : OnlyWrites q
+  pub none : n ≡ 0 → IsStopped q
+  pub some : 1 ≤ n → IsStopped q → ⊥
+  pub looked : LooksFirst p.events q.events
 
-module _ (p m q : ClientPart) (frames : List Frame) (n : ℕ) (counted : IsCounted p) (looked : m ≡ client_saw_front p m.front) (put : HasPut m (take n frames) q) (within : n ≤ length frames) where
-  many : length (take n frames) ≡ n
-  many = length-take-le n frames within
+module _ (p q : ClientPart) (only : OnlyWrites p) (same : q.shape ≡ p.shape) (more : List ClientEvent) (words : List ℕ) (events : q.events ≡ p.events ++ more) (frames : q.frames ≡ p.frames ++ words) where
+  -- the list goes on
+  still_writes : put_by more ≡ length words → Legal (may_supply p.shape.frames) after_put (known_of p.shape.frames nothing_put p.events) more → OnlyWrites q
+  still_writes many fits =
+      let a : put_by q.events ≡ put_by p.events + put_by more = ap put_by events ∙ put_by-append p.events more in
+      let b : length q.frames ≡ length p.frames + length words = ap length frames ∙ length-append p.frames words in
+      let c : put_by p.events ≡ length p.frames = only.counted in
+      let d : put_by q.events ≡ length q.frames = omega arith in
+      record {
+        shape = subst (λ (k : Shape). IsShape k) (sym same) only.shape;
+        from_zero = ap (λ (k : Shape). k.base) same ∙ only.from_zero;
+        flat = ap (λ (k : Shape). k.wrap) same ∙ only.flat;
+        list = subst (λ (x : ℕ × List ClientEvent). IsSupplyList x.0 x.1) (λ i. (ap (λ (k : Shape). k.frames) (sym same) i, sym events i)) (supply_more p.shape.frames nothing_put p.events more only.list fits);
+        counted = d;
+      }
 
-  abbrev es : List ClientEvent
-  es = releases_of m.shape.cells (length m.frames) (length (take n frames))
+  dead_is : last_dead false q.events ≡ last_dead (last_dead false p.events) more
+  dead_is = ap (last_dead false) events ∙ last_dead-append false p.events more
 
-  plain : Releases es n
-  plain = subst (λ (k : ℕ). Releases es k) many (releases m.shape.cells (length m.frames) (length (take n frames)))
+  room_is : room_seen q ≡ last_room p.shape.frames (length p.frames) (room_seen p) more
+  room_is =
+      let here : 0 + put_by p.events ≡ length p.frames = (let a : put_by p.events ≡ length p.frames = only.counted in omega arith) in
+      ap (λ (x : Shape × List ClientEvent). last_room x.0.frames 0 x.0.frames x.1) (λ i. (same i, events i))
+      ∙ last_room-append p.shape.frames 0 p.shape.frames p.events more
+      ∙ ap (λ (n : ℕ). last_room p.shape.frames n (room_seen p) more) here
 
-  events_are : q.events ≡ (p.events ++ client.SawFront m.front ∷ []) ++ es
-  events_are = ap (λ (x : ClientPart). x.events) put ∙ ap (λ (x : ClientPart). x.events ++ es) looked
+-- neither by the flags nor by the front
+goes_on : (q : ClientPart) → last_dead false q.events ≡ false → 1 ≤ room_seen q → IsStopped q → ⊥
+goes_on q alive room (inl dead) = true≢false (sym dead ∙ alive)
+goes_on q alive room (inr full) = omega arith
 
-  pub put_frames : q.frames ≡ p.frames ++ map packed_word (take n frames)
-  put_frames = ap (λ (x : ClientPart). x.frames) put ∙ ap (λ (x : ClientPart). x.frames ++ map packed_word (take n frames)) looked
+-- the room by a front, as the client's position tells
+room_at : (size put position front filled : ℕ) → position ≡ put → filled ≡ ahead front (wrapped position) → room_by size put front ≡ size - filled
+room_at size put position front filled at is = ap (λ (n : ℕ). size - ahead front (wrapped n)) (sym at) ∙ ap (λ (n : ℕ). size - n) (sym is)
 
-  pub put_counted : IsCounted q
-  put_counted =
-      let a : put_by q.events ≡ put_by (p.events ++ client.SawFront m.front ∷ []) + put_by es = ap put_by events_are ∙ put_by-append (p.events ++ client.SawFront m.front ∷ []) es in
-      let b : put_by (p.events ++ client.SawFront m.front ∷ []) ≡ put_by p.events + 0 = put_by-append p.events (client.SawFront m.front ∷ []) in
-      let c : put_by es ≡ n = plain.puts in
-      let d : length q.frames ≡ length p.frames + length (map packed_word (take n frames)) = ap length put_frames ∙ length-append p.frames (map packed_word (take n frames)) in
-      let e : length (map packed_word (take n frames)) ≡ length (take n frames) = length-map (take n frames) packed_word in
-      let f = many in
-      let g : put_by p.events ≡ length p.frames = counted in
-      let h : put_by q.events ≡ length q.frames = omega arith in
-      h
+module _ (c d : ClientState) (asked : List Frame) (order : IsInOrder c) (only : OnlyWrites c.pass.part) (same : d.pass.part.shape ≡ c.pass.part.shape) where
+  abbrev p : ClientPart
+  p = c.pass.part
 
-  size_is : q.shape.frames ≡ p.shape.frames
-  size_is = ap (λ (x : ClientPart). x.shape.frames) put ∙ ap (λ (x : ClientPart). x.shape.frames) looked
+  abbrev q : ClientPart
+  q = d.pass.part
 
-  -- the room that the look showed
-  pub room_shown : room_seen q ≡ room_of m
-  room_shown =
-      let size : ℕ = p.shape.frames in
-      let before : List ClientEvent = p.events ++ client.SawFront m.front ∷ [] in
-      let here : 0 + put_by p.events ≡ length p.frames = (let a : put_by p.events ≡ length p.frames = counted in omega arith) in
-      ap (λ (x : ℕ × List ClientEvent). last_room x.0 0 x.0 x.1) (λ i. (size_is i, events_are i))
-      ∙ last_room-append size 0 size before es
-      ∙ plain.quiet size (0 + put_by before) (last_room size 0 size before)
-      ∙ last_room-append size 0 size p.events (client.SawFront m.front ∷ [])
-      ∙ ap (λ (k : ℕ). room_by size k m.front) here
-      ∙ ap (λ (x : ClientPart). room_by x.shape.frames (length x.frames) m.front) (sym looked)
+  at : (client_kept_of p).position ≡ length p.frames
+  at = order.position_is ∙ (let a = only.from_zero in let e : p.shape.base + length p.frames ≡ length p.frames = omega arith in e)
 
-  pub put_full : 1 ≤ length frames → n ≡ min (length frames) (room_of m) → (n ≡ 0 → room_seen q ≡ 0) × (1 ≤ n → 1 ≤ room_seen q)
-  put_full some is = by_room (room_seen q) (room_of m) (length frames) n room_shown some is
+  abbrev Wrote_ : Wrote → Type 0
+  Wrote_ w = Does c (length asked) (wrote_call w) d → Releases c (map packed_word (take (written_by w) asked)) d → (IsCorrupt w → ⊥) → Written p q (written_by w)
+
+  pub written : (w : Wrote) → Wrote_ w
+  written (wrote.Put front count rest) does frames unshut =
+      let some : 1 ≤ count = puts_some c (length asked) front count only.shape does.0 in
+      let few : count ≤ length asked = puts_few c (length asked) front count does.0 in
+      let words : List ℕ = map packed_word (take count asked) in
+      let many : length words ≡ count = length-map (take count asked) packed_word ∙ length-take-le count asked few in
+      let more : List ClientEvent = client.SawFlags 0 ∷ client.SawFront front ∷ client.Release count ∷ [] in
+      let room = room_at p.shape.frames (length p.frames) (client_kept_of p).position front (ahead front (wrapped (client_kept_of p).position)) at refl in
+      let put : (known_of p.shape.frames nothing_put p.events).put ≡ length p.frames = known_put p.shape.frames nothing_put p.events ∙ (let a : put_by p.events ≡ length p.frames = only.counted in omega arith) in
+      let free = does.0.0.1 in
+      let cut = does.0.2 in
+      let fits : count ≤ room_by p.shape.frames (length p.frames) front = omega arith in
+      let may : count ≤ room_by p.shape.frames (known_of p.shape.frames nothing_put p.events).put front = subst (λ (n : ℕ). count ≤ room_by p.shape.frames n front) (sym put) fits in
+      let shown = room_is p q only same more words does.1 frames.0 in
+      let left : 1 ≤ room_seen q = omega arith in
+      record {
+        writes = still_writes p q only same more words does.1 frames.0 (let e : count + 0 ≡ length words = omega arith in e) (tt, (tt, (may, tt)));
+        none = λ x. absurd (omega arith);
+        some = λ _. goes_on q (dead_is p q only same more words does.1 frames.0) left;
+        looked = record { flags = 0; behind = client.SawFront front ∷ client.Release count ∷ []; is = does.1; next = λ _. (front, client.Release count ∷ [], refl) };
+      }
+  written (wrote.Full front) does frames unshut =
+      let more : List ClientEvent = client.SawFlags 0 ∷ client.SawFront front ∷ [] in
+      let room = room_at p.shape.frames (length p.frames) (client_kept_of p).position front (ahead front (wrapped (client_kept_of p).position)) at refl in
+      let shown = room_is p q only same more [] does.1 frames.0 in
+      let full = does.0.1 in
+      let left : room_seen q ≡ 0 = omega arith in
+      record {
+        writes = still_writes p q only same more [] does.1 frames.0 refl (tt, (tt, tt));
+        none = λ _. inr left;
+        some = λ x. absurd (omega arith);
+        looked = record { flags = 0; behind = client.SawFront front ∷ []; is = does.1; next = λ _. (front, [], refl) };
+      }
+  written (wrote.Dead flags) does frames unshut =
+      let more : List ClientEvent = client.SawFlags flags ∷ [] in
+      let invalid : bit_and flags 4 ≢ 0 = does.0.1 in
+      record {
+        writes = still_writes p q only same more [] does.1 frames.0 refl (tt, tt);
+        none = λ _. inl (dead_is p q only same more [] does.1 frames.0 ∙ ap not (ne_eqb (bit_and flags 4) 0 invalid));
+        some = λ x. absurd (omega arith);
+        looked = record { flags = flags; behind = []; is = does.1; next = λ alive. absurd (invalid alive) };
+      }
+  written (wrote.Corrupt front rear) does frames unshut = absurd (unshut tt)
 
 -- ## Further frames
 
@@ -128,37 +201,24 @@ sent_on old now new frames put count le is more =
     ∙ ap (λ (l : List ℕ). old ++ l) (sym (map-append packed_word (take put frames) (take count (drop put frames))))
     ∙ ap (λ (l : List Frame). old ++ map packed_word l) (sym (take-add put count frames))
 
--- a supply more
-pub supplying_more : (p q : ClientPart) (frames : List Frame) (put supplied lost more : ℕ) → IsSupplying p supplied lost → q.frames ≡ p.frames ++ map packed_word (take put frames) → IsCounted q → put + more ≡ length frames
-    → IsSupplying q (supplied + length frames) (lost + more)
-supplying_more p q frames put supplied lost more k is counted sum =
-    let a : length q.frames ≡ length p.frames + length (map packed_word (take put frames)) = ap length is ∙ length-append p.frames (map packed_word (take put frames)) in
-    let b : length (map packed_word (take put frames)) ≡ length (take put frames) = length-map (take put frames) packed_word in
-    let c : length (take put frames) ≡ put = length-take-le put frames (omega arith) in
-    let d = k.supplied_is in
-    record { counted = counted; supplied_is = omega arith }
-
--- a meeting puts nothing
-pub supplying_met : (p q : ClientPart) (supplied lost : ℕ) (theirs : List ServerEvent) → IsSupplying p supplied lost → q ≡ client_met p theirs → IsSupplying q supplied lost
-supplying_met p q supplied lost theirs k is =
+-- a meeting writes nothing
+pub writes_met : (p q : ClientPart) (theirs : List ServerEvent) → OnlyWrites p → q ≡ client_met p theirs → OnlyWrites q
+writes_met p q theirs only is =
     let learnt : List ClientEvent = client.Learn (length theirs) ∷ [] in
-    let a : put_by q.events ≡ put_by p.events + 0 = ap (λ (x : ClientPart). put_by x.events) is ∙ put_by-append p.events learnt in
-    let b : length q.frames ≡ length p.frames = ap (λ (x : ClientPart). length x.frames) is in
-    let c : put_by p.events ≡ length p.frames = k.counted in
-    let d : put_by q.events ≡ length q.frames = omega arith in
-    let e = k.supplied_is in
-    record { counted = d; supplied_is = omega arith }
+    still_writes p q only (ap (λ (x : ClientPart). x.shape) is) learnt [] (ap (λ (x : ClientPart). x.events) is) (ap (λ (x : ClientPart). x.frames) is ∙ sym (append-nil p.frames)) refl (tt, tt)
 
 -- a look first, and then another
 looked_on : (a b c : List ClientEvent) → LooksFirst a b → LooksFirst b c → LooksFirst a c
 looked_on a b c first more =
+    let later : List ClientEvent = client.SawFlags more.flags ∷ more.behind in
     record {
-      front = first.front;
-      behind = first.behind ++ client.SawFront more.front ∷ more.behind;
-      is = more.is ∙ ap (λ (es : List ClientEvent). es ++ client.SawFront more.front ∷ more.behind) first.is ∙ append_assoc a (client.SawFront first.front ∷ first.behind) (client.SawFront more.front ∷ more.behind);
+      flags = first.flags;
+      behind = first.behind ++ later;
+      is = more.is ∙ ap (λ (es : List ClientEvent). es ++ later) first.is ∙ append_assoc a (client.SawFlags first.flags ∷ first.behind) later;
+      next = λ alive. (let f = first.next alive in (f.0, f.1 ++ later, ap (λ (es : List ClientEvent). es ++ later) f.2));
     }
 
--- a look behind puts that began with a look, or behind none
+-- a look behind writes that began with a look, or behind none
 pub looked_first : (put : ℕ) (a b c : List ClientEvent) → (put ≡ 0 → b ≡ a) → (1 ≤ put → LooksFirst a b) → LooksFirst b c → LooksFirst a c
 looked_first zero a b c same looked more = subst (λ (es : List ClientEvent). LooksFirst es c) (same refl) more
 looked_first (suc put) a b c same looked more = looked_on a b c (looked (omega arith)) more

@@ -1,11 +1,12 @@
--- In a history of a pipe each rear seen is the number of frames put by then.
+-- In a history of a recording each rear seen is the number of frames put by then.
 use Rattle.std.proofs.Common.{◌≡◌, ℕ, zero, suc, ◌+◌, ◌≤◌, max, List, [], ◌∷◌, ◌++◌, length, take, refl, subst, arith, append_assoc, length-append}
 use Rattle.af_base.specs.declared.event.ClientEvent.{ClientEvent}
 use Rattle.af_base.specs.declared.event.ClientEvent.TheVariants as client
 use Rattle.af_base.specs.declared.event.ServerEvent.{ServerEvent}
 use Rattle.af_base.specs.declared.event.ServerEvent.TheVariants as server
 use Rattle.af_model.specs.Order.{Event, one, two, ones, twos, Legal}
-use Rattle.af_model.specs.PipeHistory.{PipePoint, start, legal, next, HasPipeHistory}
+use Rattle.af_model.specs.PipeHistory.{PipePoint, start, next}
+use Rattle.af_record.specs.History.{legal, HasTapeHistory}
 use Rattle.af_record.specs.Ends.{put_by, SeesPut}
 use Rattle.af_record.proofs.Puts.{put_by-append}
 
@@ -63,12 +64,12 @@ module _ (size : ℕ) where
       let first = put_first count done (ones es) known in
       in_order done (next p (two (server.Learn count))) es (max low (put_by (take count (done ++ ones es)))) l.1 put puts (omega arith)
   in_order done p (two (server.SawGain word) ∷ es) low l put puts le = absurd l.0
-  in_order done p (two (server.SawFlush flush) ∷ es) low l put puts le = absurd l.0
+  in_order done p (two (server.SawFlush flush) ∷ es) low l put puts le = in_order done (next p (two (server.SawFlush flush))) es low l.1 put puts le
   in_order done p (two (server.Drop to) ∷ es) low l put puts le = absurd l.0
   in_order done p (two (server.Tally missing) ∷ es) low l put puts le = absurd l.0
   in_order done p (two (server.SetFlags bits) ∷ es) low l put puts le = absurd l.0
   in_order done p (two (server.SetStatus word) ∷ es) low l put puts le = absurd l.0
 
-pub sees_put : (size : ℕ) (puts : List ClientEvent) (put : List ℕ) (takes : List ServerEvent) (taken : List ℕ) → HasPipeHistory size puts put takes taken → SeesPut puts 0 takes
+pub sees_put : (size : ℕ) (puts : List ClientEvent) (put : List ℕ) (takes : List ServerEvent) (taken : List ℕ) → HasTapeHistory size puts put takes taken → SeesPut puts 0 takes
 sees_put size puts put takes taken h =
     subst (λ (x : List ClientEvent × List ServerEvent). SeesPut x.0 0 x.1) (λ i. (h.history.of_one i, h.history.of_two i)) (in_order size [] start h.history.order 0 h.history.is_legal refl refl (omega arith))

@@ -1,11 +1,12 @@
--- In a history of a pipe the room by each front seen is what the frames put and not taken leave.
-use Rattle.std.proofs.Common.{◌≡◌, ℕ, zero, suc, ◌+◌, ◌-◌, ◌≤◌, max, List, [], ◌∷◌, ◌++◌, length, take, refl, sym, ap, ◌∙◌, subst, arith, append_assoc, length-append}
+-- In a history of a recording the room by each front seen is what the frames put and not taken leave.
+use Rattle.std.proofs.Common.{◌≡◌, ℕ, zero, suc, ◌+◌, ◌≤◌, max, List, [], ◌∷◌, ◌++◌, length, take, refl, sym, ap, ◌∙◌, subst, arith, append_assoc, length-append}
 use Rattle.af_base.specs.declared.event.ClientEvent.{ClientEvent}
 use Rattle.af_base.specs.declared.event.ClientEvent.TheVariants as client
 use Rattle.af_base.specs.declared.event.ServerEvent.{ServerEvent}
 use Rattle.af_base.specs.declared.event.ServerEvent.TheVariants as server
 use Rattle.af_model.specs.Order.{Event, one, two, ones, twos, Legal, after}
-use Rattle.af_model.specs.PipeHistory.{PipePoint, start, legal, next, HasPipeHistory}
+use Rattle.af_model.specs.PipeHistory.{PipePoint, start, next}
+use Rattle.af_record.specs.History.{legal, HasTapeHistory}
 use Rattle.af_record.specs.Ends.{put_by, taken_in, SeesRoom}
 use Rattle.af_record.proofs.Puts.{put_by-append}
 use Rattle.af_record.proofs.Rears.{put_next}
@@ -93,7 +94,7 @@ module _ (size : ℕ) where
   in_order done p (one client.Flush ∷ es) low l taken takes le = absurd l.0
   in_order done p (one (client.SetGain word) ∷ es) low l taken takes le = absurd l.0
   in_order done p (one (client.ClearFlags old) ∷ es) low l taken takes le = absurd l.0
-  in_order done p (one (client.SawFlags flags) ∷ es) low l taken takes le = absurd l.0
+  in_order done p (one (client.SawFlags flags) ∷ es) low l taken takes le = in_order done (next p (one (client.SawFlags flags))) es low l.1 taken takes le
   in_order done p (one (client.SawStatus word) ∷ es) low l taken takes le = absurd l.0
   in_order done p (one (client.Poke word value) ∷ es) low l taken takes le = absurd l.0
 
@@ -110,7 +111,7 @@ module _ (size : ℕ) where
   within p (one client.Flush ∷ es) l le = absurd l.0
   within p (one (client.SetGain word) ∷ es) l le = absurd l.0
   within p (one (client.ClearFlags old) ∷ es) l le = absurd l.0
-  within p (one (client.SawFlags flags) ∷ es) l le = absurd l.0
+  within p (one (client.SawFlags flags) ∷ es) l le = within (next p (one (client.SawFlags flags))) es l.1 le
   within p (one (client.SawStatus word) ∷ es) l le = absurd l.0
   within p (one (client.Poke word value) ∷ es) l le = absurd l.0
 
@@ -136,7 +137,7 @@ module _ (size : ℕ) where
       let d : (after (legal size) next p (two e ∷ es)).taken ≡ p.taken + taken_in (e ∷ twos es) = omega arith in
       d
 
-module _ (size : ℕ) (puts : List ClientEvent) (put : List ℕ) (takes : List ServerEvent) (taken : List ℕ) (h : HasPipeHistory size puts put takes taken) where
+module _ (size : ℕ) (puts : List ClientEvent) (put : List ℕ) (takes : List ServerEvent) (taken : List ℕ) (h : HasTapeHistory size puts put takes taken) where
   pub sees_room : SeesRoom size takes 0 0 puts
   sees_room =
       subst (λ (x : List ClientEvent × List ServerEvent). SeesRoom size x.1 0 0 x.0) (λ i. (h.history.of_one i, h.history.of_two i))
@@ -165,6 +166,6 @@ module _ (size : ℕ) where
       let d : (after (legal size) next p (one e ∷ es)).put ≡ p.put + put_by (e ∷ ones es) = omega arith in
       d
 
-pub put_count : (size : ℕ) (puts : List ClientEvent) (put : List ℕ) (takes : List ServerEvent) (taken : List ℕ) → HasPipeHistory size puts put takes taken → length put ≡ put_by puts
+pub put_count : (size : ℕ) (puts : List ClientEvent) (put : List ℕ) (takes : List ServerEvent) (taken : List ℕ) → HasTapeHistory size puts put takes taken → length put ≡ put_by puts
 put_count size puts put takes taken h =
     sym h.put_is ∙ all_put size start h.history.order ∙ (let e : 0 + put_by (ones h.history.order) ≡ put_by (ones h.history.order) = omega arith in e) ∙ ap put_by h.history.of_one

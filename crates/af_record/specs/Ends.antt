@@ -1,17 +1,25 @@
 -- What contracts see of the two ends of a recording, and what always holds of them.
-use Rattle.std.specs.Prelude.{◌≡◌, ℕ, zero, suc, ◌+◌, ◌-◌, ◌≤◌, ◌==◌, min, max, if◌then◌else◌, List, [], ◌∷◌, ◌++◌, length, take}
-use Rattle.af_base.specs.declared.frame.Frame.{Frame}
+use Rattle.std.specs.Prelude.{◌≡◌, ◌⊎◌, ℕ, zero, suc, ◌+◌, ◌-◌, ◌≤◌, ◌==◌, max, bit_and, Bool, true, false, not, MatchOption, None, List, [], ◌∷◌, ◌++◌, length, take}
+use Rattle.std.specs.List.{list_all}
 use Rattle.af_base.specs.declared.event.ClientEvent.{ClientEvent}
 use Rattle.af_base.specs.declared.event.ClientEvent.TheVariants as client
 use Rattle.af_base.specs.declared.event.ServerEvent.{ServerEvent}
 use Rattle.af_base.specs.declared.event.ServerEvent.TheVariants as server
+use Rattle.af_base.specs.declared.seen.Seen.{Seen}
+use Rattle.af_base.specs.declared.seen.Seen.TheVariants as seen
+use Rattle.af_base.specs.Log.{count_seen}
 use Rattle.af_model.specs.Point.{wrapped}
-use Rattle.af_model.specs.Room.{ahead}
 use Rattle.af_model.specs.PipeHistory.{room_by}
+use Rattle.af_model.specs.ServerCalls.{look_at, look_events}
 use Rattle.af_cblk.specs.declared.view.ClientPart.{ClientPart}
 use Rattle.af_cblk.specs.declared.view.ServerPart.{ServerPart}
+use Rattle.af_cblk.specs.Shape.{IsShape}
 use Rattle.af_cblk.specs.Sides.{Made, ClientSide, ServerSide, client_made, server_made}
-use Rattle.af_link.specs.PipeEnds.{taken_by}
+use Rattle.af_client.specs.Order.{ClientState}
+use Rattle.af_client.specs.Order as writer
+use Rattle.af_server.specs.Order.{ServerState, server_kept_of}
+use Rattle.af_server.specs.Order as reader
+use Rattle.af_record.specs.History.{IsSupplyList, IsReadList, is_alive, is_calm}
 use Rattle.af_record.specs.Supplies.{Supply, kept, count_lost, count_supplied, all_read}
 
 -- the pass of the end that supplies, and how many frames were supplied and lost
@@ -57,20 +65,41 @@ last_room size put room (_ ∷ es) = last_room size put room es
 abbrev pub room_seen : ClientPart → ℕ
 room_seen p = last_room p.shape.frames 0 p.shape.frames p.events
 
+-- whether the last look of these events at the flags showed INVALID
+abbrev pub last_dead : Bool → List ClientEvent → Bool
+last_dead dead [] = dead
+last_dead dead (client.SawFlags flags ∷ es) = last_dead (not (bit_and flags 4 == 0)) es
+last_dead dead (_ ∷ es) = last_dead dead es
+
+-- The last look showed that no frame may be put: its flags had INVALID, or its front showed no room
+abbrev pub IsStopped : ClientPart → Type 0
+IsStopped p = (last_dead false p.events ≡ true) ⊎ (room_seen p ≡ 0)
+
 -- the frames put are those of the releases
 abbrev pub IsCounted : ClientPart → Type 0
 IsCounted p = put_by p.events ≡ length p.frames
 
--- what was supplied was put or lost
-pub record IsSupplying (p : ClientPart) (supplied lost : ℕ) : Type 0 where
+-- a client on the block of a recording, which has written and met, and done nothing else
+pub record OnlyWrites (p : ClientPart) : Type 0 where
+  pub shape : IsShape p.shape
+  pub from_zero : p.shape.base ≡ 0
+  pub flat : p.shape.wrap ≡ 0
+  pub list : IsSupplyList p.shape.frames p.events
   pub counted : IsCounted p
-  pub supplied_is : supplied ≡ length p.frames + lost
 
--- a look at front came first, and other events behind it
+-- what was supplied was put or lost
+pub record IsSupplying (c : ClientState) (supplied lost : ℕ) : Type 0 where
+  pub in_order : writer.IsInOrder c
+  pub writes : OnlyWrites c.pass.part
+  pub released_is : c.released ≡ length c.pass.part.frames
+  pub supplied_is : supplied ≡ length c.pass.part.frames + lost
+
+-- A look at the flags came first. Unless it showed INVALID, a look at front is next
 pub record LooksFirst (before now : List ClientEvent) : Type 0 where
-  pub front : ℕ
+  pub flags : ℕ
   pub behind : List ClientEvent
-  pub is : now ≡ before ++ client.SawFront front ∷ behind
+  pub is : now ≡ before ++ client.SawFlags flags ∷ behind
+  pub next : bit_and flags 4 ≡ 0 → (front : ℕ) × (rest : List ClientEvent) × (behind ≡ client.SawFront front ∷ rest)
 
 -- ## Reading
 
@@ -84,20 +113,28 @@ abbrev pub takes : ℕ → List ServerEvent
 takes zero = []
 takes (suc count) = server.Take (suc count) ∷ []
 
--- A read for so many places saw a rear and a front, and took the lesser of the places and what they show
-pub record HasRead (s : ServerPart) (places count : ℕ) (t : ServerPart) : Type 0 where
-  pub front : ℕ
-  pub events : t.events ≡ s.events ++ server.SawRear t.rear ∷ server.SawFront front ∷ takes count
-  pub count_is : count ≡ min places (ahead front t.rear)
+-- a take of the frames that a look showed steps for each cell and for front
+abbrev pub take_steps : Seen → ℕ
+take_steps (seen.Frames count) = count + 1
+take_steps _ = 0
 
--- a read steps for rear and front, and where it takes frames for each cell and for front
-abbrev pub read_steps : ℕ → ℕ
-read_steps count = if count == 0 then 2 else count + 3
+-- a look for so many frames saw three words, and the frames that it showed were taken, by the flush word kept before
+abbrev pub SawWords : ServerPart → ℕ → ℕ → ServerPart → Type 0
+SawWords s places count t =
+    (flush : ℕ) × (rear : ℕ) × (front : ℕ)
+    × (let shows = look_at s.shape (server_kept_of s).flush places flush rear front in
+    (count ≡ count_seen shows) × (t.events ≡ (s.events ++ look_events shows flush rear front) ++ takes count))
 
--- the frames were taken, if there are some
-abbrev pub after_take : ServerPart → List Frame → ServerPart
-after_take s [] = s
-after_take s (frame ∷ frames) = taken_by s (frame ∷ frames)
+-- A read for so many places looked, and took the frames that the look showed. One that was shut before does nothing
+abbrev pub HasRead : ServerPart → ℕ → ℕ → ServerPart → Type 0
+HasRead s places count t = MatchOption (server_kept_of s).shut (SawWords s places count t) (λ words. (count ≡ 0) × (t.events ≡ s.events))
+
+-- A server on the block of a recording, which has looked, taken and met, and done nothing else. What was taken was read
+pub record IsListening (s : ServerState) (total : ℕ) : Type 0 where
+  pub in_order : reader.IsInOrder s
+  pub reads : IsReadList s.pass.part.events
+  pub hand : s.pass.has_hand ≡ true
+  pub total_is : total ≡ length s.pass.part.frames
 
 -- how many frames these events took
 abbrev pub taken_in : List ServerEvent → ℕ
@@ -106,6 +143,12 @@ taken_in (server.Take count ∷ es) = count + taken_in es
 taken_in (_ ∷ es) = taken_in es
 
 -- ## Meeting
+
+-- Nothing disturbed the ends: no look at the flags showed INVALID, each flush word seen was 0, nothing was dropped, and no look found words that don't fit the block
+pub record IsCalm (puts : List ClientEvent) (s : ServerPart) : Type 0 where
+  pub alive : list_all is_alive puts ≡ true
+  pub unflushed : list_all is_calm s.events ≡ true
+  pub unshut : (server_kept_of s).shut ≡ None
 
 -- Each rear seen is the number of frames put by then: no fewer than an earlier look saw, and no fewer than were put before a meeting that stands before it
 abbrev pub SeesPut : List ClientEvent → ℕ → List ServerEvent → Type 0
@@ -123,3 +166,10 @@ SeesRoom size takes put low (client.SawFront front ∷ es) =
 SeesRoom size takes put low (client.Release count ∷ es) = SeesRoom size takes (put + count) low es
 SeesRoom size takes put low (client.Learn count ∷ es) = SeesRoom size takes put (max low (taken_in (take count takes))) es
 SeesRoom size takes put low (_ ∷ es) = SeesRoom size takes put low es
+
+-- Each front that the end that reads saw is the number of frames that it took before
+abbrev pub SeesTaken : ℕ → List ServerEvent → Type 0
+SeesTaken taken [] = Unit {0}
+SeesTaken taken (server.SawFront front ∷ es) = (front ≡ wrapped taken) × SeesTaken taken es
+SeesTaken taken (server.Take count ∷ es) = SeesTaken (taken + count) es
+SeesTaken taken (_ ∷ es) = SeesTaken taken es

@@ -1,3 +1,4 @@
 pub mod Supplies
+pub mod History
 pub mod Ends
 pub mod InStep

@@ -1,27 +1,28 @@
 //! The two ends of a recording, how they are made, and how they meet.
 ghost use Rattle.std.specs.Prelude.{◌≡◌, ℕ, ◌+◌, ◌≤◌, IfOk, List, [], length};
 ghost use Rattle.af_base.specs.declared.event.ServerEvent.TheVariants as server_event;
-ghost use Rattle.af_model.specs.PipeHistory.{HasPipeHistory};
 ghost use Rattle.af_cblk.specs.Parts.{client_met, server_did};
 ghost use Rattle.af_cblk.specs.Rule.{new_client, new_server};
 ghost use Rattle.af_cblk.specs.Shape.{IsShape};
-ghost use Rattle.af_link.specs.PipeEnds.{SeesTaken};
 ghost use Rattle.af_record.specs.Supplies.{Supply, IsCaptureHistory};
-ghost use Rattle.af_record.specs.Ends.{capture_made, listener_made, CameBy, ReadBy, SeesPut, SeesRoom};
+ghost use Rattle.af_record.specs.History.{HasTapeHistory};
+ghost use Rattle.af_record.specs.Ends.{capture_made, listener_made, CameBy, IsCalm, ReadBy, SeesPut, SeesRoom, SeesTaken};
 
 use af_base::{Memory, Steps};
 use af_cblk::Block;
-use af_link::{PipeIn, PipeOut, meet_pipe, pipe};
+use af_client::Client;
+use af_link::meet_track;
+use af_server::Server;
 use std::alloc::Global;
 use std::marker::Model;
 use std::sync::ledger::Ledger;
 
-/// The end of a recording that supplies frames. It puts what there is room for, loses the rest, and waits for nobody.
+/// The end of a recording that supplies frames, a client's proxy inside. It puts what there is room for, loses the rest, and waits for nobody.
 ///
-/// Contracts see its pass, with the list of all events and of the frames put so far, how many frames it was supplied with, and how many of those were lost. It supplies and meets, and does nothing else on the block.
+/// Contracts see its pass, with the list of all events and of the frames put so far, how many frames it was supplied with, and how many of those were lost. It writes and meets, and does nothing else on the block.
 #[derive(Drop)]
 pub struct Capture {
-    pub(crate) puts: PipeIn,
+    pub(crate) client: Client,
     pub(crate) supplied: u64,
     pub(crate) lost: u64,
 }
@@ -31,29 +32,28 @@ impl Model for Capture {
 
     ghost Value = { CaptureState };
 
-    ghost view = { λ c. record { pass = c.puts.pass; supplied = c.supplied; overrun = c.lost } };
+    ghost view = { λ c. record { pass = c.client.pass; supplied = c.supplied; overrun = c.lost } };
 
-    ghost invariant = { λ c. IsSupplying c.puts.pass.part c.supplied c.lost };
+    ghost invariant = { λ c. IsSupplying c.client c.supplied c.lost };
 }
 
-/// The end of a recording from which frames are read.
+/// The end of a recording from which frames are read, a server's proxy inside.
 ///
-/// Contracts see its pass, with the list of all events and of the frames read so far, and how many those are. It reads and meets, and does nothing else on the block.
+/// Contracts see its pass, with the list of all events and of the frames read so far, and how many those are. It looks, takes and meets, and does nothing else on the block.
 #[derive(Drop)]
 pub struct Listener {
-    pub(crate) takes: PipeOut,
+    pub(crate) server: Server,
     pub(crate) total: u64,
 }
 
 impl Model for Listener {
-    ghost use Rattle.std.specs.Prelude.{◌≡◌, length};
-    ghost use Rattle.af_record.specs.Ends.{ListenerState};
+    ghost use Rattle.af_record.specs.Ends.{ListenerState, IsListening};
 
     ghost Value = { ListenerState };
 
-    ghost view = { λ l. record { pass = l.takes.pass; total = l.total } };
+    ghost view = { λ l. record { pass = l.server.pass; total = l.total } };
 
-    ghost invariant = { λ l. l.total ≡ length l.takes.pass.part.frames };
+    ghost invariant = { λ l. IsListening l.server l.total };
 }
 
 /// An empty recording for `frames` frames, from 1 to 8192, and its two ends. Each begins with no events. The only refusal is want of memory.
@@ -65,19 +65,22 @@ pub fn make(alloc: Global, frames: u32) -> Result<(Block, Capture, Listener), Me
     ensures parts { IfOk result (λ r. (r.1.pass.part ≡ new_client r.0.shape) × (r.2.pass.part ≡ new_server r.0.shape)) }
     ensures history { IfOk result (λ r. CameBy [] r.1 × ReadBy [] r.2) }
 {
-    let (block, puts, takes) = pipe(alloc, frames)?;
+    let (block, client, server) = Block::make(alloc, frames, 0)?;
     let capture = Capture {
-        puts,
+        client: Client::with(client, &block),
         supplied: 0,
         lost: 0,
     };
-    let listener = Listener { takes, total: 0 };
+    let listener = Listener {
+        server: Server::with(server, &block),
+        total: 0,
+    };
     Ok((block, capture, listener))
 }
 
 /// Each end learns what the other has done so far: all of it stands before its own next event. It appends Learn to each list, in five steps.
 ///
-/// Whatever the order in which their steps came, the frames read are a beginning of those put: each supplied frame was read once in its order, is still queued, or was lost and counted. Each rear that a read saw is the number of frames put by then, no fewer than were put before a meeting that stands before it. Each front that an end saw is the number of frames read by then, and the room by it is what these leave.
+/// Whatever the order in which their steps came, the frames read are a beginning of those put: each supplied frame was read once in its order, is still queued, or was lost and counted. Each rear that a read saw is the number of frames put by then, no fewer than were put before a meeting that stands before it. Each front that an end saw is the number of frames read by then, and the room by it is what these leave. No flags seen had INVALID, no flush was seen, nothing was dropped, and neither end was shut.
 pub fn meet_record<L: Ledger>(
     block: &Block,
     from: &mut Capture,
@@ -89,12 +92,13 @@ pub fn meet_record<L: Ledger>(
     ensures made { (capture_made from.new ≡ block.now) × (listener_made to.new ≡ block.now) }
     ensures from { from.new ≡ (record from.old { pass = record from.old.pass { part = client_met from.old.pass.part to.old.pass.part.events } }) }
     ensures to { to.new ≡ (record to.old { pass = record to.old.pass { part = server_did to.old.pass.part (server_event.Learn (length from.old.pass.part.events)) } }) }
-    ensures order { HasPipeHistory block.now.shape.frames from.new.pass.part.events from.new.pass.part.frames to.new.pass.part.events to.new.pass.part.frames }
+    ensures order { HasTapeHistory block.now.shape.frames from.new.pass.part.events from.new.pass.part.frames to.new.pass.part.events to.new.pass.part.frames }
     ensures history { (supplies : List Supply) (reads : List (List ℕ)) → CameBy supplies from.new → ReadBy reads to.new → IsCaptureHistory supplies reads }
+    ensures calm { IsCalm from.new.pass.part.events to.new.pass.part }
     ensures rears { SeesPut from.new.pass.part.events 0 to.new.pass.part.events }
     ensures fronts { SeesTaken 0 to.new.pass.part.events }
     ensures rooms { SeesRoom block.now.shape.frames to.new.pass.part.events 0 0 from.new.pass.part.events }
     ensures steps { steps.new ≡ steps.old + 5 }
 {
-    meet_pipe(block, &mut from.puts, &mut to.takes, steps);
+    meet_track(&mut from.client, &mut to.server, block, steps);
 }

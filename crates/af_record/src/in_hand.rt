@@ -62,7 +62,7 @@ fn supply_met<L: Ledger>(
     requires ledger { (blank.name ≡ L.name) × (blank.parts ≡ L.parts) × (0 < blank.parts) }
     requires step { IsInStep block.now capture.old listener.old }
     requires frames { (1 ≤ length frames.now) × (length frames.now ≤ 1024) }
-    requires few { capture.old.supplied < 2 ^ 62 }
+    requires few { capture.old.supplied + length frames.now ≤ 2 ^ 62 }
     ensures step { IsInStep block.now capture.new listener.new }
     ensures sum { result.put + result.lost ≡ length frames.now }
     ensures put { result.put ≡ min (length frames.now) (block.now.shape.frames - length (queued_in capture.old listener.old)) }
@@ -120,7 +120,7 @@ impl InHand {
     /// Supplies these frames, 1 to 1024. As many of the first as there is room for are put, and the rest is lost.
     pub fn supply(&mut self, frames: &[Frame]) -> Supplied
         requires frames { (1 ≤ length frames.now) × (length frames.now ≤ 1024) }
-        requires few { self.old.supplied < 2 ^ 62 }
+        requires few { self.old.supplied + length frames.now ≤ 2 ^ 62 }
         ensures sum { result.put + result.lost ≡ length frames.now }
         ensures put { result.put ≡ min (length frames.now) (self.old.size - length self.old.queued) }
         ensures state { self.new ≡ (record self.old { queued = self.old.queued ++ map packed_word (take result.put frames.now); supplied = self.old.supplied + length frames.now }) }

@@ -15,6 +15,6 @@ returns-clause-put g c =
     let words : List ℕ = map packed_word (take put frames) in
     let many : length words ≡ put = length-map (take put frames) packed_word ∙ length-take-le put frames (omega arith) in
     put_exact c.args.block.now c.args.capture.now c.args.listener.now c.requires.step c.supply-supplied.new.self c.meet_record.new.from c.meet_record.new.to (length frames) put c.supply-supplied.result.lost words
-    c.supply-supplied.ensures.looked c.supply-supplied.ensures.put many sum c.supply-supplied.ensures.full.0 (ap (λ (m : Made). m.shape.frames) c.supply-supplied.ensures.made)
+    c.supply-supplied.ensures.looked c.supply-supplied.ensures.put many sum c.supply-supplied.ensures.stopped.0 (ap (λ (m : Made). m.shape.frames) c.supply-supplied.ensures.made)
     (ap (λ (x : CaptureState). x.pass.part) c.meet_record.ensures.from) (ap (λ (x : ListenerState). x.pass.part) c.meet_record.ensures.to)
-    c.meet_record.ensures.order c.meet_record.ensures.rooms
+    c.meet_record.ensures.order c.meet_record.ensures.calm.alive c.meet_record.ensures.rooms

@@ -1,14 +1,35 @@
-use Rattle.std.proofs.Common.{ℕ, ◌≤◌, min, length, ap, ◌∙◌, arith}
-use Rattle.af_record.proofs.Puts.{put_counted, put_full}
+use Rattle.std.proofs.Common.{◌≡◌, ℕ, ◌≤◌, sym, ap, ◌∙◌, subst}
+use Rattle.af_model.specs.PipeHistory.{nothing_put}
+use Rattle.af_cblk.specs.Sides.{Made}
+use Rattle.af_record.specs.Ends.{IsStopped}
+use Rattle.af_record.proofs.Puts.{written}
+use Rattle.af_record.proofs.TapeOrders.{supplies_lawful}
 use Rattle.af_record.proofs.putting.put_some.Goals as goal
 
-pub returns-clause-counted : goal.returns-clause-counted
-returns-clause-counted g c =
-    let within : c.min-count.result ≤ length c.args.frames.now = (let a = c.min-count.ensures in omega arith) in
-    put_counted c.args.puts.now.pass.part c.room-room.new.self.pass.part c.put.new.self.pass.part c.args.frames.now c.min-count.result c.requires.counted c.room-room.ensures.saw c.put.ensures.put within
+pub returns-clause-writes : goal.returns-clause-writes
+returns-clause-writes g c =
+    let w = c.write.result in
+    let e = c.write.ensures in
+    let same = ap (λ (m : Made). m.shape) (e.ready.0 ∙ sym c.requires.made) in
+    let lawful = supplies_lawful _ nothing_put _ c.requires.writes.list in
+    let left = written c.args.client.now c.write.new.self c.args.frames.now c.requires.order c.requires.writes same w e.does e.releases (e.lawful lawful) in
+    left.writes
 
-pub returns-clause-full : goal.returns-clause-full
-returns-clause-full g c =
-    let within : c.min-count.result ≤ length c.args.frames.now = (let a = c.min-count.ensures in omega arith) in
-    put_full c.args.puts.now.pass.part c.room-room.new.self.pass.part c.put.new.self.pass.part c.args.frames.now c.min-count.result c.requires.counted c.room-room.ensures.saw c.put.ensures.put within c.requires.some
-    (c.min-count.ensures ∙ ap (λ (n : ℕ). min (length c.args.frames.now) n) c.room-room.ensures.room.0)
+pub returns-clause-looked : goal.returns-clause-looked
+returns-clause-looked g c =
+    let w = c.write.result in
+    let e = c.write.ensures in
+    let same = ap (λ (m : Made). m.shape) (e.ready.0 ∙ sym c.requires.made) in
+    let lawful = supplies_lawful _ nothing_put _ c.requires.writes.list in
+    let left = written c.args.client.now c.write.new.self c.args.frames.now c.requires.order c.requires.writes same w e.does e.releases (e.lawful lawful) in
+    left.looked
+
+pub returns-clause-stopped : goal.returns-clause-stopped
+returns-clause-stopped g c =
+    let w = c.write.result in
+    let e = c.write.ensures in
+    let same = ap (λ (m : Made). m.shape) (e.ready.0 ∙ sym c.requires.made) in
+    let lawful = supplies_lawful _ nothing_put _ c.requires.writes.list in
+    let left = written c.args.client.now c.write.new.self c.args.frames.now c.requires.order c.requires.writes same w e.does e.releases (e.lawful lawful) in
+    let now = c.write.new.self.pass.part in
+    subst (λ (n : ℕ). (n ≡ 0 → IsStopped now) × (1 ≤ n → IsStopped now → ⊥)) (sym c.count_put.ensures) (left.none, left.some)
