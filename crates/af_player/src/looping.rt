@@ -84,18 +84,18 @@ fn play_calls(
     ensures filled { IfOk result (λ rolled. rolled.filled ≡ filled_of hand.old.frames (next_setting hand.old) (length places.old) calls (next_head hand.old)) }
     ensures shut { IfOk result (λ rolled. rolled.is_shut ≡ is_some (shut_by (length hand.old.frames) (next_setting hand.old))) }
 {
-    let mut filled = 0u64;
-    let mut is_shut = false;
-    for _ in 0..calls {
+    let mut rolled = Rolled {
+        cycles: 0,
+        filled: 0,
+        is_shut: false,
+    };
+    while rolled.cycles < calls {
         let unrolled = play_once(hand, places, bytes)?;
-        filled += u64::from(unrolled.filled);
-        is_shut = unrolled.shut.is_some();
+        rolled.cycles += 1;
+        rolled.filled += u64::from(unrolled.filled);
+        rolled.is_shut = unrolled.shut.is_some();
     }
-    Ok(Rolled {
-        cycles: calls,
-        filled,
-        is_shut,
-    })
+    Ok(rolled)
 }
 
 /// A buffer in one hand, under the one setting.
