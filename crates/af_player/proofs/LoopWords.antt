@@ -31,13 +31,13 @@ abbrev at_4 : Text → Text → Text → Text → Walk
 at_4 input target places calls = at_value built_loop (at_3 input target places) calls
 
 abbrev at_5 : Text → Text → Text → Text → Text → Walk
-at_5 input target places calls start = at_value built_loop (at_4 input target places calls) start
+at_5 input target places calls first = at_value built_loop (at_4 input target places calls) first
 
 abbrev at_6 : Text → Text → Text → Text → Text → Text → Walk
-at_6 input target places calls start end = at_value built_loop (at_5 input target places calls start) end
+at_6 input target places calls first last = at_value built_loop (at_5 input target places calls first) last
 
 abbrev at_7 : Text → Text → Text → Text → Text → Text → Text → Walk
-at_7 input target places calls start end count = at_value built_loop (at_6 input target places calls start end) count
+at_7 input target places calls first last count = at_value built_loop (at_6 input target places calls first last) count
 
 met_1 : (input : Text) → begins_dash input ≡ false → fold (walked built_loop.rules []) start (input ∷ []) ≡ at_1 input
 met_1 input plain_input = value_walked built_loop nothing_held 1 input plain_input
@@ -54,17 +54,17 @@ met_4 : (input target places calls : Text) → begins_dash input ≡ false → b
 met_4 input target places calls plain_input plain_target plain_places plain_calls =
     ap (λ (w : Walk). walked built_loop.rules [] w calls) (met_3 input target places plain_input plain_target plain_places) ∙ value_walked built_loop (at_3 input target places).held 4 calls plain_calls
 
-met_5 : (input target places calls start : Text) → begins_dash input ≡ false → begins_dash target ≡ false → begins_dash places ≡ false → begins_dash calls ≡ false → begins_dash start ≡ false → fold (walked built_loop.rules []) start (input ∷ target ∷ places ∷ calls ∷ start ∷ []) ≡ at_5 input target places calls start
-met_5 input target places calls start plain_input plain_target plain_places plain_calls plain_start =
-    ap (λ (w : Walk). walked built_loop.rules [] w start) (met_4 input target places calls plain_input plain_target plain_places plain_calls) ∙ value_walked built_loop (at_4 input target places calls).held 5 start plain_start
+met_5 : (input target places calls first : Text) → begins_dash input ≡ false → begins_dash target ≡ false → begins_dash places ≡ false → begins_dash calls ≡ false → begins_dash first ≡ false → fold (walked built_loop.rules []) start (input ∷ target ∷ places ∷ calls ∷ first ∷ []) ≡ at_5 input target places calls first
+met_5 input target places calls first plain_input plain_target plain_places plain_calls plain_first =
+    ap (λ (w : Walk). walked built_loop.rules [] w first) (met_4 input target places calls plain_input plain_target plain_places plain_calls) ∙ value_walked built_loop (at_4 input target places calls).held 5 first plain_first
 
-met_6 : (input target places calls start end : Text) → begins_dash input ≡ false → begins_dash target ≡ false → begins_dash places ≡ false → begins_dash calls ≡ false → begins_dash start ≡ false → begins_dash end ≡ false → fold (walked built_loop.rules []) start (input ∷ target ∷ places ∷ calls ∷ start ∷ end ∷ []) ≡ at_6 input target places calls start end
-met_6 input target places calls start end plain_input plain_target plain_places plain_calls plain_start plain_end =
-    ap (λ (w : Walk). walked built_loop.rules [] w end) (met_5 input target places calls start plain_input plain_target plain_places plain_calls plain_start) ∙ value_walked built_loop (at_5 input target places calls start).held 6 end plain_end
+met_6 : (input target places calls first last : Text) → begins_dash input ≡ false → begins_dash target ≡ false → begins_dash places ≡ false → begins_dash calls ≡ false → begins_dash first ≡ false → begins_dash last ≡ false → fold (walked built_loop.rules []) start (input ∷ target ∷ places ∷ calls ∷ first ∷ last ∷ []) ≡ at_6 input target places calls first last
+met_6 input target places calls first last plain_input plain_target plain_places plain_calls plain_first plain_last =
+    ap (λ (w : Walk). walked built_loop.rules [] w last) (met_5 input target places calls first plain_input plain_target plain_places plain_calls plain_first) ∙ value_walked built_loop (at_5 input target places calls first).held 6 last plain_last
 
-met_7 : (input target places calls start end count : Text) → begins_dash input ≡ false → begins_dash target ≡ false → begins_dash places ≡ false → begins_dash calls ≡ false → begins_dash start ≡ false → begins_dash end ≡ false → begins_dash count ≡ false → fold (walked built_loop.rules []) start (input ∷ target ∷ places ∷ calls ∷ start ∷ end ∷ count ∷ []) ≡ at_7 input target places calls start end count
-met_7 input target places calls start end count plain_input plain_target plain_places plain_calls plain_start plain_end plain_count =
-    ap (λ (w : Walk). walked built_loop.rules [] w count) (met_6 input target places calls start end plain_input plain_target plain_places plain_calls plain_start plain_end) ∙ value_walked built_loop (at_6 input target places calls start end).held 7 count plain_count
+met_7 : (input target places calls first last count : Text) → begins_dash input ≡ false → begins_dash target ≡ false → begins_dash places ≡ false → begins_dash calls ≡ false → begins_dash first ≡ false → begins_dash last ≡ false → begins_dash count ≡ false → fold (walked built_loop.rules []) start (input ∷ target ∷ places ∷ calls ∷ first ∷ last ∷ count ∷ []) ≡ at_7 input target places calls first last count
+met_7 input target places calls first last count plain_input plain_target plain_places plain_calls plain_first plain_last plain_count =
+    ap (λ (w : Walk). walked built_loop.rules [] w count) (met_6 input target places calls first last plain_input plain_target plain_places plain_calls plain_first plain_last) ∙ value_walked built_loop (at_6 input target places calls first last).held 7 count plain_count
 
 -- too few words
 few_0 : level_fault built_loop [] nothing_held ([]) false [] ≡ [] → ⊥
@@ -99,56 +99,56 @@ few_4 input target places calls plain_input plain_target plain_places plain_call
     subst (λ (w : Walk). check_fault built_loop (finished built_loop.rules w.held) false ≡ []) (met_4 input target places calls plain_input plain_target plain_places plain_calls) (end_met built_loop (input ∷ target ∷ places ∷ calls ∷ []) none) in
     cc
 
-few_5 : (input target places calls start : Text) → begins_dash input ≡ false → begins_dash target ≡ false → begins_dash places ≡ false → begins_dash calls ≡ false → begins_dash start ≡ false → level_fault built_loop [] nothing_held (input ∷ target ∷ places ∷ calls ∷ start ∷ []) false [] ≡ [] → ⊥
+few_5 : (input target places calls first : Text) → begins_dash input ≡ false → begins_dash target ≡ false → begins_dash places ≡ false → begins_dash calls ≡ false → begins_dash first ≡ false → level_fault built_loop [] nothing_held (input ∷ target ∷ places ∷ calls ∷ first ∷ []) false [] ≡ [] → ⊥
 unfolding clap_on_literals
-few_5 input target places calls start plain_input plain_target plain_places plain_calls plain_start none =
+few_5 input target places calls first plain_input plain_target plain_places plain_calls plain_first none =
     let missing : kind.MissingRequiredArgument ∷ [] ≡ [] =
-    subst (λ (w : Walk). check_fault built_loop (finished built_loop.rules w.held) false ≡ []) (met_5 input target places calls start plain_input plain_target plain_places plain_calls plain_start) (end_met built_loop (input ∷ target ∷ places ∷ calls ∷ start ∷ []) none) in
+    subst (λ (w : Walk). check_fault built_loop (finished built_loop.rules w.held) false ≡ []) (met_5 input target places calls first plain_input plain_target plain_places plain_calls plain_first) (end_met built_loop (input ∷ target ∷ places ∷ calls ∷ first ∷ []) none) in
     cc
 
-few_6 : (input target places calls start end : Text) → begins_dash input ≡ false → begins_dash target ≡ false → begins_dash places ≡ false → begins_dash calls ≡ false → begins_dash start ≡ false → begins_dash end ≡ false → level_fault built_loop [] nothing_held (input ∷ target ∷ places ∷ calls ∷ start ∷ end ∷ []) false [] ≡ [] → ⊥
+few_6 : (input target places calls first last : Text) → begins_dash input ≡ false → begins_dash target ≡ false → begins_dash places ≡ false → begins_dash calls ≡ false → begins_dash first ≡ false → begins_dash last ≡ false → level_fault built_loop [] nothing_held (input ∷ target ∷ places ∷ calls ∷ first ∷ last ∷ []) false [] ≡ [] → ⊥
 unfolding clap_on_literals
-few_6 input target places calls start end plain_input plain_target plain_places plain_calls plain_start plain_end none =
+few_6 input target places calls first last plain_input plain_target plain_places plain_calls plain_first plain_last none =
     let missing : kind.MissingRequiredArgument ∷ [] ≡ [] =
-    subst (λ (w : Walk). check_fault built_loop (finished built_loop.rules w.held) false ≡ []) (met_6 input target places calls start end plain_input plain_target plain_places plain_calls plain_start plain_end) (end_met built_loop (input ∷ target ∷ places ∷ calls ∷ start ∷ end ∷ []) none) in
+    subst (λ (w : Walk). check_fault built_loop (finished built_loop.rules w.held) false ≡ []) (met_6 input target places calls first last plain_input plain_target plain_places plain_calls plain_first plain_last) (end_met built_loop (input ∷ target ∷ places ∷ calls ∷ first ∷ last ∷ []) none) in
     cc
 
 -- too many
-many : (input target places calls start end count more : Text) (rest : List Text) → begins_dash input ≡ false → begins_dash target ≡ false → begins_dash places ≡ false → begins_dash calls ≡ false → begins_dash start ≡ false → begins_dash end ≡ false → begins_dash count ≡ false → begins_dash more ≡ false → level_fault built_loop [] nothing_held (input ∷ target ∷ places ∷ calls ∷ start ∷ end ∷ count ∷ more ∷ rest) false [] ≡ [] → ⊥
-many input target places calls start end count more rest plain_input plain_target plain_places plain_calls plain_start plain_end plain_count plain none =
-    let quiet : turn_fault built_loop [] (at_7 input target places calls start end count) more ≡ [] =
-    subst (λ (w : Walk). turn_fault built_loop [] w more ≡ []) (met_7 input target places calls start end count plain_input plain_target plain_places plain_calls plain_start plain_end plain_count) (turn_behind built_loop start (input ∷ target ∷ places ∷ calls ∷ start ∷ end ∷ count ∷ []) more rest (walk_met built_loop (input ∷ target ∷ places ∷ calls ∷ start ∷ end ∷ count ∷ more ∷ rest) none)) in
-    let clash : kind.UnknownArgument ∷ [] ≡ [] = sym (value_turn built_loop (at_7 input target places calls start end count).held 8 more plain) ∙ quiet in
+many : (input target places calls first last count more : Text) (rest : List Text) → begins_dash input ≡ false → begins_dash target ≡ false → begins_dash places ≡ false → begins_dash calls ≡ false → begins_dash first ≡ false → begins_dash last ≡ false → begins_dash count ≡ false → begins_dash more ≡ false → level_fault built_loop [] nothing_held (input ∷ target ∷ places ∷ calls ∷ first ∷ last ∷ count ∷ more ∷ rest) false [] ≡ [] → ⊥
+many input target places calls first last count more rest plain_input plain_target plain_places plain_calls plain_first plain_last plain_count plain none =
+    let quiet : turn_fault built_loop [] (at_7 input target places calls first last count) more ≡ [] =
+    subst (λ (w : Walk). turn_fault built_loop [] w more ≡ []) (met_7 input target places calls first last count plain_input plain_target plain_places plain_calls plain_first plain_last plain_count) (turn_behind built_loop start (input ∷ target ∷ places ∷ calls ∷ first ∷ last ∷ count ∷ []) more rest (walk_met built_loop (input ∷ target ∷ places ∷ calls ∷ first ∷ last ∷ count ∷ more ∷ rest) none)) in
+    let clash : kind.UnknownArgument ∷ [] ≡ [] = sym (value_turn built_loop (at_7 input target places calls first last count).held 8 more plain) ∙ quiet in
     cc
 
 -- just as many
-turns : (input target places calls start end count : Text) → begins_dash input ≡ false → begins_dash target ≡ false → begins_dash places ≡ false → begins_dash calls ≡ false → begins_dash start ≡ false → begins_dash end ≡ false → begins_dash count ≡ false → walk_fault built_loop [] start (input ∷ target ∷ places ∷ calls ∷ start ∷ end ∷ count ∷ []) ≡ []
+turns : (input target places calls first last count : Text) → begins_dash input ≡ false → begins_dash target ≡ false → begins_dash places ≡ false → begins_dash calls ≡ false → begins_dash first ≡ false → begins_dash last ≡ false → begins_dash count ≡ false → walk_fault built_loop [] start (input ∷ target ∷ places ∷ calls ∷ first ∷ last ∷ count ∷ []) ≡ []
 unfolding walk_fault
-turns input target places calls start end count plain_input plain_target plain_places plain_calls plain_start plain_end plain_count =
+turns input target places calls first last count plain_input plain_target plain_places plain_calls plain_first plain_last plain_count =
     ap₂ or_else (value_turn built_loop nothing_held 1 input plain_input)
     (ap₂ or_else (ap (λ (w : Walk). turn_fault built_loop [] w target) (met_1 input plain_input) ∙ value_turn built_loop (at_1 input).held 2 target plain_target)
     (ap₂ or_else (ap (λ (w : Walk). turn_fault built_loop [] w places) (met_2 input target plain_input plain_target) ∙ value_turn built_loop (at_2 input target).held 3 places plain_places)
     (ap₂ or_else (ap (λ (w : Walk). turn_fault built_loop [] w calls) (met_3 input target places plain_input plain_target plain_places) ∙ value_turn built_loop (at_3 input target places).held 4 calls plain_calls)
-    (ap₂ or_else (ap (λ (w : Walk). turn_fault built_loop [] w start) (met_4 input target places calls plain_input plain_target plain_places plain_calls) ∙ value_turn built_loop (at_4 input target places calls).held 5 start plain_start)
-    (ap₂ or_else (ap (λ (w : Walk). turn_fault built_loop [] w end) (met_5 input target places calls start plain_input plain_target plain_places plain_calls plain_start) ∙ value_turn built_loop (at_5 input target places calls start).held 6 end plain_end)
-    (ap₂ or_else (ap (λ (w : Walk). turn_fault built_loop [] w count) (met_6 input target places calls start end plain_input plain_target plain_places plain_calls plain_start plain_end) ∙ value_turn built_loop (at_6 input target places calls start end).held 7 count plain_count)
+    (ap₂ or_else (ap (λ (w : Walk). turn_fault built_loop [] w first) (met_4 input target places calls plain_input plain_target plain_places plain_calls) ∙ value_turn built_loop (at_4 input target places calls).held 5 first plain_first)
+    (ap₂ or_else (ap (λ (w : Walk). turn_fault built_loop [] w last) (met_5 input target places calls first plain_input plain_target plain_places plain_calls plain_first) ∙ value_turn built_loop (at_5 input target places calls first).held 6 last plain_last)
+    (ap₂ or_else (ap (λ (w : Walk). turn_fault built_loop [] w count) (met_6 input target places calls first last plain_input plain_target plain_places plain_calls plain_first plain_last) ∙ value_turn built_loop (at_6 input target places calls first last).held 7 count plain_count)
     (refl)))))))
 
-ends : (input target places calls start end count : Text) → end_fault built_loop (at_7 input target places calls start end count).held false ≡ []
+ends : (input target places calls first last count : Text) → end_fault built_loop (at_7 input target places calls first last count).held false ≡ []
 unfolding clap_on_literals
-ends input target places calls start end count = refl
+ends input target places calls first last count = refl
 
-passes : (input target places calls start end count : Text) → begins_dash input ≡ false → begins_dash target ≡ false → begins_dash places ≡ false → begins_dash calls ≡ false → begins_dash start ≡ false → begins_dash end ≡ false → begins_dash count ≡ false → level_fault built_loop [] nothing_held (input ∷ target ∷ places ∷ calls ∷ start ∷ end ∷ count ∷ []) false [] ≡ []
-passes input target places calls start end count plain_input plain_target plain_places plain_calls plain_start plain_end plain_count =
-    ap₂ or_else (turns input target places calls start end count plain_input plain_target plain_places plain_calls plain_start plain_end plain_count) (ap (λ (w : Walk). end_fault built_loop w.held false) (met_7 input target places calls start end count plain_input plain_target plain_places plain_calls plain_start plain_end plain_count) ∙ ends input target places calls start end count)
+passes : (input target places calls first last count : Text) → begins_dash input ≡ false → begins_dash target ≡ false → begins_dash places ≡ false → begins_dash calls ≡ false → begins_dash first ≡ false → begins_dash last ≡ false → begins_dash count ≡ false → level_fault built_loop [] nothing_held (input ∷ target ∷ places ∷ calls ∷ first ∷ last ∷ count ∷ []) false [] ≡ []
+passes input target places calls first last count plain_input plain_target plain_places plain_calls plain_first plain_last plain_count =
+    ap₂ or_else (turns input target places calls first last count plain_input plain_target plain_places plain_calls plain_first plain_last plain_count) (ap (λ (w : Walk). end_fault built_loop w.held false) (met_7 input target places calls first last count plain_input plain_target plain_places plain_calls plain_first plain_last plain_count) ∙ ends input target places calls first last count)
 
-loop_passes : (input target places calls start end count : Text) → begins_dash input ≡ false → begins_dash target ≡ false → begins_dash places ≡ false → begins_dash calls ≡ false → begins_dash start ≡ false → begins_dash end ≡ false → begins_dash count ≡ false → fault_of player_words (codes "loop" ∷ input ∷ target ∷ places ∷ calls ∷ start ∷ end ∷ count ∷ []) ≡ []
+loop_passes : (input target places calls first last count : Text) → begins_dash input ≡ false → begins_dash target ≡ false → begins_dash places ≡ false → begins_dash calls ≡ false → begins_dash first ≡ false → begins_dash last ≡ false → begins_dash count ≡ false → fault_of player_words (codes "loop" ∷ input ∷ target ∷ places ∷ calls ∷ first ∷ last ∷ count ∷ []) ≡ []
 unfolding clap_on_literals
-loop_passes input target places calls start end count plain_input plain_target plain_places plain_calls plain_start plain_end plain_count = ap (λ (ks : Kinds). or_else ks []) (passes input target places calls start end count plain_input plain_target plain_places plain_calls plain_start plain_end plain_count)
+loop_passes input target places calls first last count plain_input plain_target plain_places plain_calls plain_first plain_last plain_count = ap (λ (ks : Kinds). or_else ks []) (passes input target places calls first last count plain_input plain_target plain_places plain_calls plain_first plain_last plain_count)
 
-rows : (input target places calls start end count : Text) → begins_dash input ≡ false → begins_dash target ≡ false → begins_dash places ≡ false → begins_dash calls ≡ false → begins_dash start ≡ false → begins_dash end ≡ false → begins_dash count ≡ false → matched_request (Some (codes "loop", finished built_loop.rules (fold (walked built_loop.rules []) start (input ∷ target ∷ places ∷ calls ∷ start ∷ end ∷ count ∷ [])).held)) ≡ loop_request (input ∷ target ∷ places ∷ calls ∷ start ∷ end ∷ count ∷ [])
-rows input target places calls start end count plain_input plain_target plain_places plain_calls plain_start plain_end plain_count =
-    ap (λ (w : Walk). matched_request (Some (codes "loop", finished built_loop.rules w.held))) (met_7 input target places calls start end count plain_input plain_target plain_places plain_calls plain_start plain_end plain_count)
+rows : (input target places calls first last count : Text) → begins_dash input ≡ false → begins_dash target ≡ false → begins_dash places ≡ false → begins_dash calls ≡ false → begins_dash first ≡ false → begins_dash last ≡ false → begins_dash count ≡ false → matched_request (Some (codes "loop", finished built_loop.rules (fold (walked built_loop.rules []) start (input ∷ target ∷ places ∷ calls ∷ first ∷ last ∷ count ∷ [])).held)) ≡ loop_request (input ∷ target ∷ places ∷ calls ∷ first ∷ last ∷ count ∷ [])
+rows input target places calls first last count plain_input plain_target plain_places plain_calls plain_first plain_last plain_count =
+    ap (λ (w : Walk). matched_request (Some (codes "loop", finished built_loop.rules w.held))) (met_7 input target places calls first last count plain_input plain_target plain_places plain_calls plain_first plain_last plain_count)
 
 -- the request of words that pass
 pub loop_fits : (rest : List Text) → list_any begins_dash rest ≡ false → level_fault built_loop [] nothing_held rest false [] ≡ []
@@ -173,40 +173,40 @@ loop_fits (input ∷ target ∷ places ∷ calls ∷ []) plain none =
     let p_3 = neither (begins_dash places) (list_any begins_dash (calls ∷ [])) p_2.1 in
     let p_4 = neither (begins_dash calls) (list_any begins_dash ([])) p_3.1 in
     absurd (few_4 input target places calls p_1.0 p_2.0 p_3.0 p_4.0 none)
-loop_fits (input ∷ target ∷ places ∷ calls ∷ start ∷ []) plain none =
-    let p_1 = neither (begins_dash input) (list_any begins_dash (target ∷ places ∷ calls ∷ start ∷ [])) plain in
-    let p_2 = neither (begins_dash target) (list_any begins_dash (places ∷ calls ∷ start ∷ [])) p_1.1 in
-    let p_3 = neither (begins_dash places) (list_any begins_dash (calls ∷ start ∷ [])) p_2.1 in
-    let p_4 = neither (begins_dash calls) (list_any begins_dash (start ∷ [])) p_3.1 in
-    let p_5 = neither (begins_dash start) (list_any begins_dash ([])) p_4.1 in
-    absurd (few_5 input target places calls start p_1.0 p_2.0 p_3.0 p_4.0 p_5.0 none)
-loop_fits (input ∷ target ∷ places ∷ calls ∷ start ∷ end ∷ []) plain none =
-    let p_1 = neither (begins_dash input) (list_any begins_dash (target ∷ places ∷ calls ∷ start ∷ end ∷ [])) plain in
-    let p_2 = neither (begins_dash target) (list_any begins_dash (places ∷ calls ∷ start ∷ end ∷ [])) p_1.1 in
-    let p_3 = neither (begins_dash places) (list_any begins_dash (calls ∷ start ∷ end ∷ [])) p_2.1 in
-    let p_4 = neither (begins_dash calls) (list_any begins_dash (start ∷ end ∷ [])) p_3.1 in
-    let p_5 = neither (begins_dash start) (list_any begins_dash (end ∷ [])) p_4.1 in
-    let p_6 = neither (begins_dash end) (list_any begins_dash ([])) p_5.1 in
-    absurd (few_6 input target places calls start end p_1.0 p_2.0 p_3.0 p_4.0 p_5.0 p_6.0 none)
-loop_fits (input ∷ target ∷ places ∷ calls ∷ start ∷ end ∷ count ∷ []) plain none =
-    let p_1 = neither (begins_dash input) (list_any begins_dash (target ∷ places ∷ calls ∷ start ∷ end ∷ count ∷ [])) plain in
-    let p_2 = neither (begins_dash target) (list_any begins_dash (places ∷ calls ∷ start ∷ end ∷ count ∷ [])) p_1.1 in
-    let p_3 = neither (begins_dash places) (list_any begins_dash (calls ∷ start ∷ end ∷ count ∷ [])) p_2.1 in
-    let p_4 = neither (begins_dash calls) (list_any begins_dash (start ∷ end ∷ count ∷ [])) p_3.1 in
-    let p_5 = neither (begins_dash start) (list_any begins_dash (end ∷ count ∷ [])) p_4.1 in
-    let p_6 = neither (begins_dash end) (list_any begins_dash (count ∷ [])) p_5.1 in
+loop_fits (input ∷ target ∷ places ∷ calls ∷ first ∷ []) plain none =
+    let p_1 = neither (begins_dash input) (list_any begins_dash (target ∷ places ∷ calls ∷ first ∷ [])) plain in
+    let p_2 = neither (begins_dash target) (list_any begins_dash (places ∷ calls ∷ first ∷ [])) p_1.1 in
+    let p_3 = neither (begins_dash places) (list_any begins_dash (calls ∷ first ∷ [])) p_2.1 in
+    let p_4 = neither (begins_dash calls) (list_any begins_dash (first ∷ [])) p_3.1 in
+    let p_5 = neither (begins_dash first) (list_any begins_dash ([])) p_4.1 in
+    absurd (few_5 input target places calls first p_1.0 p_2.0 p_3.0 p_4.0 p_5.0 none)
+loop_fits (input ∷ target ∷ places ∷ calls ∷ first ∷ last ∷ []) plain none =
+    let p_1 = neither (begins_dash input) (list_any begins_dash (target ∷ places ∷ calls ∷ first ∷ last ∷ [])) plain in
+    let p_2 = neither (begins_dash target) (list_any begins_dash (places ∷ calls ∷ first ∷ last ∷ [])) p_1.1 in
+    let p_3 = neither (begins_dash places) (list_any begins_dash (calls ∷ first ∷ last ∷ [])) p_2.1 in
+    let p_4 = neither (begins_dash calls) (list_any begins_dash (first ∷ last ∷ [])) p_3.1 in
+    let p_5 = neither (begins_dash first) (list_any begins_dash (last ∷ [])) p_4.1 in
+    let p_6 = neither (begins_dash last) (list_any begins_dash ([])) p_5.1 in
+    absurd (few_6 input target places calls first last p_1.0 p_2.0 p_3.0 p_4.0 p_5.0 p_6.0 none)
+loop_fits (input ∷ target ∷ places ∷ calls ∷ first ∷ last ∷ count ∷ []) plain none =
+    let p_1 = neither (begins_dash input) (list_any begins_dash (target ∷ places ∷ calls ∷ first ∷ last ∷ count ∷ [])) plain in
+    let p_2 = neither (begins_dash target) (list_any begins_dash (places ∷ calls ∷ first ∷ last ∷ count ∷ [])) p_1.1 in
+    let p_3 = neither (begins_dash places) (list_any begins_dash (calls ∷ first ∷ last ∷ count ∷ [])) p_2.1 in
+    let p_4 = neither (begins_dash calls) (list_any begins_dash (first ∷ last ∷ count ∷ [])) p_3.1 in
+    let p_5 = neither (begins_dash first) (list_any begins_dash (last ∷ count ∷ [])) p_4.1 in
+    let p_6 = neither (begins_dash last) (list_any begins_dash (count ∷ [])) p_5.1 in
     let p_7 = neither (begins_dash count) (list_any begins_dash ([])) p_6.1 in
-    rows input target places calls start end count p_1.0 p_2.0 p_3.0 p_4.0 p_5.0 p_6.0 p_7.0
-loop_fits (input ∷ target ∷ places ∷ calls ∷ start ∷ end ∷ count ∷ more ∷ rest) plain none =
-    let p_1 = neither (begins_dash input) (list_any begins_dash (target ∷ places ∷ calls ∷ start ∷ end ∷ count ∷ more ∷ rest)) plain in
-    let p_2 = neither (begins_dash target) (list_any begins_dash (places ∷ calls ∷ start ∷ end ∷ count ∷ more ∷ rest)) p_1.1 in
-    let p_3 = neither (begins_dash places) (list_any begins_dash (calls ∷ start ∷ end ∷ count ∷ more ∷ rest)) p_2.1 in
-    let p_4 = neither (begins_dash calls) (list_any begins_dash (start ∷ end ∷ count ∷ more ∷ rest)) p_3.1 in
-    let p_5 = neither (begins_dash start) (list_any begins_dash (end ∷ count ∷ more ∷ rest)) p_4.1 in
-    let p_6 = neither (begins_dash end) (list_any begins_dash (count ∷ more ∷ rest)) p_5.1 in
+    rows input target places calls first last count p_1.0 p_2.0 p_3.0 p_4.0 p_5.0 p_6.0 p_7.0
+loop_fits (input ∷ target ∷ places ∷ calls ∷ first ∷ last ∷ count ∷ more ∷ rest) plain none =
+    let p_1 = neither (begins_dash input) (list_any begins_dash (target ∷ places ∷ calls ∷ first ∷ last ∷ count ∷ more ∷ rest)) plain in
+    let p_2 = neither (begins_dash target) (list_any begins_dash (places ∷ calls ∷ first ∷ last ∷ count ∷ more ∷ rest)) p_1.1 in
+    let p_3 = neither (begins_dash places) (list_any begins_dash (calls ∷ first ∷ last ∷ count ∷ more ∷ rest)) p_2.1 in
+    let p_4 = neither (begins_dash calls) (list_any begins_dash (first ∷ last ∷ count ∷ more ∷ rest)) p_3.1 in
+    let p_5 = neither (begins_dash first) (list_any begins_dash (last ∷ count ∷ more ∷ rest)) p_4.1 in
+    let p_6 = neither (begins_dash last) (list_any begins_dash (count ∷ more ∷ rest)) p_5.1 in
     let p_7 = neither (begins_dash count) (list_any begins_dash (more ∷ rest)) p_6.1 in
     let p_8 = neither (begins_dash more) (list_any begins_dash (rest)) p_7.1 in
-    absurd (many input target places calls start end count more rest p_1.0 p_2.0 p_3.0 p_4.0 p_5.0 p_6.0 p_7.0 p_8.0 none)
+    absurd (many input target places calls first last count more rest p_1.0 p_2.0 p_3.0 p_4.0 p_5.0 p_6.0 p_7.0 p_8.0 none)
 
 -- words that don't pass are none
 pub loop_strays : (rest : List Text) → list_any begins_dash rest ≡ false → (fault_of player_words (codes "loop" ∷ rest) ≡ [] → ⊥) → loop_request rest ≡ None
@@ -215,15 +215,15 @@ loop_strays (input ∷ []) plain fails = refl
 loop_strays (input ∷ target ∷ []) plain fails = refl
 loop_strays (input ∷ target ∷ places ∷ []) plain fails = refl
 loop_strays (input ∷ target ∷ places ∷ calls ∷ []) plain fails = refl
-loop_strays (input ∷ target ∷ places ∷ calls ∷ start ∷ []) plain fails = refl
-loop_strays (input ∷ target ∷ places ∷ calls ∷ start ∷ end ∷ []) plain fails = refl
-loop_strays (input ∷ target ∷ places ∷ calls ∷ start ∷ end ∷ count ∷ []) plain fails =
-    let p_1 = neither (begins_dash input) (list_any begins_dash (target ∷ places ∷ calls ∷ start ∷ end ∷ count ∷ [])) plain in
-    let p_2 = neither (begins_dash target) (list_any begins_dash (places ∷ calls ∷ start ∷ end ∷ count ∷ [])) p_1.1 in
-    let p_3 = neither (begins_dash places) (list_any begins_dash (calls ∷ start ∷ end ∷ count ∷ [])) p_2.1 in
-    let p_4 = neither (begins_dash calls) (list_any begins_dash (start ∷ end ∷ count ∷ [])) p_3.1 in
-    let p_5 = neither (begins_dash start) (list_any begins_dash (end ∷ count ∷ [])) p_4.1 in
-    let p_6 = neither (begins_dash end) (list_any begins_dash (count ∷ [])) p_5.1 in
+loop_strays (input ∷ target ∷ places ∷ calls ∷ first ∷ []) plain fails = refl
+loop_strays (input ∷ target ∷ places ∷ calls ∷ first ∷ last ∷ []) plain fails = refl
+loop_strays (input ∷ target ∷ places ∷ calls ∷ first ∷ last ∷ count ∷ []) plain fails =
+    let p_1 = neither (begins_dash input) (list_any begins_dash (target ∷ places ∷ calls ∷ first ∷ last ∷ count ∷ [])) plain in
+    let p_2 = neither (begins_dash target) (list_any begins_dash (places ∷ calls ∷ first ∷ last ∷ count ∷ [])) p_1.1 in
+    let p_3 = neither (begins_dash places) (list_any begins_dash (calls ∷ first ∷ last ∷ count ∷ [])) p_2.1 in
+    let p_4 = neither (begins_dash calls) (list_any begins_dash (first ∷ last ∷ count ∷ [])) p_3.1 in
+    let p_5 = neither (begins_dash first) (list_any begins_dash (last ∷ count ∷ [])) p_4.1 in
+    let p_6 = neither (begins_dash last) (list_any begins_dash (count ∷ [])) p_5.1 in
     let p_7 = neither (begins_dash count) (list_any begins_dash ([])) p_6.1 in
-    absurd (fails (loop_passes input target places calls start end count p_1.0 p_2.0 p_3.0 p_4.0 p_5.0 p_6.0 p_7.0))
-loop_strays (input ∷ target ∷ places ∷ calls ∷ start ∷ end ∷ count ∷ more ∷ rest) plain fails = refl
+    absurd (fails (loop_passes input target places calls first last count p_1.0 p_2.0 p_3.0 p_4.0 p_5.0 p_6.0 p_7.0))
+loop_strays (input ∷ target ∷ places ∷ calls ∷ first ∷ last ∷ count ∷ more ∷ rest) plain fails = refl

@@ -108,27 +108,28 @@ loop_words_fit : (rest : List Text) → list_any begins_dash rest ≡ false → 
 loop_words_fit rest plain none =
     ap (λ (o : Option (Text × List Text)). matched_request (entered (built player_words) o)) (stops_loop rest) ∙ loop_fits rest plain (loop_below rest none)
 
+-- words that begin with this one have the request that is asked for
+abbrev Fits : List Text → Text → Type 0
+Fits rest word = matched_request (subcommand_of player_words (word ∷ rest)) ≡ command_request (word ∷ rest)
+
 -- words that pass, and don't begin with `-`, have the request that is asked for
 words_fit : (words : List Text) → list_any begins_dash words ≡ false → fault_of player_words words ≡ [] → matched_request (subcommand_of player_words words) ≡ command_request words
 words_fit [] plain none = refl
 words_fit (word ∷ rest) plain none =
     go (bytes_eq (codes "render") word) refl (bytes_eq (codes "record") word) refl (bytes_eq (codes "loop") word) refl (neither (begins_dash word) (list_any begins_dash rest) plain)
   where
-    abbrev Fits : Text → Type 0
-    Fits w = matched_request (subcommand_of player_words (w ∷ rest)) ≡ command_request (w ∷ rest)
-
     go : (a : Bool) → bytes_eq (codes "render") word ≡ a → (b : Bool) → bytes_eq (codes "record") word ≡ b → (l : Bool) → bytes_eq (codes "loop") word ≡ l
-        → (begins_dash word ≡ false) × (list_any begins_dash rest ≡ false) → Fits word
+        → (begins_dash word ≡ false) × (list_any begins_dash rest ≡ false) → Fits rest word
     go false a false b false l behind = absurd (stray_first word rest behind.0 (record { no_render = a; no_record = b; no_loop = l }) none)
     go false a false b true l behind =
         let is : codes "loop" ≡ word = (bytes_eq-Decides (codes "loop") word).0 l in
-        subst Fits is (loop_words_fit rest behind.1 (subst (λ (w : Text). fault_of player_words (w ∷ rest) ≡ []) (sym is) none))
+        subst (Fits rest) is (loop_words_fit rest behind.1 (subst (λ (w : Text). fault_of player_words (w ∷ rest) ≡ []) (sym is) none))
     go false a true b third same behind =
         let is : codes "record" ≡ word = (bytes_eq-Decides (codes "record") word).0 b in
-        subst Fits is (record_words_fit rest behind.1 (subst (λ (w : Text). fault_of player_words (w ∷ rest) ≡ []) (sym is) none))
+        subst (Fits rest) is (record_words_fit rest behind.1 (subst (λ (w : Text). fault_of player_words (w ∷ rest) ≡ []) (sym is) none))
     go true a second same third other behind =
         let is : codes "render" ≡ word = (bytes_eq-Decides (codes "render") word).0 a in
-        subst Fits is (render_words_fit rest behind.1 (subst (λ (w : Text). fault_of player_words (w ∷ rest) ≡ []) (sym is) none))
+        subst (Fits rest) is (render_words_fit rest behind.1 (subst (λ (w : Text). fault_of player_words (w ∷ rest) ≡ []) (sym is) none))
 
 -- words that don't pass, and don't begin with `-`, ask for nothing
 words_stray : (words : List Text) → list_any begins_dash words ≡ false → (fault_of player_words words ≡ [] → ⊥) → command_request words ≡ None
