@@ -1,5 +1,5 @@
 -- A player in one hand goes on under its setting, call by call.
-use Rattle.std.proofs.Common.{◌≡◌, ℕ, zero, suc, ◌+◌, ◌-◌, ◌<◌, ◌≤◌, Bool, true, false, not, ◌&&◌, ◌==◌, cond, if◌then◌else◌, List, [], ◌∷◌, ◌++◌, length, is_some, refl, sym, ap, ◌∙◌, arith, append_assoc, append-nil}
+use Rattle.std.proofs.Common.{◌≡◌, ℕ, zero, suc, ◌+◌, ◌-◌, ◌<◌, ◌≤◌, Bool, true, false, not, ◌&&◌, ◌==◌, nat_le, cond, if◌then◌else◌, List, [], ◌∷◌, ◌++◌, length, is_some, refl, sym, ap, ◌∙◌, arith, append_assoc, append-nil}
 use Rattle.std.proofs.lemmas.Bool.Decides.{nat_tests}
 use Rattle.af_base.specs.declared.frame.Frame.{Frame}
 use Rattle.af_base.specs.Sample.{pcm_bytes}
@@ -71,45 +71,45 @@ module _ (hand after : HandState) (places : ℕ) where
 one_less : (calls i : ℕ) → i < calls → calls - i ≡ suc (calls - (i + 1))
 one_less calls i more = omega arith
 
-module _ (first : HandState) (places calls : ℕ) (bytes : List ℕ) where
-  abbrev frames : List Frame
-  frames = first.frames
+module _ (first : HandState) (places calls : ℕ) (kept : List ℕ) where
+  abbrev buffer : List Frame
+  buffer = first.frames
 
-  abbrev s : Setting
-  s = next_setting first
+  abbrev under : Setting
+  under = next_setting first
 
   -- what is still to come of all calls after some of them, from the head that they leave
   abbrev bytes_left : ℕ → Head → List ℕ
-  bytes_left i head = pcm_bytes (heard_of frames s places (calls - i) head)
+  bytes_left i head = pcm_bytes (heard_of buffer under places (calls - i) head)
 
   abbrev filled_left : ℕ → Head → ℕ
-  filled_left i head = filled_of frames s places (calls - i) head
+  filled_left i head = filled_of buffer under places (calls - i) head
 
   -- after so many calls: what they gave and what is still to come are that of all calls
-  pub record IsOn (hand : HandState) (now : List ℕ) (i filled : ℕ) (shut : Bool) : Type 0 where
-    pub frames : hand.frames ≡ first.frames
-    pub setting : next_setting hand ≡ next_setting first
-    pub bytes : now ++ bytes_left i (next_head hand) ≡ bytes ++ bytes_left 0 (next_head first)
-    pub filled : filled + filled_left i (next_head hand) ≡ filled_left 0 (next_head first)
-    pub shut : 0 < i → shut ≡ is_some (shut_by (length first.frames) (next_setting first))
+  pub record IsOn (hand : HandState) (now : List ℕ) (i filled : ℕ) (is_shut : Bool) : Type 0 where
+    pub same_frames : hand.frames ≡ first.frames
+    pub same_setting : next_setting hand ≡ next_setting first
+    pub all_bytes : now ++ bytes_left i (next_head hand) ≡ kept ++ pcm_bytes (heard_of buffer under places calls (next_head first))
+    pub all_filled : filled + filled_left i (next_head hand) ≡ filled_of buffer under places calls (next_head first)
+    pub shuts : 0 < i → is_shut ≡ is_some (shut_by (length first.frames) (next_setting first))
 
   module _ (hand : HandState) where
     abbrev one : List Frame
-    one = taken frames s (next_head hand) places
+    one = taken buffer under (next_head hand) places
 
     abbrev behind : Head
-    behind = head_after (length frames) s (next_head hand) places
+    behind = head_after (length buffer) under (next_head hand) places
 
     -- the bytes, one call on
     bytes_on : (after : HandState) (had now : List ℕ) (i : ℕ) → i < calls
         → now ≡ had ++ pcm_bytes (output unity one places) → next_head after ≡ behind
         → now ++ bytes_left (i + 1) (next_head after) ≡ had ++ bytes_left i (next_head hand)
     bytes_on after had now i more added moved =
-        let rest : List Frame = heard_of frames s places (calls - (i + 1)) behind in
+        let rest : List Frame = heard_of buffer under places (calls - (i + 1)) behind in
         (λ j. added j ++ bytes_left (i + 1) (moved j))
         ∙ append_assoc had (pcm_bytes (output unity one places)) (pcm_bytes rest)
         ∙ ap (λ (more : List ℕ). had ++ more) (sym (pcm_bytes-append (output unity one places) rest))
-        ∙ ap (λ (n : ℕ). had ++ pcm_bytes (heard_of frames s places n (next_head hand))) (sym (one_less calls i more))
+        ∙ ap (λ (n : ℕ). had ++ pcm_bytes (heard_of buffer under places n (next_head hand))) (sym (one_less calls i more))
 
     -- how many frames were taken, one call on
     filled_on : (after : HandState) (had now i : ℕ) → i < calls
@@ -120,11 +120,20 @@ module _ (first : HandState) (places calls : ℕ) (bytes : List ℕ) where
         let sum : had + length one + rest ≡ had + (length one + rest) = omega arith in
         (λ j. added j + filled_left (i + 1) (moved j))
         ∙ sum
-        ∙ ap (λ (n : ℕ). had + filled_of frames s places n (next_head hand)) (sym (one_less calls i more))
+        ∙ ap (λ (n : ℕ). had + filled_of buffer under places n (next_head hand)) (sym (one_less calls i more))
 
   -- before the first call
-  pub on_first : IsOn first bytes 0 0 false
-  on_first = record { frames = refl; setting = refl; bytes = refl; filled = refl; shut = λ none. absurd (omega arith) }
+  pub on_first : IsOn first kept 0 0 false
+  on_first =
+      let whole : calls - 0 ≡ calls = omega arith in
+      let none : 0 + filled_left 0 (next_head first) ≡ filled_left 0 (next_head first) = omega arith in
+      record {
+        same_frames = refl;
+        same_setting = refl;
+        all_bytes = ap (λ (n : ℕ). kept ++ pcm_bytes (heard_of buffer under places n (next_head first))) whole;
+        all_filled = none ∙ ap (λ (n : ℕ). filled_of buffer under places n (next_head first)) whole;
+        shuts = λ some. absurd (omega arith);
+      }
 
   -- one call on
   pub on_again : (hand after : HandState) (had now : List ℕ) (i filled more : ℕ) (was is : Bool) → i < calls → IsOn hand had i filled was
@@ -134,17 +143,16 @@ module _ (first : HandState) (places calls : ℕ) (bytes : List ℕ) where
       → more ≡ filled + length (taken hand.frames (next_setting hand) (next_head hand) places)
       → is ≡ is_some (shut_by (length hand.frames) (next_setting hand))
       → IsOn after now (i + 1) more is
-  on_again hand after had now i filled more was is left on same_frames same_setting moved added counted shuts =
-      let f = on.frames in
-      let st = on.setting in
+  on_again hand after had now i filled more was is left on frames_stay setting_stays moved added counted shuts_now =
+      let f = on.same_frames in
+      let s = on.same_setting in
+      let head = moved ∙ (λ j. head_after (length (f j)) (s j) (next_head hand) places) in
       record {
-        frames = same_frames ∙ f;
-        setting = same_setting ∙ st;
-        bytes = bytes_on hand after had now i left (added ∙ (λ j. had ++ pcm_bytes (output unity (taken (f j) (st j) (next_head hand) places) places)))
-            (moved ∙ (λ j. head_after (length (f j)) (st j) (next_head hand) places)) ∙ on.bytes;
-        filled = filled_on hand after filled more i left (counted ∙ (λ j. filled + length (taken (f j) (st j) (next_head hand) places)))
-            (moved ∙ (λ j. head_after (length (f j)) (st j) (next_head hand) places)) ∙ on.filled;
-        shut = λ some. shuts ∙ (λ j. is_some (shut_by (length (f j)) (st j)));
+        same_frames = frames_stay ∙ f;
+        same_setting = setting_stays ∙ s;
+        all_bytes = bytes_on hand after had now i left (added ∙ (λ j. had ++ pcm_bytes (output unity (taken (f j) (s j) (next_head hand) places) places))) head ∙ on.all_bytes;
+        all_filled = filled_on hand after filled more i left (counted ∙ (λ j. filled + length (taken (f j) (s j) (next_head hand) places))) head ∙ on.all_filled;
+        shuts = λ some. shuts_now ∙ (λ j. is_some (shut_by (length (f j)) (s j)));
       }
 
   none_left : (i : ℕ) → i ≡ calls → calls - i ≡ 0
@@ -152,15 +160,15 @@ module _ (first : HandState) (places calls : ℕ) (bytes : List ℕ) where
 
   -- after all calls
   pub last_bytes : (hand : HandState) (now : List ℕ) (i filled : ℕ) (shut : Bool) → i ≡ calls → IsOn hand now i filled shut
-      → now ≡ bytes ++ pcm_bytes (heard_of first.frames (next_setting first) places calls (next_head first))
+      → now ≡ kept ++ pcm_bytes (heard_of first.frames (next_setting first) places calls (next_head first))
   last_bytes hand now i filled shut is on =
-      sym (append-nil now) ∙ ap (λ (n : ℕ). now ++ pcm_bytes (heard_of frames s places n (next_head hand))) (sym (none_left i is)) ∙ on.bytes
+      sym (append-nil now) ∙ ap (λ (n : ℕ). now ++ pcm_bytes (heard_of buffer under places n (next_head hand))) (sym (none_left i is)) ∙ on.all_bytes
 
   pub last_filled : (hand : HandState) (now : List ℕ) (i filled : ℕ) (shut : Bool) → i ≡ calls → IsOn hand now i filled shut
       → filled ≡ filled_of first.frames (next_setting first) places calls (next_head first)
   last_filled hand now i filled shut is on =
       let none : filled ≡ filled + 0 = omega arith in
-      none ∙ ap (λ (n : ℕ). filled + filled_of frames s places n (next_head hand)) (sym (none_left i is)) ∙ on.filled
+      none ∙ ap (λ (n : ℕ). filled + filled_of buffer under places n (next_head hand)) (sym (none_left i is)) ∙ on.all_filled
 
 -- ---- before the first call
 
@@ -168,10 +176,15 @@ module _ (first : HandState) (places calls : ℕ) (bytes : List ℕ) where
 abbrev pub hand_set : Turns → List Frame → HandState
 hand_set turns frames = record { frames = frames; made = 1; newest = setting_of turns; used = opening; head = at_first }
 
-pub set_setting : (turns : Turns) (frames : List Frame) (hand : HandState) → hand ≡ hand_set turns frames → next_setting hand ≡ setting_of turns
+set_setting_as : (turns : Turns) (frames : List Frame) → next_setting (hand_set turns frames) ≡ setting_of turns
 unfolding next_setting
-set_setting turns frames hand is = ap next_setting is
+set_setting_as turns frames =
+    let any : nat_le 0 (length frames) ≡ true = grind (arith, nat_tests) in
+    ap (λ (b : Bool). cond b (setting_of turns) opening) any
+
+pub set_setting : (turns : Turns) (frames : List Frame) (hand : HandState) → hand ≡ hand_set turns frames → next_setting hand ≡ setting_of turns
+set_setting turns frames hand is = ap next_setting is ∙ set_setting_as turns frames
 
 pub set_head : (turns : Turns) (frames : List Frame) (hand : HandState) → hand ≡ hand_set turns frames → next_head hand ≡ first_head turns frames
 unfolding next_head
-set_head turns frames hand is = ap next_head is
+set_head turns frames hand is = ap next_head is ∙ ap (heard (length frames) opening at_first) (set_setting_as turns frames)
