@@ -40,7 +40,11 @@ impl fmt::Display for Rolled {
 
     fn fmt<W: fmt::Write>(&self, f: &mut fmt::Formatter<W>) -> fmt::Result {
         let shut = u32::from(self.is_shut);
-        writeln!(f, "cycles {} filled {} shut {shut}", self.cycles, self.filled)
+        writeln!(
+            f,
+            "cycles {} filled {} shut {shut}",
+            self.cycles, self.filled
+        )
     }
 }
 

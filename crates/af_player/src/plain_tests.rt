@@ -36,12 +36,12 @@ fn plain_record(alloc: Global, count: u8, sizes: (usize, usize, usize)) -> Resul
 fn plain_loop(
     alloc: Global,
     size: u32,
-    places: u32,
+    (places, calls): (u32, u32),
     (start, end, count): (u32, u32, u32),
 ) -> Result<(Vec<u8>, u32), Fail> {
     let (mut position, mut left, mut filled) = (start, count, 0u32);
     let mut bytes = Vec::new(alloc);
-    for _ in 0..places {
+    for _ in 0..places.saturating_mul(calls) {
         if position >= size {
             bytes.extend_from_slice(&[0; 4])?;
             continue;
@@ -116,7 +116,7 @@ fn loops_are_as_the_plain_one(rt: HostRuntime) -> Result<(), Fail> {
         let mut store = MemStore::new(alloc, Vec::new(alloc));
         store.put("in.pcm", &numbered(alloc, 80)?)?;
         let size = if fits { 20 } else { 0 };
-        let (want, filled) = plain_loop(alloc, size, places.saturating_mul(calls), (start, end, count))?;
+        let (want, filled) = plain_loop(alloc, size, (places, calls), (start, end, count))?;
         let shut = u32::from(!fits);
         let told = format!(in alloc; "cycles {calls} filled {filled} shut {shut}\n")?;
         let ending = Ending {
