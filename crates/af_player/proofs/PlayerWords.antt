@@ -1,6 +1,6 @@
 -- What the command of the player makes of words that don't begin with `-`.
 use Rattle.std.specs.Prelude.{option_map, unwrap_or}
-use Rattle.std.proofs.Common.{◌≡◌, ◌⊎◌, inl, inr, ◌∙◌, ℕ, Bool, true, false, List, [], ◌∷◌, Option, Some, None, is_some, refl, sym, ap, ap₂, subst, codes}
+use Rattle.std.proofs.Common.{◌≡◌, ◌⊎◌, inl, inr, ◌∙◌, Bool, true, false, List, [], ◌∷◌, Option, Some, None, is_some, refl, sym, ap, ap₂, subst, codes}
 use Rattle.std.specs.List.{list_any}
 use Rattle.std.specs.Str.{bytes_eq}
 use Rattle.std.proofs.lemmas.Slice.Eq.{bytes_eq-Decides}
@@ -13,7 +13,7 @@ use Rattle.clap.specs.declared.error.kind.ErrorKind.TheVariants as kind
 use Rattle.clap.proofs.OnLiterals.{clap_on_literals}
 use Rattle.clap.proofs.WalkLemmas.{walk_stopped}
 use Rattle.af_player.specs.Dash.{begins_dash}
-use Rattle.af_player.specs.Requests.{Request, command_request, request_of}
+use Rattle.af_player.specs.Requests.{command_request, request_of}
 use Rattle.af_player.specs.Words.{matched_request, player_words}
 use Rattle.af_player.proofs.PlainWords.{end_fault, met_faultless, met_value, neither, nil_first, nil_second, start}
 use Rattle.af_player.proofs.RenderWords.{built_render, render_fits, render_strays}

@@ -1,6 +1,5 @@
 -- What the words ask for, of the files that are there: what is written and printed, or the first refusal in order.
-use Rattle.std.specs.Prelude.{ℕ, ◌+◌, ◌%◌, ◌^◌, nat_le, ◌==◌, ◌&&◌, not, Bool, List, [], ◌∷◌, length, take, codes, Option, Some, None, ok_or, Result, Ok, Err, if◌then◌else◌}
-use Rattle.std.specs.Str.{bytes_eq}
+use Rattle.std.specs.Prelude.{ℕ, ◌+◌, ◌%◌, ◌^◌, nat_le, ◌==◌, ◌&&◌, Bool, List, [], ◌∷◌, length, take, Option, Some, None, ok_or, Result, Ok, Err, if◌then◌else◌}
 use Rattle.af_base.specs.declared.frame.Frame.{Frame}
 use Rattle.af_io.specs.Files.{Files}
 use Rattle.af_base.specs.Sample.{pcm_bytes}

@@ -1,5 +1,5 @@
 //! Mixes of tracks whose sums are known.
-use crate::tests::{Ending, RENDER, expect};
+use crate::tests::{RENDER, expect, sink};
 use af_io::MemStore;
 use std::alloc::Global;
 use std::process::Abort;
@@ -71,12 +71,8 @@ fn expect_mix<R: Threads + Sync + Abort>(
     line: &str,
 ) -> Result<(), Fail> {
     let store = store_of(alloc, voices)?;
-    let ending = Ending {
-        status: 0,
-        line,
-        output: Some(want.as_slice()),
-    };
-    expect(rt, alloc, RENDER, store, 0, ending)
+    let output = Some(want.as_slice());
+    expect(rt, alloc, RENDER, (store, sink(alloc)), 0, line, output)
 }
 
 /// Several tracks: their sum, clamped once, and silence where one has no frame left. As many as hold a slot, and one more, which can't be played yet.
@@ -115,12 +111,9 @@ fn tracks_are_added(rt: HostRuntime) -> Result<(), Fail> {
         [0xff, 0x7f, 0x00, 0x80, 0, 0, 0, 0],
         "cycles 1 mixed 31 dropped 0 queued 0 peak 32768\n",
     )?;
-    let ending = Ending {
-        status: 9,
-        line: "unbuilt\n",
-        output: None,
-    };
-    expect(&rt, alloc, RENDER, store_of(alloc, &[loud; 32])?, 0, ending)
+    let store = store_of(alloc, &[loud; 32])?;
+    let ends = (store, sink(alloc));
+    expect(&rt, alloc, RENDER, ends, 9, "unbuilt\n", None)
 }
 
 /// Gains above unity count as unity, a scale turns a gain down, halves are rounded down, and mono has two gains.

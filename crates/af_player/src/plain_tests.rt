@@ -1,5 +1,5 @@
 //! Recordings and loops beside plain ones, frame by frame.
-use crate::tests::{Ending, expect, numbered};
+use crate::tests::{expect, numbered, sink};
 use af_io::MemStore;
 use std::alloc::Global;
 use std::collections::VecDeque;
@@ -81,13 +81,10 @@ fn recordings_are_as_the_plain_one(rt: HostRuntime) -> Result<(), Fail> {
         let heard = want.len() / 4;
         let lost = usize::from(count).saturating_sub(heard);
         let told = format!(in alloc; "supplied {count} read {heard} lost {lost}\n")?;
-        let ending = Ending {
-            status: 0,
-            line: told.as_str(),
-            output: Some(want.as_slice()),
-        };
         let line = format!(in alloc; "record in.pcm out.pcm {room} {supply} {read}")?;
-        expect(&rt, alloc, line.as_str(), store, 0, ending)?;
+        let output = Some(want.as_slice());
+        let ends = (store, sink(alloc));
+        expect(&rt, alloc, line.as_str(), ends, 0, told.as_str(), output)?;
     }
     Ok(())
 }
@@ -119,13 +116,10 @@ fn loops_are_as_the_plain_one(rt: HostRuntime) -> Result<(), Fail> {
         let (want, filled) = plain_loop(alloc, size, (places, calls), (start, end, count))?;
         let shut = u32::from(!fits);
         let told = format!(in alloc; "cycles {calls} filled {filled} shut {shut}\n")?;
-        let ending = Ending {
-            status: 0,
-            line: told.as_str(),
-            output: Some(want.as_slice()),
-        };
         let line = format!(in alloc; "loop in.pcm out.pcm {places} {calls} {start} {end} {count}")?;
-        expect(&rt, alloc, line.as_str(), store, 0, ending)?;
+        let output = Some(want.as_slice());
+        let ends = (store, sink(alloc));
+        expect(&rt, alloc, line.as_str(), ends, 0, told.as_str(), output)?;
     }
     Ok(())
 }

@@ -93,31 +93,29 @@ fn words_that_fit(rt: HostRuntime) -> Result<(), Fail> {
     Ok(())
 }
 
-/// How a run must end: the exit status, the line, and what OUT holds where it is made.
-#[derive(Clone, Copy)]
-pub(crate) struct Ending<'a> {
-    pub(crate) status: u8,
-    pub(crate) line: &'a str,
-    pub(crate) output: Option<&'a [u8]>,
-}
-
-/// A run over the files of a store, with a sink whose listed call fails.
+/// A run over a store and a sink: the exit status, the line, and what OUT holds where it is made.
 pub(crate) fn expect<R: Threads + Sync + Abort>(
     rt: &R,
     alloc: Global,
+    words: &str,
+    (mut store, mut out): (MemStore, MemSink),
+    status: u8,
     line: &str,
-    mut store: MemStore,
-    failing: u64,
-    ending: Ending<'_>,
+    output: Option<&[u8]>,
 ) -> Result<(), Fail> {
-    let words = words_of(alloc, line)?;
-    let mut out = MemSink::new(alloc, [failing].to_vec(alloc)?);
-    let status = run(rt, alloc, &words, &mut store, &mut out, &NoGate);
-    assert_eq!(rt; status.code(), ending.status, "{line}: {}", ending.line);
-    assert_eq!(rt; out.bytes(), ending.line.as_bytes(), "{line}");
+    let words = words_of(alloc, words)?;
+    let ended = run(rt, alloc, &words, &mut store, &mut out, &NoGate);
+    assert_eq!(rt; ended.code(), status, "{line}");
+    assert_eq!(rt; out.bytes(), line.as_bytes(), "{line}");
     let found = store.file("out.pcm");
-    assert_eq!(rt; found, ending.output, "{line}: {}", ending.line);
+    assert_eq!(rt; found.is_some(), output.is_some(), "{line}");
+    assert_eq!(rt; found.unwrap_or(&[]), output.unwrap_or(&[]), "{line}");
     Ok(())
+}
+
+/// A sink that never fails.
+pub(crate) fn sink(alloc: Global) -> MemSink {
+    MemSink::new(alloc, Vec::new(alloc))
 }
 
 /// So many bytes of stereo frames that are numbered from 1.
@@ -301,12 +299,8 @@ fn each_run_ends_as_it_must(rt: HostRuntime) -> Result<(), Fail> {
             Some(left) => file.get(..left),
             None => None,
         };
-        let ending = Ending {
-            status,
-            line,
-            output,
-        };
-        expect(&rt, alloc, words, store, failing.1, ending)?;
+        let out = MemSink::new(alloc, [failing.1].to_vec(alloc)?);
+        expect(&rt, alloc, words, (store, out), status, line, output)?;
     }
     Ok(())
 }

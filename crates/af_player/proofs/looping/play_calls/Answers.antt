@@ -1,4 +1,4 @@
-use Rattle.std.proofs.Common.{◌≡◌, ℕ, ◌+◌, ◌<◌, ◌++◌, List, is_some, length, ap, ◌∙◌, arith}
+use Rattle.std.proofs.Common.{◌≡◌, ℕ, ◌+◌, ◌<◌, ◌++◌, is_some, length, ap, ◌∙◌, arith}
 use Rattle.af_base.specs.Sample.{pcm_bytes}
 use Rattle.af_static.specs.InStep.{HandState}
 use Rattle.af_static.specs.Loops.{head_after, output, taken}

@@ -1,7 +1,4 @@
-use Rattle.std.proofs.Common.{◌≡◌, ◌+◌, ◌-◌, ◌*◌, ◌≤◌, ◌++◌, length, is_some}
-use Rattle.af_base.specs.Sample.{pcm_bytes}
-use Rattle.af_static.specs.Loops.{shut_by}
-use Rattle.af_player.specs.Looped.{filled_of, heard_of, next_head, next_setting}
+use Rattle.std.proofs.Common.{◌≡◌, ◌-◌, ◌*◌, ◌≤◌, length}
 use Rattle.af_player.proofs.Rolling.{IsOn}
 use Rattle.af_player.proofs.looping.play_calls.Given as goal
 

@@ -1,4 +1,4 @@
-use Rattle.std.proofs.Common.{◌≡◌, ℕ, ◌+◌, ap, ◌∙◌}
+use Rattle.std.proofs.Common.{◌≡◌, ◌+◌, ap, ◌∙◌}
 use Rattle.af_static.specs.InStep.{HandState}
 use Rattle.af_player.proofs.Rolling.{hand_set, set_head, set_setting}
 use Rattle.af_player.proofs.looping.set_once.Goals as goal
