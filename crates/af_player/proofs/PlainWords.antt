@@ -1,7 +1,7 @@
 -- Words that don't begin with `-` are values, or name a subcommand.
-use Rattle.std.proofs.Common.{◌≡◌, ◌∙◌, ◌||◌, ℕ, Bool, true, false, List, [], ◌∷◌, ◌++◌, Option, None, refl, ap, ap₂}
+use Rattle.std.proofs.Common.{◌≡◌, ◌||◌, ℕ, Bool, true, false, List, [], ◌∷◌, ◌++◌, None, refl, ap, ap₂}
 use Rattle.std.specs.Prelude.{fold}
-use Rattle.clap.specs.Walk.{Held, Names, Rule, Step, Text, Walk, after_step, finished, idle, nothing_held, settled, subcommand_or_other, value, walk, walk_from, walked}
+use Rattle.clap.specs.Walk.{Held, Rule, Step, Text, Walk, after_step, finished, idle, nothing_held, settled, subcommand_or_other, value, walk, walk_from, walked}
 use Rattle.clap.specs.Simple.{Shape}
 use Rattle.clap.specs.Kinds.{Kinds, or_else}
 use Rattle.clap.specs.Faults.{check_fault, defaults_fault, level_fault, other_fault, settle_fault, step_fault, turn_fault, walk_fault}

@@ -1,6 +1,6 @@
 -- What the command of the player makes of words that don't begin with `-`.
 use Rattle.std.specs.Prelude.{option_map, unwrap_or}
-use Rattle.std.proofs.Common.{◌≡◌, ◌⊎◌, inl, inr, ◌∙◌, ℕ, Bool, true, false, List, [], ◌∷◌, Option, Some, None, is_some, refl, sym, ap, ap₂, subst, codes}
+use Rattle.std.proofs.Common.{◌≡◌, ◌⊎◌, inl, inr, ◌∙◌, Bool, true, false, List, [], ◌∷◌, Option, Some, None, is_some, refl, sym, ap, ap₂, subst, codes}
 use Rattle.std.specs.List.{list_any}
 use Rattle.std.specs.Str.{bytes_eq}
 use Rattle.std.proofs.lemmas.Slice.Eq.{bytes_eq-Decides}
@@ -13,11 +13,12 @@ use Rattle.clap.specs.declared.error.kind.ErrorKind.TheVariants as kind
 use Rattle.clap.proofs.OnLiterals.{clap_on_literals}
 use Rattle.clap.proofs.WalkLemmas.{walk_stopped}
 use Rattle.af_player.specs.Dash.{begins_dash}
-use Rattle.af_player.specs.Requests.{Request, command_request, request_of}
+use Rattle.af_player.specs.Requests.{command_request, request_of}
 use Rattle.af_player.specs.Words.{matched_request, player_words}
 use Rattle.af_player.proofs.PlainWords.{end_fault, met_faultless, met_value, neither, nil_first, nil_second, start}
 use Rattle.af_player.proofs.RenderWords.{built_render, render_fits, render_strays}
 use Rattle.af_player.proofs.RecordWords.{built_record, record_fits, record_strays}
+use Rattle.af_player.proofs.LoopWords.{built_loop, loop_fits, loop_strays}
 
 -- the command is one of those whose matches and faults are told
 pub player_told : is_simple_and_free player_words ≡ true
@@ -35,9 +36,10 @@ labels = labels_of (built player_words)
 record IsStray (word : Text) : Type 0 where
   no_render : bytes_eq (codes "render") word ≡ false
   no_record : bytes_eq (codes "record") word ≡ false
+  no_loop : bytes_eq (codes "loop") word ≡ false
 
 no_label : (word : Text) → IsStray word → subcommand_met labels idle word ≡ None
-no_label word other = rw (other.no_render, other.no_record) refl
+no_label word other = rw (other.no_render, other.no_record, other.no_loop) refl
 
 abbrev top_turn : Option Text → Text → Kinds
 top_turn met word = or_else (other_fault top met word nothing_held)
@@ -71,6 +73,10 @@ stops_record : (rest : List Text) → (walk top.rules labels nothing_held (codes
 unfolding walked
 stops_record rest = ap (λ (w : Walk). w.stopped) (sym (walk_stopped top.rules labels start (codes "record") [] rest))
 
+stops_loop : (rest : List Text) → (walk top.rules labels nothing_held (codes "loop" ∷ rest)).stopped ≡ Some (codes "loop", rest)
+unfolding walked
+stops_loop rest = ap (λ (w : Walk). w.stopped) (sym (walk_stopped top.rules labels start (codes "loop") [] rest))
+
 -- where no word fails, none of the subcommand's does
 entered_passes : (words : List Text) → fault_of player_words words ≡ [] → entered_fault (built player_words) (walk top.rules labels nothing_held words).stopped ≡ []
 entered_passes words none =
@@ -84,6 +90,9 @@ render_below rest none = ap (λ (o : Option (Text × List Text)). entered_fault 
 record_below : (rest : List Text) → fault_of player_words (codes "record" ∷ rest) ≡ [] → level_fault built_record [] nothing_held rest false [] ≡ []
 record_below rest none = ap (λ (o : Option (Text × List Text)). entered_fault (built player_words) o) (sym (stops_record rest)) ∙ entered_passes (codes "record" ∷ rest) none
 
+loop_below : (rest : List Text) → fault_of player_words (codes "loop" ∷ rest) ≡ [] → level_fault built_loop [] nothing_held rest false [] ≡ []
+loop_below rest none = ap (λ (o : Option (Text × List Text)). entered_fault (built player_words) o) (sym (stops_loop rest)) ∙ entered_passes (codes "loop" ∷ rest) none
+
 render_words_fit : (rest : List Text) → list_any begins_dash rest ≡ false → fault_of player_words (codes "render" ∷ rest) ≡ []
     → matched_request (subcommand_of player_words (codes "render" ∷ rest)) ≡ command_request (codes "render" ∷ rest)
 render_words_fit rest plain none =
@@ -94,37 +103,52 @@ record_words_fit : (rest : List Text) → list_any begins_dash rest ≡ false �
 record_words_fit rest plain none =
     ap (λ (o : Option (Text × List Text)). matched_request (entered (built player_words) o)) (stops_record rest) ∙ record_fits rest plain (record_below rest none)
 
+loop_words_fit : (rest : List Text) → list_any begins_dash rest ≡ false → fault_of player_words (codes "loop" ∷ rest) ≡ []
+    → matched_request (subcommand_of player_words (codes "loop" ∷ rest)) ≡ command_request (codes "loop" ∷ rest)
+loop_words_fit rest plain none =
+    ap (λ (o : Option (Text × List Text)). matched_request (entered (built player_words) o)) (stops_loop rest) ∙ loop_fits rest plain (loop_below rest none)
+
+-- words that begin with this one have the request that is asked for
+abbrev Fits : List Text → Text → Type 0
+Fits rest word = matched_request (subcommand_of player_words (word ∷ rest)) ≡ command_request (word ∷ rest)
+
 -- words that pass, and don't begin with `-`, have the request that is asked for
 words_fit : (words : List Text) → list_any begins_dash words ≡ false → fault_of player_words words ≡ [] → matched_request (subcommand_of player_words words) ≡ command_request words
 words_fit [] plain none = refl
-words_fit (word ∷ rest) plain none = go (bytes_eq (codes "render") word) refl (bytes_eq (codes "record") word) refl (neither (begins_dash word) (list_any begins_dash rest) plain)
+words_fit (word ∷ rest) plain none =
+    go (bytes_eq (codes "render") word) refl (bytes_eq (codes "record") word) refl (bytes_eq (codes "loop") word) refl (neither (begins_dash word) (list_any begins_dash rest) plain)
   where
-    go : (a : Bool) → bytes_eq (codes "render") word ≡ a → (b : Bool) → bytes_eq (codes "record") word ≡ b → (begins_dash word ≡ false) × (list_any begins_dash rest ≡ false)
-        → matched_request (subcommand_of player_words (word ∷ rest)) ≡ command_request (word ∷ rest)
-    go false a false b behind = absurd (stray_first word rest behind.0 (record { no_render = a; no_record = b }) none)
-    go false a true b behind =
+    go : (a : Bool) → bytes_eq (codes "render") word ≡ a → (b : Bool) → bytes_eq (codes "record") word ≡ b → (l : Bool) → bytes_eq (codes "loop") word ≡ l
+        → (begins_dash word ≡ false) × (list_any begins_dash rest ≡ false) → Fits rest word
+    go false a false b false l behind = absurd (stray_first word rest behind.0 (record { no_render = a; no_record = b; no_loop = l }) none)
+    go false a false b true l behind =
+        let is : codes "loop" ≡ word = (bytes_eq-Decides (codes "loop") word).0 l in
+        subst (Fits rest) is (loop_words_fit rest behind.1 (subst (λ (w : Text). fault_of player_words (w ∷ rest) ≡ []) (sym is) none))
+    go false a true b third same behind =
         let is : codes "record" ≡ word = (bytes_eq-Decides (codes "record") word).0 b in
-        subst (λ (w : Text). matched_request (subcommand_of player_words (w ∷ rest)) ≡ command_request (w ∷ rest)) is
-        (record_words_fit rest behind.1 (subst (λ (w : Text). fault_of player_words (w ∷ rest) ≡ []) (sym is) none))
-    go true a b same behind =
+        subst (Fits rest) is (record_words_fit rest behind.1 (subst (λ (w : Text). fault_of player_words (w ∷ rest) ≡ []) (sym is) none))
+    go true a second same third other behind =
         let is : codes "render" ≡ word = (bytes_eq-Decides (codes "render") word).0 a in
-        subst (λ (w : Text). matched_request (subcommand_of player_words (w ∷ rest)) ≡ command_request (w ∷ rest)) is
-        (render_words_fit rest behind.1 (subst (λ (w : Text). fault_of player_words (w ∷ rest) ≡ []) (sym is) none))
+        subst (Fits rest) is (render_words_fit rest behind.1 (subst (λ (w : Text). fault_of player_words (w ∷ rest) ≡ []) (sym is) none))
 
 -- words that don't pass, and don't begin with `-`, ask for nothing
 words_stray : (words : List Text) → list_any begins_dash words ≡ false → (fault_of player_words words ≡ [] → ⊥) → command_request words ≡ None
 words_stray [] plain fails = refl
-words_stray (word ∷ rest) plain fails = go (bytes_eq word (codes "render")) refl (bytes_eq word (codes "record")) refl
+words_stray (word ∷ rest) plain fails = go (bytes_eq word (codes "render")) refl (bytes_eq word (codes "record")) refl (bytes_eq word (codes "loop")) refl
   where
     behind : list_any begins_dash rest ≡ false
     behind = (neither (begins_dash word) (list_any begins_dash rest) plain).1
 
-    go : (a : Bool) → bytes_eq word (codes "render") ≡ a → (b : Bool) → bytes_eq word (codes "record") ≡ b → command_request (word ∷ rest) ≡ None
-    go false a false b = rw (a, b) refl
-    go false a true b =
+    go : (a : Bool) → bytes_eq word (codes "render") ≡ a → (b : Bool) → bytes_eq word (codes "record") ≡ b → (l : Bool) → bytes_eq word (codes "loop") ≡ l
+        → command_request (word ∷ rest) ≡ None
+    go false a false b false l = rw (a, b, l) refl
+    go false a false b true l =
+        let is : word ≡ codes "loop" = (bytes_eq-Decides word (codes "loop")).0 l in
+        rw (a, b, l) (loop_strays rest behind (subst (λ (w : Text). fault_of player_words (w ∷ rest) ≡ [] → ⊥) is fails))
+    go false a true b third other =
         let is : word ≡ codes "record" = (bytes_eq-Decides word (codes "record")).0 b in
         rw (a, b) (record_strays rest behind (subst (λ (w : Text). fault_of player_words (w ∷ rest) ≡ [] → ⊥) is fails))
-    go true a b same =
+    go true a second same third other =
         let is : word ≡ codes "render" = (bytes_eq-Decides word (codes "render")).0 a in
         rw a (render_strays rest behind (subst (λ (w : Text). fault_of player_words (w ∷ rest) ≡ [] → ⊥) is fails))
 

@@ -1,9 +1,9 @@
 -- What the subcommand `render` makes of words that don't begin with `-`: its 2 words, no fewer and no more.
-use Rattle.std.proofs.Common.{◌≡◌, ◌∙◌, ℕ, Bool, true, false, List, [], ◌∷◌, Option, Some, None, refl, sym, ap, ap₂, subst, codes}
+use Rattle.std.proofs.Common.{◌≡◌, ◌∙◌, false, List, [], ◌∷◌, Some, None, refl, sym, ap, ap₂, subst, codes}
 use Rattle.std.specs.List.{list_any, slice_index_or}
 use Rattle.std.specs.Prelude.{fold}
-use Rattle.clap.specs.Walk.{Held, Row, Text, Walk, nothing_held, finished, walk_from, walked}
-use Rattle.clap.specs.Simple.{Shape, built, entered, subcommand_of}
+use Rattle.clap.specs.Walk.{Text, Walk, nothing_held, finished, walked}
+use Rattle.clap.specs.Simple.{Shape, built}
 use Rattle.clap.specs.Kinds.{Kinds, or_else}
 use Rattle.clap.specs.Faults.{check_fault, fault_of, level_fault, turn_fault, walk_fault}
 use Rattle.clap.specs.declared.error.kind.ErrorKind.TheVariants as kind

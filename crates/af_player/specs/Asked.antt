@@ -1,6 +1,5 @@
 -- What the words ask for, of the files that are there: what is written and printed, or the first refusal in order.
-use Rattle.std.specs.Prelude.{ℕ, ◌+◌, ◌%◌, ◌^◌, nat_le, ◌==◌, ◌&&◌, not, Bool, List, [], ◌∷◌, length, take, codes, Option, Some, None, ok_or, Result, Ok, Err, if◌then◌else◌}
-use Rattle.std.specs.Str.{bytes_eq}
+use Rattle.std.specs.Prelude.{ℕ, ◌+◌, ◌%◌, ◌^◌, nat_le, ◌==◌, ◌&&◌, Bool, List, [], ◌∷◌, length, take, Option, Some, None, ok_or, Result, Ok, Err, if◌then◌else◌}
 use Rattle.af_base.specs.declared.frame.Frame.{Frame}
 use Rattle.af_io.specs.Files.{Files}
 use Rattle.af_base.specs.Sample.{pcm_bytes}
@@ -16,9 +15,11 @@ use Rattle.af_player.specs.declared.status.Role.{Role}
 use Rattle.af_player.specs.declared.status.Role.TheVariants as role
 use Rattle.af_player.specs.declared.status.Why.TheVariants.{Missing, Long, Ragged, Short, Total}
 use Rattle.af_player.specs.declared.request.Sizes.{Sizes}
-use Rattle.af_player.specs.Requests.{Request, Render, Record, request_of}
+use Rattle.af_player.specs.declared.request.Turns.{Turns}
+use Rattle.af_player.specs.Requests.{Request, Render, Record, Loop, request_of}
 use Rattle.af_player.specs.Recorded.{heard, recorded, counts_of}
-use Rattle.af_player.specs.Line.{totals_text, counts_text}
+use Rattle.af_player.specs.Looped.{most_buffer, looped, rolls_of}
+use Rattle.af_player.specs.Line.{totals_text, counts_text, rolls_text}
 use Rattle.af_player.specs.Plain.{PlanTrack, Plan, plan_pcm, totals_of_plan}
 use Rattle.af_player.specs.declared.runnable.Written.{Written}
 use Rattle.af_player.specs.Runnable.{most_fast, written_of, are_runnable_turns}
@@ -130,9 +131,26 @@ render_job target plan = record { target = target; bytes = plan_pcm plan; line =
 abbrev pub recorded_from : Files → List ℕ → Result (List Frame) Refusal
 recorded_from files input = loaded (role.Track 0) most_file (files input) >>= (λ bytes. stereo_in bytes)
 
+-- one frame or more
+abbrev pub some_frames : List Frame → Result (List Frame) Refusal
+some_frames [] = Err (File (record { role = role.Track 0; why = Short 0 1 }))
+some_frames (frame ∷ frames) = Ok (frame ∷ frames)
+
+-- the frames of a stereo file that has some
+abbrev pub buffer_in : List ℕ → Result (List Frame) Refusal
+buffer_in bytes = stereo_in bytes >>= some_frames
+
 -- frames are recorded
 abbrev pub record_job : List ℕ → Sizes → List Frame → Job
 record_job target sizes frames = record { target = target; bytes = pcm_bytes (heard (recorded sizes frames)); line = counts_text (counts_of sizes frames) }
+
+-- the frames of a file that is looped
+abbrev pub looped_from : Files → List ℕ → Result (List Frame) Refusal
+looped_from files input = loaded (role.Track 0) most_buffer (files input) >>= (λ bytes. buffer_in bytes)
+
+-- frames are looped
+abbrev pub loop_job : List ℕ → Turns → List Frame → Job
+loop_job target turns frames = record { target = target; bytes = pcm_bytes (looped turns frames); line = rolls_text (rolls_of turns frames) }
 
 -- what is made of a script, for an output of this name
 abbrev pub render_asked : Files → List ℕ → List ℕ → Result Job Refusal
@@ -142,10 +160,15 @@ render_asked files script target = prepared_of files script >>= (λ plan. Ok (re
 abbrev pub record_asked : Files → List ℕ → List ℕ → Sizes → Result Job Refusal
 record_asked files input target sizes = recorded_from files input >>= (λ frames. Ok (record_job target sizes frames))
 
+-- what is made of a file that is looped
+abbrev pub loop_asked : Files → List ℕ → List ℕ → Turns → Result Job Refusal
+loop_asked files input target turns = looped_from files input >>= (λ frames. Ok (loop_job target turns frames))
+
 -- what a request asks for
 abbrev pub job_of : Files → Request → Result Job Refusal
 job_of files (Render script target) = render_asked files script target
 job_of files (Record input target sizes) = record_asked files input target sizes
+job_of files (Loop input target turns) = loop_asked files input target turns
 
 -- what the words ask for
 abbrev pub asked_of : Files → List (List ℕ) → Result Job Refusal

@@ -4,12 +4,14 @@ use Rattle.std.specs.List.{list_any}
 use Rattle.std.specs.Str.{bytes_eq}
 use Rattle.af_script.specs.Text.{is_name, number_within}
 use Rattle.af_player.specs.declared.request.Sizes.{Sizes}
+use Rattle.af_player.specs.declared.request.Turns.{Turns}
 use Rattle.af_player.specs.Dash.{begins_dash}
 
--- a script and an output to render it to; a file to record, an output, and the sizes of the recording
+-- a script and an output to render it to; a file to record, an output, and the sizes of the recording; a file to loop, an output, and the turns of the loop
 pub data Request : Type 0 where
   Render : List ℕ → List ℕ → Request
   Record : List ℕ → List ℕ → Sizes → Request
+  Loop : List ℕ → List ℕ → Turns → Request
 
 -- two names of files that differ
 abbrev pub two_names : List ℕ → List ℕ → Option (List ℕ × List ℕ)
@@ -19,6 +21,12 @@ two_names first second = if (is_name first && is_name second) && not (bytes_eq f
 abbrev pub sizes_of : List ℕ → List ℕ → List ℕ → Option Sizes
 sizes_of room supply read =
     option_and_then (λ n. option_and_then (λ f. option_map (λ k. record { room = n; supply = f; read = k }) (number_within 1 1024 read)) (number_within 1 1024 supply)) (number_within 1 8192 room)
+
+-- the calls and the setting that these words spell: 1 to 1024 places, 1 to 2048 calls, and three numbers of 32 bits
+abbrev pub turns_of : List ℕ → List ℕ → List ℕ → List ℕ → List ℕ → Option Turns
+turns_of places calls start end count =
+    option_and_then (λ f. option_and_then (λ k. option_and_then (λ s. option_and_then (λ e. option_map (λ c. record { places = f; calls = k; start = s; end = e; count = c })
+    (number_within 0 4294967295 count)) (number_within 0 4294967295 end)) (number_within 0 4294967295 start)) (number_within 1 2048 calls)) (number_within 1 1024 places)
 
 -- `render SCRIPT OUT`
 abbrev pub render_request : List (List ℕ) → Option Request
@@ -31,11 +39,20 @@ record_request (input ∷ target ∷ room ∷ supply ∷ read ∷ []) =
     option_and_then (λ names. option_map (λ sizes. Record names.0 names.1 sizes) (sizes_of room supply read)) (two_names input target)
 record_request words = None
 
+-- `loop IN OUT F K START END COUNT`
+abbrev pub loop_request : List (List ℕ) → Option Request
+loop_request (input ∷ target ∷ places ∷ calls ∷ start ∷ end ∷ count ∷ []) =
+    option_and_then (λ names. option_map (λ turns. Loop names.0 names.1 turns) (turns_of places calls start end count)) (two_names input target)
+loop_request words = None
+
 -- the command and its words
 abbrev pub command_request : List (List ℕ) → Option Request
 command_request [] = None
 command_request (command ∷ words) =
-    if bytes_eq command (codes "render") then render_request words else if bytes_eq command (codes "record") then record_request words else None
+    if bytes_eq command (codes "render") then render_request words
+    else if bytes_eq command (codes "record") then record_request words
+    else if bytes_eq command (codes "loop") then loop_request words
+    else None
 
 -- the request of words none of which begins with `-`
 abbrev pub request_of : List (List ℕ) → Option Request

@@ -1,9 +1,9 @@
 -- The words after the program's name, as a simple command of `clap` reads them.
-use Rattle.std.specs.Prelude.{ℕ, Bool, true, false, List, [], ◌∷◌, ◌++◌, codes, Option, Some, None, option_and_then, if◌then◌else◌}
+use Rattle.std.specs.Prelude.{ℕ, true, false, List, [], ◌∷◌, ◌++◌, codes, Option, Some, None, option_and_then, if◌then◌else◌}
 use Rattle.std.specs.Str.{bytes_eq}
 use Rattle.clap.specs.Walk.{Row, Rule, Text, first_of}
 use Rattle.clap.specs.Simple.{App, Shape, new_rule, new_shape}
-use Rattle.af_player.specs.Requests.{Request, render_request, record_request}
+use Rattle.af_player.specs.Requests.{Request, render_request, record_request, loop_request}
 
 -- an argument that can't be left out
 abbrev pub needed : List ℕ → Rule
@@ -23,6 +23,24 @@ record_words = record (new_shape (codes "record")) {
   rules = needed (codes "in") ∷ needed (codes "out") ∷ needed (codes "room") ∷ needed (codes "supply") ∷ needed (codes "read") ∷ [];
 }
 
+-- the subcommand `loop IN OUT F K START END COUNT`
+abbrev pub loop_words : Shape
+loop_words = record (new_shape (codes "loop")) {
+  rules = needed (codes "in") ∷ needed (codes "out") ∷ needed (codes "places") ∷ needed (codes "calls") ∷ needed (codes "start") ∷ needed (codes "end") ∷ needed (codes "count") ∷ [];
+}
+
+-- a command with subcommands of its own, and no help
+abbrev pub bare_words : App
+bare_words = record {
+  top = record (new_shape (codes "af_player")) {
+    no_binary_name = true;
+    disable_help_flag = true;
+    disable_help_subcommand = true;
+    subcommand_required = true;
+  };
+  subs = [];
+}
+
 -- the command: one of its subcommands, and no help
 abbrev pub player_words : App
 player_words = record {
@@ -33,7 +51,7 @@ player_words = record {
     disable_help_subcommand = true;
     subcommand_required = true;
   };
-  subs = render_words ∷ record_words ∷ [];
+  subs = render_words ∷ record_words ∷ loop_words ∷ [];
 }
 
 -- the value of an argument, and what is made of it
@@ -50,8 +68,18 @@ record_met rows =
     with_value (codes "in") rows (λ input. with_value (codes "out") rows (λ target. with_value (codes "room") rows (λ room.
     with_value (codes "supply") rows (λ supply. with_value (codes "read") rows (λ read. record_request (input ∷ target ∷ room ∷ supply ∷ read ∷ []))))))
 
+-- the request among the matches of `loop`
+abbrev pub loop_met : List Row → Option Request
+loop_met rows =
+    with_value (codes "in") rows (λ input. with_value (codes "out") rows (λ target. with_value (codes "places") rows (λ places. with_value (codes "calls") rows (λ calls.
+    with_value (codes "start") rows (λ start. with_value (codes "end") rows (λ end. with_value (codes "count") rows (λ count.
+    loop_request (input ∷ target ∷ places ∷ calls ∷ start ∷ end ∷ count ∷ []))))))))
+
 -- the request among the matches of a subcommand
 abbrev pub matched_request : Option (Text × List Row) → Option Request
 matched_request None = None
 matched_request (Some met) =
-    if bytes_eq met.0 (codes "render") then render_met met.1 else if bytes_eq met.0 (codes "record") then record_met met.1 else None
+    if bytes_eq met.0 (codes "render") then render_met met.1
+    else if bytes_eq met.0 (codes "record") then record_met met.1
+    else if bytes_eq met.0 (codes "loop") then loop_met met.1
+    else None

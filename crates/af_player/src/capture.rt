@@ -161,7 +161,7 @@ fn record_frames(alloc: Global, frames: &[Frame], sizes: Sizes) -> Result<Tape, 
 }
 
 /// The frames of a stereo file.
-fn stereo_in(alloc: Global, bytes: &[u8]) -> Result<Pcm, Stop>
+pub fn stereo_in(alloc: Global, bytes: &[u8]) -> Result<Pcm, Stop>
     ensures frames { Meets (λ pcm. pcm) result (stereo_in bytes.now) }
     ensures few { IfOk result (λ pcm. 4 * length pcm ≡ length bytes.now) }
     ensures faultless { result ≡ Err Stop.Store → ⊥ }

@@ -10,6 +10,16 @@ pub struct Sizes {
     pub read: u32,
 }
 
+/// How a static buffer is looped: how many places each call has and how many calls there are, and the start, end and count of the loop.
+#[derive(Clone, Copy, Debug, PartialEq, Eq)]
+pub struct Turns {
+    pub places: u32,
+    pub calls: u32,
+    pub start: u32,
+    pub end: u32,
+    pub count: u32,
+}
+
 /// One command and its words.
 #[derive(Clone, Copy, Debug, PartialEq, Eq)]
 pub enum Request<'a> {
@@ -24,6 +34,12 @@ pub enum Request<'a> {
         target: &'a str,
         sizes: Sizes,
     },
+    /// A file that is looped, the output, and the turns of the loop.
+    Loop {
+        input: &'a str,
+        target: &'a str,
+        turns: Turns,
+    },
 }
 
 impl<'a> Request<'a> {
@@ -34,6 +50,7 @@ impl<'a> Request<'a> {
         match self {
             Request::Render { target, .. } => target,
             Request::Record { target, .. } => target,
+            Request::Loop { target, .. } => target,
         }
     }
 }

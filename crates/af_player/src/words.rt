@@ -1,15 +1,16 @@
 //! The words after the program's name, read by a simple command of `clap` with subcommands.
 ghost use Rattle.std.specs.Prelude.{◌≡◌, ◌∷◌, [], false, map, option_map, IfOk, IfSome, string_bytes};
 ghost use Rattle.std.specs.List.{list_any};
-ghost use Rattle.clap.specs.Words.{app_of, first_of, found_of, rows_of, rule_of, shape_of, subcommand_rows_of};
+ghost use Rattle.clap.specs.Words.{app_of, first_of, found_of, rows_of, rule_of, shape_of, subcommand_rows_of, with_subcommand};
 ghost use Rattle.clap.specs.declared.builder.command.Command.TheViews.{out-Command};
 ghost use Rattle.af_player.specs.Asking.{request_view, IsSound};
 ghost use Rattle.af_player.specs.Captured.{AreSizes};
 ghost use Rattle.af_player.specs.Dash.{begins_dash};
-ghost use Rattle.af_player.specs.Requests.{request_of, sizes_of, two_names};
-ghost use Rattle.af_player.specs.Words.{needed, with_rules, render_words, record_words, player_words, render_met, record_met, matched_request};
+ghost use Rattle.af_player.specs.Looped.{AreTurns};
+ghost use Rattle.af_player.specs.Requests.{request_of, sizes_of, turns_of, two_names};
+ghost use Rattle.af_player.specs.Words.{needed, with_rules, bare_words, render_words, record_words, loop_words, player_words, render_met, record_met, loop_met, matched_request};
 
-use crate::request::{Request, Sizes};
+use crate::request::{Request, Sizes, Turns};
 use af_script::{is_name, number_within};
 use clap::error::ErrorKind;
 use clap::{Arg, ArgMatches, Command};
@@ -75,19 +76,46 @@ fn record_command<'a>(alloc: Global) -> Result<Command<'a>, AllocError>
     with_needed(alloc, command, "read")
 }
 
-/// The command with its subcommands, without help.
-fn player_command<'a>(alloc: Global) -> Result<Command<'a>, AllocError>
-    ensures { IfOk result (λ command. app_of command ≡ player_words) }
+/// The subcommand `loop IN OUT F K START END COUNT`.
+fn loop_command<'a>(alloc: Global) -> Result<Command<'a>, AllocError>
+    ensures shape { IfOk result (λ command. shape_of command ≡ loop_words) }
+    ensures local { IfOk result (λ command. (out-Command command).has_globals ≡ false) }
 {
-    let render = render_command(alloc)?;
-    let record = record_command(alloc)?;
+    let command = with_needed(alloc, Command::new(alloc, "loop"), "in")?;
+    let command = with_needed(alloc, command, "out")?;
+    let command = with_needed(alloc, command, "places")?;
+    let command = with_needed(alloc, command, "calls")?;
+    let command = with_needed(alloc, command, "start")?;
+    let command = with_needed(alloc, command, "end")?;
+    with_needed(alloc, command, "count")
+}
+
+/// The command before its subcommands, without help.
+fn bare_command<'a>(alloc: Global) -> Command<'a>
+    ensures { app_of result ≡ bare_words }
+{
     Command::new(alloc, "af_player")
         .no_binary_name(true)
         .disable_help_flag(true)
         .disable_help_subcommand(true)
         .subcommand_required(true)
-        .subcommand(render)?
-        .subcommand(record)
+}
+
+/// A command with one more subcommand.
+fn with_sub<'a>(command: Command<'a>, sub: Command<'a>) -> Result<Command<'a>, AllocError>
+    requires { (out-Command sub).has_globals ≡ false }
+    ensures { IfOk result (λ more. app_of more ≡ with_subcommand (app_of command.entry) (shape_of sub.entry)) }
+{
+    command.subcommand(sub)
+}
+
+/// The command with its subcommands, without help.
+fn player_command<'a>(alloc: Global) -> Result<Command<'a>, AllocError>
+    ensures { IfOk result (λ command. app_of command ≡ player_words) }
+{
+    let command = with_sub(bare_command(alloc), render_command(alloc)?)?;
+    let command = with_sub(command, record_command(alloc)?)?;
+    with_sub(command, loop_command(alloc)?)
 }
 
 /// Two names of files that differ.
@@ -110,6 +138,25 @@ fn sizes_of(room: &str, supply: &str, read: &str) -> Option<Sizes>
     let supply = number_within(supply, 1, 1024)?;
     let read = number_within(read, 1, 1024)?;
     Some(Sizes { room, supply, read })
+}
+
+/// The calls and the setting that these words spell.
+fn turns_of(places: &str, calls: &str, start: &str, end: &str, count: &str) -> Option<Turns>
+    ensures value { result ≡ turns_of places.now calls.now start.now end.now count.now }
+    ensures sound { IfSome result AreTurns }
+{
+    let places = number_within(places, 1, 1024)?;
+    let calls = number_within(calls, 1, 2048)?;
+    let start = number_within(start, 0, u32::MAX)?;
+    let end = number_within(end, 0, u32::MAX)?;
+    let count = number_within(count, 0, u32::MAX)?;
+    Some(Turns {
+        places,
+        calls,
+        start,
+        end,
+        count,
+    })
 }
 
 /// The first value of an argument.
@@ -156,6 +203,27 @@ fn record_met<'a>(matches: &ArgMatches<'a>) -> Option<Request<'a>>
     })
 }
 
+/// The request among the matches of `loop`.
+fn loop_met<'a>(matches: &ArgMatches<'a>) -> Option<Request<'a>>
+    ensures value { option_map request_view result ≡ loop_met (rows_of (found_of matches.now)) }
+    ensures sound { IfSome result IsSound }
+{
+    let input = value_of(matches, "in")?;
+    let target = value_of(matches, "out")?;
+    let places = value_of(matches, "places")?;
+    let calls = value_of(matches, "calls")?;
+    let start = value_of(matches, "start")?;
+    let end = value_of(matches, "end")?;
+    let count = value_of(matches, "count")?;
+    let (input, target) = two_names(input, target)?;
+    let turns = turns_of(places, calls, start, end, count)?;
+    Some(Request::Loop {
+        input,
+        target,
+        turns,
+    })
+}
+
 /// The request among the matches of a subcommand.
 fn matched_request<'a>(matches: &ArgMatches<'a>) -> Option<Request<'a>>
     ensures value { option_map request_view result ≡ matched_request (subcommand_rows_of matches.now) }
@@ -166,6 +234,8 @@ fn matched_request<'a>(matches: &ArgMatches<'a>) -> Option<Request<'a>>
         render_met(inner)
     } else if name == "record" {
         record_met(inner)
+    } else if name == "loop" {
+        loop_met(inner)
     } else {
         None
     }

@@ -1,6 +1,5 @@
 use Rattle.std.proofs.Common.{◌≡◌, ℕ, List, ◌++◌, length, min, take, drop, ap, ap₂, sym, ◌∙◌, arith}
 use Rattle.std.specs.List.{flat_map}
-use Rattle.af_base.specs.declared.frame.Frame.{Frame}
 use Rattle.af_record.specs.InStep.{HandState}
 use Rattle.af_player.specs.Captured.{word_bytes}
 use Rattle.af_player.proofs.Taped.{read_bytes, take_least, drop_least}

@@ -1,6 +1,4 @@
-use Rattle.std.proofs.Common.{◌≡◌, ◌*◌, ◌/◌, ℕ, false, length, ap, ◌∙◌, arith}
-use Rattle.af_base.specs.declared.frame.Frame.{Frame}
-use Rattle.af_io.specs.Pcm.{frames_from}
+use Rattle.std.proofs.Common.{◌≡◌, ◌/◌, false, length, ap, ◌∙◌, arith}
 use Rattle.af_io.proofs.Fronts.{frames_count}
 use Rattle.af_player.proofs.capture.stereo_in.Goals as goal
 

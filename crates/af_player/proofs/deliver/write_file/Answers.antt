@@ -1,4 +1,4 @@
-use Rattle.std.proofs.Common.{◌≡◌, List, ℕ, [], append-nil, sym, rules}
+use Rattle.std.proofs.Common.{List, ℕ, [], append-nil, sym, rules}
 use Rattle.af_io.specs.Files.{AddsFront, LeavesFront}
 use Rattle.af_io.proofs.Steps.{AddsFront-append, LeavesFront-added}
 use Rattle.af_player.proofs.deliver.write_file.Goals as goal

@@ -1,4 +1,4 @@
-use Rattle.std.proofs.Common.{◌≡◌, ◌∙◌, ap}
+use Rattle.std.proofs.Common.{◌∙◌, ap}
 use Rattle.af_player.specs.Line.{totals_text}
 use Rattle.af_player.specs.Prepared.{plan_view}
 use Rattle.af_player.proofs.render.render_output.Goals as goal

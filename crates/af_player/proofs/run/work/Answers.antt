@@ -1,6 +1,5 @@
-use Rattle.std.proofs.Common.{◌≡◌, ◌∙◌, List, ℕ, Some, Ok, Err, Result, map, option_map, string_bytes, sym, ap, subst, rules}
+use Rattle.std.proofs.Common.{◌≡◌, ◌∙◌, ℕ, Ok, Err, Result, map, option_map, string_bytes, sym, ap, subst, rules}
 use Rattle.af_io.specs.Causes.{Rose}
-use Rattle.af_player.specs.declared.deliver.Output.{Output}
 use Rattle.af_player.specs.declared.status.Refusal.{Refusal}
 use Rattle.af_player.specs.Asked.{Job, asked_of, job_of}
 use Rattle.af_player.specs.Asking.{output_job, request_view, target_of}

@@ -1,8 +1,6 @@
-use Rattle.std.proofs.Common.{◌≡◌, ℕ, ◌+◌, List, map, ap, ap₂, ◌∙◌}
-use Rattle.af_base.specs.Sample.{packed_word}
+use Rattle.std.proofs.Common.{ℕ, ◌+◌, ap, ap₂, ◌∙◌}
 use Rattle.af_record.specs.InStep.{HandState}
-use Rattle.af_player.specs.Captured.{state_of}
-use Rattle.af_player.specs.Recorded.{Recording, read_up_to, supplied}
+use Rattle.af_player.specs.Recorded.{read_up_to}
 use Rattle.af_player.proofs.Taped.{supply_state}
 use Rattle.af_player.proofs.capture.Tape.period.Goals as goal
 

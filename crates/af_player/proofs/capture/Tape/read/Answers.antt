@@ -1,4 +1,4 @@
-use Rattle.std.proofs.Common.{◌≡◌, ℕ, ◌+◌, List, ◌++◌, length, take, drop, ap, ◌∙◌, arith, length-append, length-drop, length-take}
+use Rattle.std.proofs.Common.{◌≡◌, ◌+◌, ◌++◌, length, drop, ap, ◌∙◌, arith, length-append, length-drop, length-take}
 use Rattle.af_record.specs.InStep.{HandState}
 use Rattle.af_player.proofs.Taped.{read_count}
 use Rattle.af_player.proofs.capture.Tape.read.Goals as goal
