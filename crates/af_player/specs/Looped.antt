@@ -51,7 +51,7 @@ rolls_of turns frames = record {
   is_shut = is_some (shut_by (length frames) (setting_of turns));
 }
 
--- the places and calls that words may ask for, and three numbers of 32 bits
+-- the places and calls that words may ask for
 pub record AreTurns (turns : Turns) : Type 0 where
   pub places : (1 ≤ turns.places) × (turns.places ≤ 1024)
   pub calls : (1 ≤ turns.calls) × (turns.calls ≤ 2048)
