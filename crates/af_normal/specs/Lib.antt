@@ -3,6 +3,7 @@ pub mod Coming
 pub mod Commands
 pub mod Editing
 pub mod Mixing
+pub mod Order
 pub mod Ready
 pub mod Serving
 pub mod State
