@@ -4,6 +4,7 @@ pub mod Commands
 pub mod Editing
 pub mod Mixing
 pub mod Mutating
+pub mod Order
 pub mod Ready
 pub mod Serving
 pub mod State
