@@ -14,10 +14,12 @@ ghost use Rattle.af_normal.specs.Mixing.{stream_at};
 ghost use Rattle.af_normal.specs.Serving.{known_at};
 ghost use Rattle.af_normal.specs.State.{setup_of};
 ghost use Rattle.af_normal.specs.Editing.{LetsGo, Lends};
+ghost use Rattle.af_normal.specs.Mutating.{EditsTrack, IsEditable, commands, due_command};
 
 use crate::attend::known;
 use crate::mixer::NormalMixer;
-use af_life::{Holder, TrackKept};
+use af_base::Command;
+use af_life::{Holder, TrackKept, next_command};
 
 impl NormalMixer {
     // A lent track is detached.
@@ -57,5 +59,43 @@ impl NormalMixer {
         self.mutator
             .attach(slot, setting.mono, setting.scale, i as u32, server);
         self.tracks[i] = track.lent_by(self.mutator.draft(), own);
+    }
+
+    // A track is detached or attached, where that is due; whether it was.
+    fn edit(&mut self, i: usize) -> bool
+        requires editing { self.old.mutator.editing ≡ true }
+        requires track { (i < length self.old.tracks) × (i < length self.old.streams) × (i < length self.old.settings) × (i < 2 ^ 32) }
+        requires may { IsEditable i self.old }
+        ensures edits { EditsTrack i self.old self.new }
+        ensures edited { self.new.mutator.edited ≡ (self.old.mutator.edited || result) }
+    {
+        let track = self.tracks[i];
+        if track.must_leave() {
+            self.let_go(i);
+            return true;
+        }
+        if track.must_enter() {
+            self.lend(i);
+            return true;
+        }
+        false
+    }
+
+    // The command follows from what the edits left; whether it is another one.
+    fn order(&mut self, room: u32) -> bool
+        requires editing { self.old.mutator.editing ≡ true }
+        requires sizes { (self.old.frames ≤ 1024) × (self.old.normal ≤ 16) }
+        requires colds { self.old.mutator.draft.cold_gen < 2 ^ 31 }
+        ensures orders { self.new ≡ record self.old { mutator = commands (due_command room self.old) self.old.mutator } }
+        ensures edited { self.new.mutator.edited ≡ (self.old.mutator.edited || result) }
+    {
+        let before = self.mutator.draft().command;
+        let exits = before.code() == Command::Exit.code();
+        let command = next_command(exits, &self.tracks, room, 4 * self.normal * self.frames);
+        if command.code() == before.code() {
+            return false;
+        }
+        self.mutator.set_command(command);
+        true
     }
 }

@@ -7,6 +7,7 @@
 
 mod acks;
 mod attend;
+mod buffer;
 mod commands;
 mod edits;
 mod mixer;
