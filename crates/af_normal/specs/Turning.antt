@@ -10,7 +10,7 @@ use Rattle.af_cblk.specs.Sides.{HandSide, Made}
 use Rattle.af_server.specs.Order.{ServerState}
 use Rattle.af_server.specs.Slot.{listed}
 use Rattle.af_stateq.specs.Answers.{WasAcked}
-use Rattle.af_stateq.specs.Mutates.{Mutates}
+use Rattle.af_stateq.specs.Mutates.{InDraft, Mutates}
 use Rattle.af_link.specs.Names.{IsStreamOf}
 use Rattle.af_link.specs.PipeEnds.{in_made, room_of}
 use Rattle.af_link.specs.declared.names.StreamNames.{StreamNames}
@@ -32,10 +32,15 @@ pub record Begins (x y : NormalState) : Type 0 where
 abbrev pub with_mutator : Mutates ServerState StreamNames → NormalState → NormalState
 with_mutator m x = record x { mutator = m }
 
+-- a proxy belongs to a track by the names
+abbrev pub stream_fits : StreamNames → ℕ → ServerState → Type 0
+stream_fits names track s = IsStreamOf names.blocks track s
+
 -- where the last push was seen acknowledged, each proxy that is in hand comes home
 pub record SeesAck (ack : Bool) (x y : NormalState) : Type 0 where
   pub mutator : Mutates ServerState StreamNames
   pub acked : WasAcked x.mutator ack mutator
+  pub held : InDraft stream_fits mutator
   pub comes : MatchBool ack (WelcomesTo (length x.tracks) (with_mutator mutator x) y) (y ≡ with_mutator mutator x)
 
 -- ## The hands

@@ -29,7 +29,7 @@ impl NormalMixer {
     }
 
     // Each returning proxy that is in hand comes home.
-    fn welcome_all(&mut self)
+    pub(crate) fn welcome_all(&mut self)
         requires long { length self.old.streams ≡ length self.old.tracks }
         requires slots { HaveSlots self.old.tracks }
         ensures { WelcomesTo (length self.old.tracks) self.old self.new }

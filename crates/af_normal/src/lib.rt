@@ -10,11 +10,13 @@ mod attend;
 mod buffer;
 mod commands;
 mod edits;
+mod make;
 mod mixer;
 mod plays;
 mod serve;
 mod sums;
 mod turn;
 
+pub use make::{TrackSetup, Tracks};
 pub use mixer::NormalMixer;
 pub use turn::Turn;

@@ -101,4 +101,39 @@ impl NormalMixer {
         self.entry.cycle = cycle;
         self.entry.push = push;
     }
+
+    // What follows once the acknowledgement was seen and the proxies are home.
+    fn go_on<L: Ledger>(&mut self, links: &Links<'_>, ack: bool, steps: &mut Steps<L>) -> Turn {
+        self.make_hands(links, steps);
+        let (report, room) = self.learn(links, steps);
+        self.serve_all(links, &report, steps);
+        self.mutate(links, room);
+        let pushed = self.push(links, steps);
+        let mixed = self.play(links, room, steps);
+        self.note(room, ack, report.cycle, pushed);
+        Turn::Turned { mixed, pushed }
+    }
+
+    // The mixer has ended.
+    fn stop(&mut self) -> Turn {
+        self.ended = true;
+        self.entry.end();
+        Turn::Ended
+    }
+
+    pub fn turn<L: Ledger>(&mut self, links: &Links<'_>, steps: &mut Steps<L>) -> Turn
+    {
+        self.begin();
+        if self.ended {
+            return self.stop();
+        }
+        let ack = self.mutator.acked(links.queue, steps);
+        if ack && self.exits {
+            return self.stop();
+        }
+        if ack {
+            self.welcome_all();
+        }
+        self.go_on(links, ack, steps)
+    }
 }
