@@ -3,8 +3,11 @@ pub mod Coming
 pub mod Commands
 pub mod Editing
 pub mod Mixing
+pub mod Mutating
 pub mod Order
 pub mod Ready
 pub mod Serving
 pub mod State
 pub mod Sums
+pub mod TurnMade
+pub mod Turning

@@ -1,5 +1,5 @@
 //! One track's part of a turn, with its two proxies and its hand.
-ghost use Rattle.std.specs.Prelude.{◌≡◌, ◌+◌, ◌<◌, ◌≤◌, ◌^◌, ◌∷◌, ◌++◌, [], length, Some, if◌then◌else◌};
+ghost use Rattle.std.specs.Prelude.{◌≡◌, ◌+◌, ◌-◌, ◌<◌, ◌≤◌, ◌^◌, ◌∷◌, ◌++◌, [], length, Some, if◌then◌else◌};
 ghost use Rattle.af_base.specs.Turn.{track_seen};
 ghost use Rattle.af_base.specs.declared.event.ServerEvent.TheVariants as server_event;
 ghost use Rattle.af_cblk.specs.Sides.{hand_made};
@@ -146,7 +146,7 @@ pub(crate) fn attend<L: Ledger>(
     requires stream { (s : ServerState) → stream.old ≡ Some s → IsServerOf stream_block.now s }
     requires hand { hand_made hand.old ≡ stream_block.now }
     requires seen { (track_seen seen.old ≡ nothing_seen) × (most_looks ≤ seen.old.looks.room) }
-    requires few { ready.settled < 2 ^ 23 }
+    requires few { ready.settled < 2 ^ 24 - 128 }
     ensures command { IsServerOf command_block.now command.new }
     ensures stream { (s : ServerState) → stream.new ≡ Some s → IsServerOf stream_block.now s }
     ensures hand { hand_made hand.new ≡ stream_block.now }

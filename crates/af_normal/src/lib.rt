@@ -13,5 +13,7 @@ mod mixer;
 mod plays;
 mod serve;
 mod sums;
+mod turn;
 
 pub use mixer::NormalMixer;
+pub use turn::Turn;
