@@ -2,7 +2,7 @@
 use Rattle.std.specs.Prelude.{◌≡◌, ℕ, ◌<◌, ◌≤◌, true, false, is_some, List, [], ◌∷◌}
 use Rattle.af_base.specs.declared.state.FastState.{FastState}
 use Rattle.af_base.specs.Log.{slots}
-use Rattle.af_model.specs.StateQueue.{slot_of, carries}
+use Rattle.af_model.specs.StateQueue.{slot_of, carries, IsState}
 use Rattle.af_life.specs.declared.state.LifeState.TheVariants.{Absent}
 use Rattle.af_life.specs.declared.kept.TrackKept.{TrackKept}
 use Rattle.af_life.specs.State.{is_among}
@@ -30,3 +30,4 @@ pub record IsSound (m : NormalKept) : Type 0 where
   pub slotted : (i : ℕ) → IsSlotted (track_at m.tracks i)
   pub drafted : (i : ℕ) → IsDrafted m.draft i (track_at m.tracks i)
   pub alone : AreAlone m.tracks
+  pub state : IsState m.draft
