@@ -58,14 +58,10 @@ told_turn room ack report push x = record {
   mixes = map take_seen x.entry.mixes.items;
 }
 
--- A turn that goes on, from its begin to its entry, by the acknowledgement, the report and the room that it saw, and its push
-pub record GoesOnBy (ack : Bool) (report : Report) (room : ℕ) (push : Push) (x y : NormalState) : Type 0 where
-  pub home : NormalState
-  pub sees : SeesAck ack x home
-  pub handed : NormalState
-  pub hands : HasHands home handed
+-- What follows once what came home is home, up to the entry, by the report and the room that it saw, and its push
+pub record GoesOnFrom (ack : Bool) (report : Report) (room : ℕ) (push : Push) (home y : NormalState) : Type 0 where
   pub learnt : NormalState
-  pub learns : Learns report room handed learnt
+  pub learns : Learns report room home learnt
   pub served : NormalState
   pub serves : ServesAll report learnt served
   pub edited : NormalState
@@ -76,6 +72,12 @@ pub record GoesOnBy (ack : Bool) (report : Report) (room : ℕ) (push : Push) (x
   pub plays : PlaysAll room pushed played
   pub tells : turn_of y.entry ≡ told_turn room ack report push played
   pub leaves : y ≡ record played { entry = y.entry }
+
+-- a turn that goes on, from its look at the acknowledgement
+pub record GoesOnBy (ack : Bool) (report : Report) (room : ℕ) (push : Push) (x y : NormalState) : Type 0 where
+  pub home : NormalState
+  pub sees : SeesAck ack x home
+  pub rest : GoesOnFrom ack report room push home y
 
 -- The mixer had not ended, and sees no Exit acknowledged. By what it then saw it went on, and pushed
 pub record TurnsBy (push : Push) (x y : NormalState) : Type 0 where
@@ -101,8 +103,10 @@ abbrev pub Does : Answer → NormalState → NormalState → Type 0
 Does Ended x y = Stops x y
 Does (Turned mixed pushed) x y = TurnsBy pushed x y × (mixed ≡ has_mixed y)
 
--- A turn, by what it answers
+-- A turn, by what it answers: it begins, in the first turn the hands are split off, and then it does the rest
 pub record TurnMade (answer : Answer) (x y : NormalState) : Type 0 where
   pub begun : NormalState
   pub begins : Begins x begun
-  pub does : Does answer begun y
+  pub handed : NormalState
+  pub hands : HasHands begun handed
+  pub does : Does answer handed y

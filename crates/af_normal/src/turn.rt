@@ -104,7 +104,6 @@ impl NormalMixer {
 
     // What follows once the acknowledgement was seen and the proxies are home.
     fn go_on<L: Ledger>(&mut self, links: &Links<'_>, ack: bool, steps: &mut Steps<L>) -> Turn {
-        self.make_hands(links, steps);
         let (report, room) = self.learn(links, steps);
         self.serve_all(links, &report, steps);
         self.mutate(links, room);
@@ -124,6 +123,7 @@ impl NormalMixer {
     pub fn turn<L: Ledger>(&mut self, links: &Links<'_>, steps: &mut Steps<L>) -> Turn
     {
         self.begin();
+        self.make_hands(links, steps);
         if self.ended {
             return self.stop();
         }
