@@ -2,6 +2,7 @@ pub mod AllMixed
 pub mod Coming
 pub mod Commands
 pub mod Editing
+pub mod Making
 pub mod Mixing
 pub mod Mutating
 pub mod Order

@@ -1,17 +1,49 @@
 -- How a turn edits the draft as one mutation, and pushes it.
-use Rattle.std.specs.Prelude.{◌≡◌, ℕ, zero, suc, ◌==◌, ◌||◌, true, false, if◌then◌else◌, MatchBool, length}
+use Rattle.std.specs.Prelude.{◌≡◌, ℕ, zero, suc, ◌<◌, ◌≤◌, ◌^◌, ◌==◌, ◌||◌, true, false, if◌then◌else◌, MatchBool, length, Some}
 use Rattle.af_base.specs.declared.state.Command.{Command}
 use Rattle.af_base.specs.declared.state.Push.{Push}
+use Rattle.af_base.specs.declared.state.FastState.{FastState}
 use Rattle.af_base.specs.Command.{code_of}
+use Rattle.af_base.specs.Log.{slots}
 use Rattle.af_model.specs.Draft.{commanded as with_command}
-use Rattle.af_server.specs.Order.{ServerState}
+use Rattle.af_model.specs.StateQueue.{slot_of, carries}
+use Rattle.af_server.specs.Order.{ServerState, IsInOrder}
 use Rattle.af_stateq.specs.Answers.{WasPushed}
-use Rattle.af_stateq.specs.Mutates.{Mutates}
+use Rattle.af_stateq.specs.Mutates.{Mutates, is_out}
+use Rattle.af_link.specs.Names.{IsStreamOf}
 use Rattle.af_link.specs.declared.names.StreamNames.{StreamNames}
 use Rattle.af_life.specs.Edits.{must_leave, must_enter, next_command, is_exit}
-use Rattle.af_life.specs.Kept.{pipe_size, track_at}
+use Rattle.af_life.specs.declared.kept.TrackKept.{TrackKept}
+use Rattle.af_life.specs.Kept.{pipe_size, setting_of, slot_number, track_at}
 use Rattle.af_normal.specs.Editing.{LetsGo, Lends}
+use Rattle.af_normal.specs.Mixing.{stream_at}
 use Rattle.af_normal.specs.State.{NormalState, setup_of}
+
+-- a slot for tracks
+abbrev pub IsSlot : ℕ → Type 0
+IsSlot k = (1 ≤ k) × (k < slots)
+
+-- A track may be detached where it is due: the draft carries its slot
+pub record MayLeave (s : TrackKept) (draft : FastState) : Type 0 where
+  pub slot : IsSlot (slot_number s)
+  pub carried : carries draft (slot_number s) ≡ true
+
+-- The track i may be attached where it is due: no item is out at its slot, and its stream proxy is there, in order and of its block
+pub record MayEnter (i : ℕ) (x : NormalState) : Type 0 where
+  pub slot : IsSlot (slot_number (track_at x.tracks i))
+  pub free : is_out x.mutator.out (slot_number (track_at x.tracks i)) ≡ false
+  pub stream : ServerState
+  pub is_home : stream_at x.streams i ≡ Some stream
+  pub in_order : IsInOrder stream
+  pub fits : (names : StreamNames) → x.mutator.past.key ≡ Some names → IsStreamOf names.blocks i stream
+  pub room : (slot_of x.mutator.draft (slot_number (track_at x.tracks i))).generation < 2 ^ 31
+
+-- the track i may be edited, and counts have room
+pub record IsEditable (i : ℕ) (x : NormalState) : Type 0 where
+  pub leaves : must_leave (track_at x.tracks i) ≡ true → MayLeave (track_at x.tracks i) x.mutator.draft
+  pub enters : must_enter (track_at x.tracks i) ≡ true → MayEnter i x
+  pub scale : (setting_of (setup_of x) i).scale ≤ 4096
+  pub room : x.mutator.draft.tracks_gen < 2 ^ 31
 
 -- the track i is detached or attached, where that is due
 abbrev pub EditsTrack : ℕ → NormalState → NormalState → Type 0

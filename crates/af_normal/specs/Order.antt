@@ -97,3 +97,14 @@ pub record IsOpen (links : Links) (edits : ℕ) (m : NormalState) : Type 0 where
   pub generations : (k : ℕ) → (slot_of m.mutator.draft k).generation ≤ edits
   pub changes : m.mutator.draft.tracks_gen ≤ edits
   pub editing : m.mutator.editing ≡ true
+
+-- In a turn, once it has begun and the hands are there, after so many turns before
+pub record IsGoing (links : Links) (turns : ℕ) (m : NormalState) : Type 0 where
+  pub tied : IsTied links m
+  pub small : IsSmall turns (setup_of m) (kept_of m)
+  pub hands : HaveHands links.streams.now (length m.tracks) m.hands
+  pub turns_room : HasTurns (length m.tracks) m.entry.tracks m.spare_turns
+  pub takes_room : HasTakes (asked (setup_of m)) (length m.tracks) m.entry.mixes m.spare_takes
+  pub none : (m.entry.tracks.items ≡ []) × (m.entry.mixes.items ≡ [])
+  pub idle : m.mutator.editing ≡ false
+  pub next : m.turns ≡ turns + 1

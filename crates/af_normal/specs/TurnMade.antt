@@ -1,5 +1,6 @@
 -- A whole turn as its steps, one after the other.
-use Rattle.std.specs.Prelude.{◌≡◌, ℕ, ◌==◌, ◌&&◌, not, nat_le, Bool, true, false, MatchBool, length, map, []}
+use Rattle.std.specs.Prelude.{◌≡◌, ℕ, ◌-◌, ◌<◌, ◌^◌, ◌==◌, ◌&&◌, not, nat_le, Bool, true, false, MatchBool, length, map, []}
+use Rattle.af_base.specs.Log.{slots}
 use Rattle.af_base.specs.declared.report.Report.{Report}
 use Rattle.af_base.specs.declared.state.Push.{Push}
 use Rattle.af_base.specs.Turn.{Turn, TrackSeen, TakeSeen, ended_turn, take_seen, track_seen, turn_of}
@@ -7,18 +8,25 @@ use Rattle.af_stateq.specs.Answers.{WasAcked}
 use Rattle.af_stateq.specs.Mutates.{Mutates}
 use Rattle.af_server.specs.Order.{ServerState}
 use Rattle.af_link.specs.PipeEnds.{HasPut, in_made}
+use Rattle.af_link.specs.declared.links.Links.{Links}
 use Rattle.af_link.specs.declared.names.StreamNames.{StreamNames}
 use Rattle.af_life.specs.Edits.{is_exit}
-use Rattle.af_life.specs.Kept.{asked}
+use Rattle.af_life.specs.Kept.{asked, slot_number, track_at}
 use Rattle.af_life.specs.Plays.{put_by}
 use Rattle.af_normal.specs.Mixing.{Mixing, MixesTo}
 use Rattle.af_normal.specs.Mutating.{EditsAll, Pushes}
-use Rattle.af_normal.specs.Ready.{serving_of}
+use Rattle.af_normal.specs.Ready.{AreOwn, serving_of}
 use Rattle.af_normal.specs.Serving.{ServesTo}
 use Rattle.af_normal.specs.State.{NormalState, setup_of}
 use Rattle.af_normal.specs.declared.turn.Turn.{Turn as Answer}
 use Rattle.af_normal.specs.declared.turn.Turn.TheVariants.{Turned, Ended}
 use Rattle.af_normal.specs.Turning.{Begins, SeesAck, HasHands, Learns, learnt_by, with_mutator}
+
+-- The track i may be served: its proxies and its hand are of its blocks, its slot is one, and it has settled few commands
+pub record IsServable (links : Links) (i : ℕ) (x : NormalState) : Type 0 where
+  pub slot : slot_number (track_at x.tracks i) < slots
+  pub few : (track_at x.tracks i).settled < 2 ^ 24 - 256
+  pub own : AreOwn links x.streams x.commands x.hands i
 
 -- the tracks are served, by what was learnt, each by what those before it left
 pub record ServesAll (report : Report) (x y : NormalState) : Type 0 where
@@ -50,14 +58,10 @@ told_turn room ack report push x = record {
   mixes = map take_seen x.entry.mixes.items;
 }
 
--- A turn that goes on, from its begin to its entry, by the acknowledgement, the report and the room that it saw, and its push
-pub record GoesOnBy (ack : Bool) (report : Report) (room : ℕ) (push : Push) (x y : NormalState) : Type 0 where
-  pub home : NormalState
-  pub sees : SeesAck ack x home
-  pub handed : NormalState
-  pub hands : HasHands home handed
+-- What follows once what came home is home, up to the entry, by the report and the room that it saw, and its push
+pub record GoesOnFrom (ack : Bool) (report : Report) (room : ℕ) (push : Push) (home y : NormalState) : Type 0 where
   pub learnt : NormalState
-  pub learns : Learns report room handed learnt
+  pub learns : Learns report room home learnt
   pub served : NormalState
   pub serves : ServesAll report learnt served
   pub edited : NormalState
@@ -68,6 +72,12 @@ pub record GoesOnBy (ack : Bool) (report : Report) (room : ℕ) (push : Push) (x
   pub plays : PlaysAll room pushed played
   pub tells : turn_of y.entry ≡ told_turn room ack report push played
   pub leaves : y ≡ record played { entry = y.entry }
+
+-- a turn that goes on, from its look at the acknowledgement
+pub record GoesOnBy (ack : Bool) (report : Report) (room : ℕ) (push : Push) (x y : NormalState) : Type 0 where
+  pub home : NormalState
+  pub sees : SeesAck ack x home
+  pub rest : GoesOnFrom ack report room push home y
 
 -- The mixer had not ended, and sees no Exit acknowledged. By what it then saw it went on, and pushed
 pub record TurnsBy (push : Push) (x y : NormalState) : Type 0 where
@@ -93,8 +103,10 @@ abbrev pub Does : Answer → NormalState → NormalState → Type 0
 Does Ended x y = Stops x y
 Does (Turned mixed pushed) x y = TurnsBy pushed x y × (mixed ≡ has_mixed y)
 
--- A turn, by what it answers
+-- A turn, by what it answers: it begins, in the first turn the hands are split off, and then it does the rest
 pub record TurnMade (answer : Answer) (x y : NormalState) : Type 0 where
   pub begun : NormalState
   pub begins : Begins x begun
-  pub does : Does answer begun y
+  pub handed : NormalState
+  pub hands : HasHands begun handed
+  pub does : Does answer handed y

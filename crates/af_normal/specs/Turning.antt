@@ -6,11 +6,12 @@ use Rattle.af_model.specs.Cycles.{Listed}
 use Rattle.af_model.specs.declared.newest.ReaderEvent.TheVariants.{Load}
 use Rattle.af_cblk.specs.Parts.{client_saw_front}
 use Rattle.af_cblk.specs.Rule.{new_hand}
-use Rattle.af_cblk.specs.Sides.{HandSide}
+use Rattle.af_cblk.specs.Sides.{HandSide, Made}
 use Rattle.af_server.specs.Order.{ServerState}
 use Rattle.af_server.specs.Slot.{listed}
 use Rattle.af_stateq.specs.Answers.{WasAcked}
-use Rattle.af_stateq.specs.Mutates.{Mutates}
+use Rattle.af_stateq.specs.Mutates.{InDraft, Mutates}
+use Rattle.af_link.specs.Names.{IsStreamOf}
 use Rattle.af_link.specs.PipeEnds.{in_made, room_of}
 use Rattle.af_link.specs.declared.names.StreamNames.{StreamNames}
 use Rattle.af_life.specs.Heard.{known_by}
@@ -31,10 +32,15 @@ pub record Begins (x y : NormalState) : Type 0 where
 abbrev pub with_mutator : Mutates ServerState StreamNames → NormalState → NormalState
 with_mutator m x = record x { mutator = m }
 
+-- a proxy belongs to a track by the names
+abbrev pub stream_fits : StreamNames → ℕ → ServerState → Type 0
+stream_fits names track s = IsStreamOf names.blocks track s
+
 -- where the last push was seen acknowledged, each proxy that is in hand comes home
 pub record SeesAck (ack : Bool) (x y : NormalState) : Type 0 where
   pub mutator : Mutates ServerState StreamNames
   pub acked : WasAcked x.mutator ack mutator
+  pub held : InDraft stream_fits mutator
   pub comes : MatchBool ack (WelcomesTo (length x.tracks) (with_mutator mutator x) y) (y ≡ with_mutator mutator x)
 
 -- ## The hands
@@ -46,6 +52,13 @@ without_hand s = record s { pass = record s.pass { has_hand = false }; shown = N
 -- that hand
 abbrev pub hand_of : ServerState → HandSide
 hand_of s = record { id = s.pass.id; part = new_hand s.pass.part.shape }
+
+-- the proxy of the track i is home, of its block and in order, and still has its hand
+pub record HasWhole (blocks : List Made) (i : ℕ) (streams : List (Option ServerState)) : Type 0 where
+  pub stream : ServerState
+  pub is_home : stream_at streams i ≡ Some stream
+  pub fits : IsStreamOf blocks i stream
+  pub has_hand : stream.pass.has_hand ≡ true
 
 -- the proxy of the track i, which is home, gives its hand
 pub record Hands (i : ℕ) (x y : NormalState) : Type 0 where

@@ -7,13 +7,16 @@
 
 mod acks;
 mod attend;
+mod buffer;
 mod commands;
 mod edits;
+mod make;
 mod mixer;
 mod plays;
 mod serve;
 mod sums;
 mod turn;
 
+pub use make::{TrackSetup, Tracks};
 pub use mixer::NormalMixer;
 pub use turn::Turn;

@@ -1,5 +1,5 @@
 //! The tracks' part of a turn, one after the other.
-ghost use Rattle.std.specs.Prelude.{◌≡◌, ◌+◌, ◌-◌, ◌<◌, ◌^◌, [], ◌∷◌, ◌++◌, false, length, Some};
+ghost use Rattle.std.specs.Prelude.{◌≡◌, ℕ, ◌+◌, ◌-◌, ◌<◌, ◌^◌, [], ◌∷◌, ◌++◌, false, length, Some};
 ghost use Rattle.af_base.specs.Log.{slots};
 ghost use Rattle.af_base.specs.Turn.{track_seen};
 ghost use Rattle.af_server.specs.Order.{IsInOrder, ServerState};
@@ -11,7 +11,9 @@ ghost use Rattle.af_base.specs.declared.turn.TrackTurn.{TrackTurn as Record};
 ghost use Rattle.af_normal.specs.Mixing.{stream_at};
 ghost use Rattle.af_normal.specs.Ready.{AreOwn, HaveRoom, serving_of};
 ghost use Rattle.af_normal.specs.Serving.{AttendsAt, known_at, ServesBy, ServesTrack};
+ghost use Rattle.af_normal.specs.Order.{HasTurns};
 ghost use Rattle.af_normal.specs.State.{setup_of};
+ghost use Rattle.af_normal.specs.TurnMade.{IsServable, ServesAll};
 
 use crate::attend::{NOTHING_HEARD, attend, known};
 use crate::mixer::NormalMixer;
@@ -170,5 +172,26 @@ impl NormalMixer {
             self.attend_to(links, i, report, &mut seen, steps);
         }
         self.entry.tracks.push(seen);
+    }
+
+    /// Each track has its part of the turn, in order.
+    pub(crate) fn serve_all<L: Ledger>(
+        &mut self,
+        links: &Links<'_>,
+        report: &Report,
+        steps: &mut Steps<L>,
+    )
+        requires sizes { (length self.old.streams ≡ length self.old.tracks) × (length self.old.settings ≡ length self.old.tracks) }
+        requires tracks { (i : ℕ) → i < length self.old.tracks → IsServable links.now i self.old }
+        requires turns { HasTurns (length self.old.tracks) self.old.entry.tracks self.old.spare_turns }
+        requires none { self.old.entry.tracks.items ≡ [] }
+        ensures serves { ServesAll report.now self.old self.new }
+        ensures own { (i : ℕ) → i < length self.old.tracks → AreOwn links.now self.new.streams self.new.commands self.new.hands i }
+        ensures turns { HasTurns (length self.old.tracks) self.new.entry.tracks self.new.spare_turns }
+        ensures entry { self.new.entry ≡ (record self.old.entry { tracks = self.new.entry.tracks }) }
+    {
+        for i in 0..self.tracks.len() {
+            self.serve(links, i, report, steps);
+        }
     }
 }

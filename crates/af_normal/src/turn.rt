@@ -1,5 +1,15 @@
 //! A turn of the normal mixer.
-use af_base::Push;
+ghost use Rattle.std.specs.Prelude.{◌≡◌, ℕ, ◌+◌, ◌*◌, ◌<◌, ◌≤◌, ◌^◌, ◌++◌, [], true, false, length, reverse, map, All, Some, slice_get};
+ghost use Rattle.af_base.specs.Turn.{Turn as Seen, turn_of, track_seen, take_seen};
+ghost use Rattle.af_link.specs.PipeEnds.{in_made};
+ghost use Rattle.af_server.specs.Order.{IsServerOf};
+ghost use Rattle.af_normal.specs.Mixing.{stream_at};
+ghost use Rattle.af_normal.specs.Turning.{Begins, Hands, HasHands, HandsTo, HasWhole, Learns};
+
+use crate::mixer::NormalMixer;
+use af_base::{Items, Push, Report, Steps};
+use af_link::Links;
+use std::sync::ledger::Ledger;
 
 /// What a turn answers.
 #[derive(Clone, Copy, Debug, PartialEq, Eq)]
@@ -8,4 +18,122 @@ pub enum Turn {
     Turned { mixed: bool, pushed: Push },
     /// The mixer has ended.
     Ended,
+}
+
+// All items of a list go behind those of another.
+fn give_back<T: Drop>(from: &mut Items<T>, to: &mut Items<T>)
+    requires room { length to.old.items + length from.old.items ≤ to.old.room }
+    ensures empty { from.new ≡ record from.old { items = [] } }
+    ensures moved { to.new ≡ record to.old { items = to.old.items ++ reverse from.old.items } }
+{
+    for _ in 0..from.as_slice().len() {
+        let Some(item) = from.pop() else {
+            unreachable!()
+        };
+        to.push(item);
+    }
+}
+
+impl NormalMixer {
+    // One turn more is counted, and the last entry's lists are emptied.
+    fn begin(&mut self)
+        requires few { self.old.turns < 2 ^ 31 }
+        requires turns { length self.old.spare_turns.items + length self.old.entry.tracks.items ≤ self.old.spare_turns.room }
+        requires takes { length self.old.spare_takes.items + length self.old.entry.mixes.items ≤ self.old.spare_takes.room }
+        ensures begins { Begins self.old self.new }
+        ensures turns { self.new.spare_turns ≡ (record self.old.spare_turns { items = self.old.spare_turns.items ++ reverse self.old.entry.tracks.items }) }
+        ensures takes { self.new.spare_takes ≡ (record self.old.spare_takes { items = self.old.spare_takes.items ++ reverse self.old.entry.mixes.items }) }
+        ensures rooms { (self.new.entry.tracks.room ≡ self.old.entry.tracks.room) × (self.new.entry.mixes.room ≡ self.old.entry.mixes.room) }
+    {
+        self.turns += 1;
+        give_back(&mut self.entry.tracks, &mut self.spare_turns);
+        give_back(&mut self.entry.mixes, &mut self.spare_takes);
+    }
+
+    // The stream proxy of a track, which is home, gives its hand.
+    fn split_hand<L: Ledger>(&mut self, links: &Links<'_>, i: usize, steps: &mut Steps<L>)
+        requires track { (i < length self.old.streams) × (i < length self.old.tracks) × (i < length links.now.streams.now) }
+        requires next { length self.old.hands ≡ i }
+        requires whole { HasWhole links.now.streams.now i self.old.streams }
+        ensures hands { Hands i self.old self.new }
+    {
+        let Some(server) = &mut self.streams[i] else {
+            unreachable!()
+        };
+        let hand = server.hand(&links.streams[i], steps);
+        self.hands.push_reserved(hand);
+    }
+
+    // In the first turn each stream proxy gives its hand.
+    fn make_hands<L: Ledger>(&mut self, links: &Links<'_>, steps: &mut Steps<L>)
+        requires sizes { (length self.old.streams ≡ length self.old.tracks) × (length self.old.tracks ≤ length links.now.streams.now) }
+        requires whole { self.old.hands ≡ [] → (i : ℕ) → i < length self.old.tracks → HasWhole links.now.streams.now i self.old.streams }
+        ensures hands { HasHands self.old self.new }
+    {
+        if !self.hands.is_empty() {
+            return;
+        }
+        for i in 0..self.tracks.len() {
+            self.split_hand(links, i, steps);
+        }
+    }
+
+    // The report is loaded, and the pipe's room is read.
+    fn learn<L: Ledger>(&mut self, links: &Links<'_>, steps: &mut Steps<L>) -> (Report, u32)
+        requires report { self.old.reader.cell ≡ links.now.report.now }
+        requires pipe { in_made self.old.pipe ≡ links.now.pipe.now }
+        ensures learns { Learns result.0 result.1 self.old self.new }
+    {
+        let report = self.ends.0.load(links.report, steps);
+        let room = self.ends.1.room(links.pipe, steps);
+        (report, room)
+    }
+
+    // The rest of the entry is filled.
+    fn note(&mut self, room: u32, ack: bool, cycle: u64, push: Push)
+        ensures tells { turn_of self.new.entry ≡ record { ended = false; room = room; ack = ack; cycle = cycle; tracks = map track_seen self.old.entry.tracks.items; push = push; mixes = map take_seen self.old.entry.mixes.items } }
+        ensures same { self.new ≡ (record self.old { entry = self.new.entry }) }
+        ensures lists { (self.new.entry.tracks ≡ self.old.entry.tracks) × (self.new.entry.mixes ≡ self.old.entry.mixes) }
+    {
+        self.entry.ended = false;
+        self.entry.room = room;
+        self.entry.ack = ack;
+        self.entry.cycle = cycle;
+        self.entry.push = push;
+    }
+
+    // What follows once the acknowledgement was seen and the proxies are home.
+    fn go_on<L: Ledger>(&mut self, links: &Links<'_>, ack: bool, steps: &mut Steps<L>) -> Turn {
+        let (report, room) = self.learn(links, steps);
+        self.serve_all(links, &report, steps);
+        self.mutate(links, room);
+        let pushed = self.push(links, steps);
+        let mixed = self.play(links, room, steps);
+        self.note(room, ack, report.cycle, pushed);
+        Turn::Turned { mixed, pushed }
+    }
+
+    // The mixer has ended.
+    fn stop(&mut self) -> Turn {
+        self.ended = true;
+        self.entry.end();
+        Turn::Ended
+    }
+
+    pub fn turn<L: Ledger>(&mut self, links: &Links<'_>, steps: &mut Steps<L>) -> Turn
+    {
+        self.begin();
+        self.make_hands(links, steps);
+        if self.ended {
+            return self.stop();
+        }
+        let ack = self.mutator.acked(links.queue, steps);
+        if ack && self.exits {
+            return self.stop();
+        }
+        if ack {
+            self.welcome_all();
+        }
+        self.go_on(links, ack, steps)
+    }
 }
