@@ -6,7 +6,7 @@ use Rattle.af_model.specs.StateQueue.{slot_of, carries, IsState}
 use Rattle.af_life.specs.declared.state.LifeState.TheVariants.{Absent}
 use Rattle.af_life.specs.declared.kept.TrackKept.{TrackKept}
 use Rattle.af_life.specs.State.{is_among}
-use Rattle.af_life.specs.Kept.{NormalKept, track_at, is_home, is_lent, is_returning, slot_number}
+use Rattle.af_life.specs.Kept.{track_at, is_home, is_lent, is_returning, slot_number}
 use Rattle.af_life.specs.Obeys.{holds}
 
 -- A track has a slot for tracks, or none: none before its OPEN. Without one its proxy is home
@@ -26,8 +26,8 @@ abbrev pub AreAlone : List TrackKept → Type 0
 AreAlone tracks = (i j slot : ℕ) → holds slot (track_at tracks i) ≡ true → holds slot (track_at tracks j) ≡ true → i ≡ j
 
 -- Each track with a slot has it alone, and the draft carries it where the track is lent
-pub record IsSound (m : NormalKept) : Type 0 where
-  pub slotted : (i : ℕ) → IsSlotted (track_at m.tracks i)
-  pub drafted : (i : ℕ) → IsDrafted m.draft i (track_at m.tracks i)
-  pub alone : AreAlone m.tracks
-  pub state : IsState m.draft
+pub record IsSound (tracks : List TrackKept) (draft : FastState) : Type 0 where
+  pub slotted : (i : ℕ) → IsSlotted (track_at tracks i)
+  pub drafted : (i : ℕ) → IsDrafted draft i (track_at tracks i)
+  pub alone : AreAlone tracks
+  pub state : IsState draft

@@ -15,7 +15,7 @@ use Rattle.af_life.specs.declared.kept.TrackKept.{TrackKept}
 use Rattle.af_life.specs.declared.track.Life.{Life}
 use Rattle.af_life.specs.Kept.{Setup, NormalKept, track_at, new_track, slot_number, is_home, is_lent, is_returning, setting_of, plays}
 use Rattle.af_life.specs.Obeys.{holds}
-use Rattle.af_life.specs.Edits.{must_leave, must_enter, let_go, lend, entered, lent_by}
+use Rattle.af_life.specs.Edits.{must_leave, must_enter, entered, lent_by}
 use Rattle.af_life.specs.Sound.{IsSlotted, IsDrafted, AreAlone, IsSound}
 use Rattle.af_normal.proofs.OrderSlots.{alone_set, TakesNone, has_slot, slot_is, slot_of_away, away_holds, set_each}
 
@@ -69,7 +69,7 @@ false_both : (a b : Bool) → a ≡ false → (a && b) ≡ false
 false_both true b e = absurd (true≢false e)
 false_both false b e = refl
 
-module _ (m : NormalKept) (sound : IsSound m) where
+module _ (m : NormalKept) (sound : IsSound m.tracks m.draft) where
   -- the slot of a track that isn't home
   pub away_slot : (i : ℕ) → is_home (track_at m.tracks i).holder ≡ false → (1 ≤ slot_number (track_at m.tracks i)) × (slot_number (track_at m.tracks i) < slots)
   away_slot i away = (sound.slotted i).slot (slot_of_away (track_at m.tracks i) (sound.slotted i) away)
@@ -89,12 +89,21 @@ module _ (m : NormalKept) (sound : IsSound m) where
     own = (λ away. subst (λ (t : FastTrack). (t.track ≡ j) × (t.generation ≡ s.generation)) (sym (same away).1) (d.own away));
   }
 
+  -- ## A proxy comes home
+
+  pub sound_home : (i : ℕ) → is_home (track_at m.tracks i).holder ≡ false → IsSound (slice_set m.tracks i (record (track_at m.tracks i) { holder = Home })) m.draft
+  sound_home i away = record {
+    slotted = set_each (λ (j : ℕ) (x : TrackKept). IsSlotted x) m.tracks i (record (track_at m.tracks i) { holder = Home }) (record { slot = (sound.slotted i).slot; unopened = (sound.slotted i).unopened; homely = (λ h. refl) }) sound.slotted;
+    drafted = set_each (IsDrafted m.draft) m.tracks i (record (track_at m.tracks i) { holder = Home }) (record { lent = no; returning = no; own = (λ h. absurd (true≢false h)) }) sound.drafted;
+    alone = alone_set m.tracks i (record (track_at m.tracks i) { holder = Home }) sound.alone
+        (λ (k : ℕ) h. let parts = has_slot k (record (track_at m.tracks i) { holder = Home }) h in
+        inl (slot_is k (track_at m.tracks i) parts.0 parts.1 (both_false (track_at m.tracks i).life.ended (is_home (track_at m.tracks i).holder) away)));
+    state = sound.state;
+  }
+
   -- ## A track leaves
 
   module _ (i : ℕ) (leaves : must_leave (track_at m.tracks i) ≡ true) where
-    s : TrackKept
-    s = track_at m.tracks i
-
     pub leaver_away : is_home (track_at m.tracks i).holder ≡ false
     leaver_away = lent_away (track_at m.tracks i).holder (both _ _ leaves).0
 
@@ -107,14 +116,10 @@ module _ (m : NormalKept) (sound : IsSound m) where
     pub leaver_inside : i < length m.tracks
     leaver_inside = inside m.tracks i (slot_of_away (track_at m.tracks i) (sound.slotted i) leaver_away)
 
-    gone : TrackKept
-    gone = record (track_at m.tracks i) { holder = Returning }
-
     abbrev less : FastState
     less = detached (slot_number (track_at m.tracks i)) m.draft
 
-    pub sound_go : IsSound (let_go i m)
-    unfolding let_go
+    pub sound_go : IsSound (slice_set m.tracks i (record (track_at m.tracks i) { holder = Returning })) (detached (slot_number (track_at m.tracks i)) m.draft)
     sound_go = record {
       slotted = set_each (λ (j : ℕ) (x : TrackKept). IsSlotted x) m.tracks i (record (track_at m.tracks i) { holder = Returning })
           (record { slot = (sound.slotted i).slot; unopened = (sound.slotted i).unopened; homely = (λ none. absurd (true≢false (sym ((sound.slotted i).homely none) ∙ leaver_away))) }) sound.slotted;
@@ -164,8 +169,7 @@ module _ (m : NormalKept) (sound : IsSound m) where
     abbrev scale : ℕ
     scale = (setting_of c i).scale
 
-    pub sound_lend : scale ≤ 4096 → IsSound (lend c i own m)
-    unfolding lend
+    pub sound_lend : (setting_of c i).scale ≤ 4096 → IsSound (slice_set m.tracks i (lent_by (entered c i m) own (track_at m.tracks i))) (entered c i m)
     sound_lend fine = record {
       slotted = set_each (λ (j : ℕ) (x : TrackKept). IsSlotted x) m.tracks i (lent_by more own (track_at m.tracks i))
           (record { slot = (sound.slotted i).slot; unopened = (sound.slotted i).unopened; homely = (λ none. absurd (true≢false (sym (both _ _ (both _ _ enters).1).0 ∙ none))) }) sound.slotted;

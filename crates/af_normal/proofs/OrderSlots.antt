@@ -201,18 +201,18 @@ module _ (c : Setup) (tracks : List TrackKept) (i : ℕ) (s t : TrackKept) (is :
       ]
 
 -- after one track is served
-pub sound_one : (c : Setup) (k : Learnt) (seen : List TrackSeen) (m : NormalKept) (tracks : List TrackKept) (i : ℕ) → IsSound (record m { tracks = tracks }) → IsSound (record m { tracks = slice_set tracks i (served c k (seen_at seen i).looks tracks i) })
-sound_one c k seen m tracks i h =
+pub sound_one : (c : Setup) (k : Learnt) (seen : List TrackSeen) (draft : FastState) (tracks : List TrackKept) (i : ℕ) → IsSound tracks draft → IsSound (slice_set tracks i (served c k (seen_at seen i).looks tracks i)) draft
+sound_one c k seen draft tracks i h =
     let s : TrackKept = track_at tracks i in
     let t : TrackKept = served c k (seen_at seen i).looks tracks i in
     let goes : Goes (slot_for c tracks i) s t = goes_served c k (seen_at seen i).looks tracks i (h.slotted i).unopened in record {
       slotted = set_each (λ (j : ℕ) (x : TrackKept). IsSlotted x) tracks i t (slotted c tracks i s t refl goes (h.slotted i)) h.slotted;
-      drafted = set_each (IsDrafted m.draft) tracks i t (drafted c tracks i s t refl goes m.draft i (h.slotted i) (h.drafted i)) h.drafted;
+      drafted = set_each (IsDrafted draft) tracks i t (drafted c tracks i s t refl goes draft i (h.slotted i) (h.drafted i)) h.drafted;
       alone = alone_set tracks i t h.alone (takes_none c tracks i s t refl goes);
       state = h.state;
     }
 
 -- and after the first ones are
-pub sound_served : (c : Setup) (k : Learnt) (seen : List TrackSeen) (m : NormalKept) (tracks : List TrackKept) (n : ℕ) → IsSound (record m { tracks = tracks }) → IsSound (record m { tracks = served_to c k seen tracks n })
-sound_served c k seen m tracks zero h = h
-sound_served c k seen m tracks (suc n) h = sound_one c k seen m (served_to c k seen tracks n) n (sound_served c k seen m tracks n h)
+pub sound_served : (c : Setup) (k : Learnt) (seen : List TrackSeen) (draft : FastState) (tracks : List TrackKept) (n : ℕ) → IsSound tracks draft → IsSound (served_to c k seen tracks n) draft
+sound_served c k seen draft tracks zero h = h
+sound_served c k seen draft tracks (suc n) h = sound_one c k seen draft (served_to c k seen tracks n) n (sound_served c k seen draft tracks n h)

@@ -1,0 +1,173 @@
+-- An edit of the draft keeps the order.
+use Rattle.std.proofs.Common.{◌≡◌, ◌≢◌, ℕ, zero, suc, ◌+◌, ◌<◌, ◌≤◌, ◌&&◌, Bool, true, false, true≢false, is_some, MatchBool, sym, refl, ap, subst, ◌∙◌, List, [], ◌∷◌, length, length-set, All, Option, Some, None, ⊎_elim, get_or-set_same, get_or-set_other, arith}
+use Rattle.std.specs.Prelude.{slice_set, slice_index_or}
+use Rattle.std.proofs.lemmas.Bool.{cases_eq}
+use Rattle.std.proofs.lemmas.List.Elements.{All-get_or}
+use Rattle.af_base.specs.declared.state.FastTrack.{FastTrack}
+use Rattle.af_base.specs.Log.{slots}
+use Rattle.af_model.specs.StateQueue.{slot_of, no_track, carries}
+use Rattle.af_server.specs.Order.{ServerState}
+use Rattle.af_server.specs.Slot.{listed}
+use Rattle.af_stateq.specs.Mutates.{is_out}
+use Rattle.af_link.specs.Names.{IsStreamOf}
+use Rattle.af_link.specs.declared.links.Links.{Links}
+use Rattle.af_life.specs.declared.kept.Holder.TheVariants.{Home, Lent, Returning}
+use Rattle.af_life.specs.declared.kept.Setting.{Setting}
+use Rattle.af_life.specs.declared.kept.TrackKept.{TrackKept}
+use Rattle.af_life.specs.Heard.{known_by}
+use Rattle.af_life.specs.Kept.{Setup, track_at, slot_number, is_home, setting_of, no_setting}
+use Rattle.af_life.specs.Edits.{must_leave, must_enter, lent_by, entered}
+use Rattle.af_normal.specs.Editing.{LetsGo, Lends, lets_go, lends}
+use Rattle.af_normal.specs.Mixing.{stream_at}
+use Rattle.af_normal.specs.Mutating.{EditsTrack}
+use Rattle.af_normal.specs.Order.{AreThere, HasSizes, IsOut, IsTied, IsOpen}
+use Rattle.af_normal.specs.State.{NormalState, setup_of, kept_of}
+use Rattle.af_normal.proofs.OrderEdits.{at_here, at_other, leaver_away, leaver_slot, leaver_inside, sound_go, comer_slot, comer_home, comer_inside, comer_holds, sound_lend, apart}
+use Rattle.af_normal.proofs.OrderSlots.{away_holds}
+use Rattle.af_normal.proofs.OrderOut.{out_moved, out_more}
+
+no : {A : Type 0} → false ≡ true → A
+no h = absurd (true≢false (sym h))
+
+pub scale_fits : (c : Setup) (i : ℕ) → All (λ (s : Setting). s.scale ≤ 4096) c.settings → i < length c.settings → (setting_of c i).scale ≤ 4096
+scale_fits c i all lt = All-get_or (λ (s : Setting). s.scale ≤ 4096) c.settings i no_setting lt all
+
+module _ (links : Links) (edits i : ℕ) (x : NormalState) (open : IsOpen links edits x) where
+  abbrev s : TrackKept
+  s = track_at x.tracks i
+
+  abbrev k : ℕ
+  k = slot_number (track_at x.tracks i)
+
+  sizes_with : (t : TrackKept) (streams : ℕ) → streams ≡ length x.streams → HasSizes links (setup_of x) (length (slice_set x.tracks i t)) streams (length x.commands) x.pipe.pass.part.shape.frames
+  sizes_with t streams e = let h = open.tied.sizes in record {
+    frames = h.frames;
+    normal = h.normal;
+    few = (let l : length (slice_set x.tracks i t) ≡ length x.tracks = length-set x.tracks i t in let f = h.few in omega arith);
+    settings = h.settings ∙ sym (length-set x.tracks i t);
+    streams_are = e ∙ h.streams_are ∙ sym (length-set x.tracks i t);
+    commands_are = h.commands_are ∙ sym (length-set x.tracks i t);
+    blocks = subst (λ (n : ℕ). (n ≤ length links.streams.now) × (n ≤ length links.commands.now)) (sym (length-set x.tracks i t)) h.blocks;
+    scales = h.scales;
+    pipe_is = h.pipe_is;
+  }
+
+  module _ (leaves : must_leave (track_at x.tracks i) ≡ true) where
+    abbrev gone : TrackKept
+    gone = record (track_at x.tracks i) { holder = Returning }
+
+    away : is_home (track_at x.tracks i).holder ≡ false
+    away = leaver_away (kept_of x) open.tied.sound i leaves
+
+    lt : i < length x.tracks
+    lt = leaver_inside (kept_of x) open.tied.sound i leaves
+
+    left_there : AreThere (slice_set x.tracks i (record (track_at x.tracks i) { holder = Returning })) x.streams
+    left_there j lj = ⊎_elim
+        (λ (e : j ≡ i). subst (λ (n : ℕ). is_some (stream_at x.streams n) ≡ is_home (track_at (slice_set x.tracks i gone) n).holder) (sym e)
+        (open.tied.proxies.there i lt ∙ away ∙ sym (ap (λ (t : TrackKept). is_home t.holder) (at_here x.tracks i gone lt))))
+        (λ (ne : j ≢ i). open.tied.proxies.there j (let l : length (slice_set x.tracks i gone) ≡ length x.tracks = length-set x.tracks i gone in omega arith) ∙ sym (ap (λ (t : TrackKept). is_home t.holder) (at_other x.tracks i gone j ne)))
+        (cases_eq j i)
+
+    go_open : IsOpen links (edits + 1) (record x { tracks = slice_set x.tracks i (record (track_at x.tracks i) { holder = Returning }); mutator = lets_go (slot_number (track_at x.tracks i)) x.mutator })
+    go_open = record {
+      tied = record {
+        sound = sound_go (kept_of x) open.tied.sound i leaves;
+        sizes = sizes_with gone (length x.streams) refl;
+        proxies = record { there = left_there; streams_of = open.tied.proxies.streams_of; commands_of = open.tied.proxies.commands_of };
+        out = out_moved (kept_of x) open.tied.sound x.mutator.out open.tied.out i gone refl lt away refl;
+        linked = open.tied.linked;
+      };
+      generations = (λ (q : ℕ). let g : (slot_of x.mutator.draft q).generation ≤ edits = open.generations q in omega arith);
+      changes = (let g = open.changes in omega arith);
+      editing = open.editing;
+    }
+
+  module _ (enters : must_enter (track_at x.tracks i) ≡ true) (server : ServerState) where
+    abbrev lent : TrackKept
+    lent = lent_by (entered (setup_of x) i (kept_of x)) (known_by (listed server)) (track_at x.tracks i)
+
+    lt_in : i < length x.tracks
+    lt_in = comer_inside (kept_of x) open.tied.sound (setup_of x) i (known_by (listed server)) enters
+
+    fine : (setting_of (setup_of x) i).scale ≤ 4096
+    fine = scale_fits (setup_of x) i open.tied.sizes.scales (let l = lt_in in let e = open.tied.sizes.settings in omega arith)
+
+    lent_there : AreThere (slice_set x.tracks i (lent_by (entered (setup_of x) i (kept_of x)) (known_by (listed server)) (track_at x.tracks i))) (slice_set x.streams i None)
+    lent_there j lj = ⊎_elim
+        (λ (e : j ≡ i). subst (λ (n : ℕ). is_some (stream_at (slice_set x.streams i None) n) ≡ is_home (track_at (slice_set x.tracks i lent) n).holder) (sym e)
+        (ap is_some (get_or-set_same x.streams i None None (let l = lt_in in let w = open.tied.sizes.streams_are in omega arith)) ∙ sym (ap (λ (t : TrackKept). is_home t.holder) (at_here x.tracks i lent lt_in))))
+        (λ (ne : j ≢ i). ap is_some (get_or-set_other x.streams i j None None ne)
+        ∙ open.tied.proxies.there j (let l : length (slice_set x.tracks i lent) ≡ length x.tracks = length-set x.tracks i lent in omega arith)
+        ∙ sym (ap (λ (t : TrackKept). is_home t.holder) (at_other x.tracks i lent j ne)))
+        (cases_eq j i)
+
+    of_others : (j : ℕ) (p : ServerState) → stream_at (slice_set x.streams i None) j ≡ Some p → IsStreamOf links.streams.now j p
+    of_others j p is = ⊎_elim
+        (λ (e : j ≡ i). no (ap is_some (sym (ap (stream_at (slice_set x.streams i None)) e ∙ get_or-set_same x.streams i None None (let l = lt_in in let w = open.tied.sizes.streams_are in omega arith)) ∙ is)))
+        (λ (ne : j ≢ i). open.tied.proxies.streams_of j p (sym (get_or-set_other x.streams i j None None ne) ∙ is))
+        (cases_eq j i)
+
+    comer_low : (1 ≤ slot_number (track_at x.tracks i)) × (slot_number (track_at x.tracks i) < slots)
+    comer_low = comer_slot (kept_of x) open.tied.sound (setup_of x) i (known_by (listed server)) enters
+
+    raised : (q : ℕ) → (slot_of (entered (setup_of x) i (kept_of x)) q).generation ≤ edits + 1
+    raised q = ⊎_elim
+        (λ (e : q ≡ k). let is : (slot_of (entered (setup_of x) i (kept_of x)) q).generation ≡ (slot_of x.mutator.draft k).generation + 1 =
+        ap (λ (n : ℕ). (slot_of (entered (setup_of x) i (kept_of x)) n).generation) e
+        ∙ ap (λ (t : FastTrack). t.generation) (get_or-set_same x.mutator.draft.slots k _ no_track (let w = open.tied.sound.state.whole in let l = comer_low.1 in omega arith)) in
+        let g : (slot_of x.mutator.draft k).generation ≤ edits = open.generations k in omega arith)
+        (λ (ne : q ≢ k). let is : (slot_of (entered (setup_of x) i (kept_of x)) q).generation ≡ (slot_of x.mutator.draft q).generation =
+        ap (λ (t : FastTrack). t.generation) (get_or-set_other x.mutator.draft.slots k q _ no_track ne) in
+        let g : (slot_of x.mutator.draft q).generation ≤ edits = open.generations q in omega arith)
+        (cases_eq q k)
+
+    lend_open : IsOpen links (edits + 1) (record x { tracks = slice_set x.tracks i (lent_by (lends x i (slot_number (track_at x.tracks i)) server).draft (known_by (listed server)) (track_at x.tracks i)); streams = slice_set x.streams i None; mutator = lends x i (slot_number (track_at x.tracks i)) server })
+    lend_open = record {
+      tied = record {
+        sound = sound_lend (kept_of x) open.tied.sound (setup_of x) i (known_by (listed server)) enters fine;
+        sizes = sizes_with lent (length (slice_set x.streams i None)) (length-set x.streams i None);
+        proxies = record { there = lent_there; streams_of = of_others; commands_of = open.tied.proxies.commands_of };
+        out = out_more (kept_of x) open.tied.sound x.mutator.out open.tied.out i lent refl lt_in comer_low.1 refl;
+        linked = open.tied.linked;
+      };
+      generations = raised;
+      changes = (let g = open.changes in omega arith);
+      editing = open.editing;
+    }
+
+  rests : IsOpen links (edits + 1) x
+  rests = record {
+    tied = open.tied;
+    generations = (λ (q : ℕ). let g : (slot_of x.mutator.draft q).generation ≤ edits = open.generations q in omega arith);
+    changes = (let g = open.changes in omega arith);
+    editing = open.editing;
+  }
+
+  pub edit_keeps : (y : NormalState) → EditsTrack i x y → IsOpen links (edits + 1) y
+  edit_keeps y e = by_leave (must_leave (track_at x.tracks i)) refl e
+    where
+      by_enter : (b : Bool) → must_enter (track_at x.tracks i) ≡ b → MatchBool b (Lends i x y) (y ≡ x) → IsOpen links (edits + 1) y
+      by_enter true is l = subst (IsOpen links (edits + 1)) (sym l.2) (lend_open is l.0)
+      by_enter false is l = subst (IsOpen links (edits + 1)) (sym l) rests
+
+      by_leave : (b : Bool) → must_leave (track_at x.tracks i) ≡ b → MatchBool b (LetsGo i x y) (MatchBool (must_enter (track_at x.tracks i)) (Lends i x y) (y ≡ x)) → IsOpen links (edits + 1) y
+      by_leave true is l = subst (IsOpen links (edits + 1)) (sym l) (go_open is)
+      by_leave false is l = by_enter (must_enter (track_at x.tracks i)) refl l
+
+  -- what an attach wants: the slot of a track that is to enter is free
+  pub comer_free : must_enter (track_at x.tracks i) ≡ true → is_out x.mutator.out (slot_number (track_at x.tracks i)) ≡ false
+  comer_free enters = by_out (is_out x.mutator.out k) refl
+    where
+      abbrev own : _
+      own = known_by (record { shape = record { frames = 0; cells = 0; base = 0; wrap = 0 }; events = [] })
+
+      low : (1 ≤ slot_number (track_at x.tracks i)) × (slot_number (track_at x.tracks i) < slots)
+      low = comer_slot (kept_of x) open.tied.sound (setup_of x) i own enters
+
+      by_out : (b : Bool) → is_out x.mutator.out k ≡ b → b ≡ false
+      by_out false e = refl
+      by_out true e = let whose = open.tied.out.at_slot k low.0 low.1 e in ⊎_elim
+          (λ (same : whose.0 ≡ i). absurd (true≢false (sym (comer_home (kept_of x) open.tied.sound (setup_of x) i own enters) ∙ ap (λ (n : ℕ). is_home (track_at x.tracks n).holder) (sym same) ∙ whose.3)))
+          (λ (ne : whose.0 ≢ i). absurd (apart (kept_of x) open.tied.sound i whose.0 ne (comer_holds (kept_of x) open.tied.sound (setup_of x) i own enters) whose.3 whose.2))
+          (cases_eq whose.0 i)
