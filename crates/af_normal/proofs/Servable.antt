@@ -1,5 +1,5 @@
 -- What a turn that has begun in order may do next.
-use Rattle.std.proofs.Common.{◌≡◌, ◌≢◌, ℕ, zero, suc, ◌+◌, ◌-◌, ◌*◌, ◌^◌, ◌<◌, ◌≤◌, ◌×◌, ◌==◌, Bool, true, false, true≢false, MatchBool, List, [], length, slice_get, Option, Some, None, refl, sym, ap, subst, ◌∙◌, arith}
+use Rattle.std.proofs.Common.{◌≡◌, ◌≢◌, ℕ, zero, suc, ◌+◌, ◌-◌, ◌*◌, ◌^◌, ◌<◌, ◌≤◌, ◌×◌, ◌==◌, Bool, true, false, true≢false, is_some, MatchBool, List, [], length, slice_get, Option, Some, None, refl, sym, ap, subst, ◌∙◌, arith}
 use Rattle.af_base.specs.declared.report.Report.{Report}
 use Rattle.af_base.specs.Log.{slots}
 use Rattle.af_cblk.specs.Sides.{HandSide, hand_made}
@@ -85,3 +85,36 @@ module _ (links : Links) (x : NormalState) (none : x.hands ≡ []) (whole : (i :
   pub have_hands : (y : NormalState) → HandsTo (length x.tracks) x y → HaveHands links.streams.now (length y.tracks) y.hands
   have_hands y h = let all : Handed links (length x.tracks) x y = handed (length x.tracks) y (omega arith) h in
       record { whole = all.count ∙ sym (ap (λ (z : NormalState). length z.tracks) all.same); flags_of = all.hands }
+
+-- ## A turn has begun
+
+module _ (links : Links) (x b : NormalState) (order : IsInOrder links x) (begins : Begins x b) where
+  -- each stream proxy is home and still has its hand, where there are no hands yet
+  pub whole_begun : b.hands ≡ [] → (i : ℕ) → i < length b.tracks → HasWhole links.streams.now i b.streams
+  whole_begun none i lt = by_turns (x.turns) refl
+    where
+      same : b ≡ record x { entry = b.entry; spare_turns = b.spare_turns; spare_takes = b.spare_takes; turns = x.turns + 1 }
+      same = begins.same
+
+      within : i < length x.tracks
+      within = (let e = ap (λ (z : NormalState). length z.tracks) same in omega arith)
+
+      at_first : HasNoHands x → HasWhole links.streams.now i b.streams
+      at_first h = by_stream (stream_at x.streams i) refl
+        where
+          by_stream : (o : Option ServerState) → stream_at x.streams i ≡ o → HasWhole links.streams.now i b.streams
+          by_stream None e = absurd (true≢false (sym (h.home i) ∙ sym (order.tied.proxies.there i within) ∙ ap is_some e))
+          by_stream (Some s) e = record {
+            stream = s;
+            is_home = ap (λ (z : NormalState). stream_at z.streams i) same ∙ e;
+            fits = order.tied.proxies.streams_of i s e;
+            has_hand = h.whole i s e;
+          }
+
+      by_turns : (n : ℕ) → x.turns ≡ n → HasWhole links.streams.now i b.streams
+      by_turns zero e = at_first (order.none_yet e)
+      by_turns (suc n) e =
+          let whole : length x.hands ≡ length x.tracks = (order.hands (omega arith)).whole in
+          let empty : x.hands ≡ [] = sym (ap (λ (z : NormalState). z.hands) same) ∙ none in
+          let zero_long = ap length empty in
+          absurd (omega arith)
