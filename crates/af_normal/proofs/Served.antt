@@ -1,12 +1,19 @@
 -- What one track's part of a turn changes, and what it leaves.
-use Rattle.std.proofs.Common.{◌≡◌, ◌≢◌, ℕ, ◌<◌, ◌×◌, length, slice_get, slice_set, List, Option, Some, None, refl, sym, ap, subst, ◌∙◌, get_or-set_other, length-set, arith}
+use Rattle.std.proofs.Common.{◌≡◌, ◌≢◌, ℕ, ◌+◌, ◌<◌, ◌×◌, [], ◌∷◌, ◌++◌, length, length-append, slice_get, slice_set, List, Option, Some, None, refl, sym, ap, subst, ◌∙◌, get_or-set_other, length-set, arith}
+use Rattle.std.proofs.lemmas.List.Elements.{All-push}
+use Rattle.af_base.specs.declared.turn.TrackTurn.{TrackTurn}
+use Rattle.af_base.specs.Roomy.{Roomy}
 use Rattle.af_cblk.specs.Sides.{HandSide}
 use Rattle.af_server.specs.Order.{ServerState}
 use Rattle.af_link.specs.declared.links.Links.{Links}
+use Rattle.af_life.specs.Heard.{known_by}
+use Rattle.af_life.specs.Serves.{most_looks}
 use Rattle.af_life.specs.Kept.{Setup, Learnt, new_track, track_at}
 use Rattle.af_normal.specs.Mixing.{stream_at}
-use Rattle.af_normal.specs.Ready.{AreOwn}
-use Rattle.af_normal.specs.Serving.{Serving, ServesOne, ServesTrack}
+use Rattle.af_normal.specs.Order.{HasTurns}
+use Rattle.af_normal.specs.Ready.{AreOwn, HaveRoom}
+use Rattle.af_normal.specs.Turning.{listed_at}
+use Rattle.af_normal.specs.Serving.{known_at, Serving, ServesOne, ServesTrack}
 use Rattle.af_normal.proofs.Cases.{by_test, get_set_other}
 
 -- nothing but what belongs to the track i is another, and the lists keep their lengths
@@ -56,4 +63,20 @@ other_own links i k x y only ne own = record {
   command_is = λ s e. own.command_is s (sym (only.commands k ne) ∙ e);
   flag_is = λ h e. own.flag_is h (sym (only.hands k ne) ∙ e);
   stream_is = λ s e. own.stream_is s (sym (only.streams k ne) ∙ e);
+}
+
+-- what a proxy knows by its list is what it knows
+pub known_here : (o : Option ServerState) → known_by (listed_at o) ≡ known_at o
+known_here None = refl
+known_here (Some s) = refl
+
+-- one record more
+pub turns_more : (n : ℕ) (turns spare turns' spare' : Roomy TrackTurn) (turn : TrackTurn) → HasTurns n turns spare → turns' ≡ record turns { items = turns.items ++ turn ∷ [] } → turn.looks.room ≡ most_looks
+    → length spare'.items + 1 ≡ length spare.items → HaveRoom spare'.items → spare'.room ≡ spare.room → HasTurns n turns' spare'
+turns_more n turns spare turns' spare' turn h e room short left same = record {
+  together = (let l : length turns'.items ≡ length turns.items + 1 = ap (λ (r : Roomy TrackTurn). length r.items) e ∙ length-append turns.items (turn ∷ []) in omega (arith, h.together));
+  turns_room = (let l = ap (λ (r : Roomy TrackTurn). r.room) e in omega (arith, h.turns_room));
+  spare_room = omega (arith, h.spare_room);
+  seen = subst (λ (r : Roomy TrackTurn). HaveRoom r.items) (sym e) (All-push (λ (t : TrackTurn). t.looks.room ≡ most_looks) turns.items turn h.seen room);
+  left = left;
 }

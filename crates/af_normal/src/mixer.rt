@@ -1,4 +1,6 @@
 //! The normal mixer, and what contracts see of it.
+ghost use Rattle.std.specs.Prelude.{◌≡◌};
+
 use af_base::{Frame, NormalTakes, TrackTurns, TurnEntry};
 use af_cblk::FlagHand;
 use af_gain::Sum;
@@ -45,4 +47,20 @@ impl Model for NormalMixer {
     ghost view = { λ m. record { frames = m.frames; normal = m.normal; settings = m.settings.items; tracks = m.tracks.items; streams = m.streams.items; commands = m.commands.items; hands = m.hands.items; mutator = m.mutator; reader = m.ends.0; pipe = m.ends.1; entry = m.entry; spare_turns = m.spare_turns; spare_takes = m.spare_takes; ended = m.ended; turns = m.turns } };
 
     ghost invariant = { λ m. (length m.sums.items ≡ m.normal * m.frames) × (length m.buffer.items ≡ m.normal * m.frames) × (m.exits ≡ is_exit m.mutator.past.last) × (length m.tracks.items ≤ vec_capacity m.hands) };
+}
+
+impl NormalMixer {
+    /// What the last turn saw and did. Before the first turn it is the entry of a turn that has ended.
+    pub fn last(&self) -> &TurnEntry
+        ensures { result.now ≡ self.now.entry }
+    {
+        &self.entry
+    }
+
+    /// How many turns were made.
+    pub fn turns(&self) -> u32
+        ensures { result ≡ self.now.turns }
+    {
+        self.turns
+    }
 }

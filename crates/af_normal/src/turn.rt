@@ -1,9 +1,14 @@
 //! A turn of the normal mixer.
-ghost use Rattle.std.specs.Prelude.{◌≡◌, ℕ, ◌+◌, ◌*◌, ◌<◌, ◌≤◌, ◌^◌, ◌++◌, [], true, false, length, reverse, map, All, Some, slice_get};
-ghost use Rattle.af_base.specs.Turn.{Turn as Seen, turn_of, track_seen, take_seen};
+ghost use Rattle.std.specs.Prelude.{◌≡◌, ℕ, ◌+◌, ◌-◌, ◌*◌, ◌<◌, ◌≤◌, ◌^◌, ◌++◌, [], true, false, length, reverse, map, All, Some, slice_get};
+ghost use Rattle.af_base.specs.declared.report.Report.{Report as Load};
+ghost use Rattle.af_base.specs.declared.state.Push.{Push as Answer};
+ghost use Rattle.af_base.specs.Turn.{ended_turn, turn_of, track_seen, take_seen};
 ghost use Rattle.af_link.specs.PipeEnds.{in_made};
 ghost use Rattle.af_server.specs.Order.{IsServerOf};
 ghost use Rattle.af_normal.specs.Mixing.{stream_at};
+ghost use Rattle.af_normal.specs.declared.turn.Turn.TheVariants.{Turned, Ended};
+ghost use Rattle.af_normal.specs.Order.{IsGoing, IsInOrder};
+ghost use Rattle.af_normal.specs.TurnMade.{GoesOnFrom, TurnMade, has_mixed};
 ghost use Rattle.af_normal.specs.Turning.{Begins, Hands, HasHands, HandsTo, HasWhole, Learns};
 
 use crate::mixer::NormalMixer;
@@ -103,7 +108,13 @@ impl NormalMixer {
     }
 
     // What follows once the acknowledgement was seen and the proxies are home.
-    fn go_on<L: Ledger>(&mut self, links: &Links<'_>, ack: bool, steps: &mut Steps<L>) -> Turn {
+    fn go_on<L: Ledger>(&mut self, links: &Links<'_>, ack: bool, steps: &mut Steps<L>) -> Turn
+        requires going { IsGoing links.now (self.old.turns - 1) self.old }
+        requires few { self.old.turns ≤ 131072 }
+        ensures goes { (report : Load) × (room : ℕ) × (push : Answer) × GoesOnFrom ack report room push self.old self.new × (result ≡ Turned (has_mixed self.new) push) }
+        ensures order { IsInOrder links.now self.new }
+        ensures turns { self.new.turns ≡ self.old.turns }
+    {
         let (report, room) = self.learn(links, steps);
         self.serve_all(links, &report, steps);
         self.mutate(links, room);
@@ -114,13 +125,26 @@ impl NormalMixer {
     }
 
     // The mixer has ended.
-    fn stop(&mut self) -> Turn {
+    fn stop(&mut self) -> Turn
+        ensures ended { result ≡ Ended }
+        ensures tells { turn_of self.new.entry ≡ ended_turn }
+        ensures rooms { (self.new.entry.tracks.room ≡ self.old.entry.tracks.room) × (self.new.entry.mixes.room ≡ self.old.entry.mixes.room) }
+        ensures leaves { self.new ≡ (record self.old { ended = true; entry = self.new.entry }) }
+    {
         self.ended = true;
         self.entry.end();
         Turn::Ended
     }
 
+    /// One turn: the acknowledgement is looked for, and what comes by it comes home; the report is loaded and the pipe's room read; each track has its part; the draft is edited and pushed; and a buffer is mixed where the pipe has room.
+    ///
+    /// It takes no memory and waits for nobody.
     pub fn turn<L: Ledger>(&mut self, links: &Links<'_>, steps: &mut Steps<L>) -> Turn
+        requires order { IsInOrder links.now self.old }
+        requires few { self.old.turns < 131072 }
+        ensures order { IsInOrder links.now self.new }
+        ensures turns { self.new.turns ≡ self.old.turns + 1 }
+        ensures made { TurnMade result self.old self.new }
     {
         self.begin();
         self.make_hands(links, steps);
