@@ -1,5 +1,5 @@
 -- From the chain of edits to the definition's.
-use Rattle.std.proofs.Common.{◌≡◌, ◌≢◌, ℕ, zero, suc, ◌+◌, ◌<◌, ◌≤◌, ◌==◌, ◌&&◌, ◌||◌, Bool, true, false, if◌then◌else◌, true≢false, MatchBool, sym, refl, ap, subst, ◌∙◌, List, [], ◌∷◌, length, Option, Some, None, get_or-set_other, arith}
+use Rattle.std.proofs.Common.{◌≡◌, ◌≢◌, ℕ, zero, suc, ◌+◌, ◌<◌, ◌≤◌, ◌==◌, ◌&&◌, ◌||◌, Bool, true, false, if◌then◌else◌, true≢false, MatchBool, ◌⊎◌, inl, inr, sym, refl, ap, subst, ◌∙◌, List, [], ◌∷◌, length, Option, Some, None, get_or-set_other, arith}
 use Rattle.std.specs.Prelude.{slice_set}
 use Rattle.af_base.specs.Command.{code_of}
 use Rattle.af_base.specs.declared.state.Command.{Command}
@@ -35,6 +35,22 @@ or_false true = refl
 or_false false = refl
 
 -- ## One track
+
+-- a proxy is as it was, or was lent
+abbrev pub SameOrGone : Option ServerState → Option ServerState → Type 0
+SameOrGone o p = (p ≡ o) ⊎ (p ≡ None)
+
+lent_or_same : (streams : List (Option ServerState)) (i j : ℕ) → SameOrGone (stream_at streams j) (stream_at (slice_set streams i None) j)
+lent_or_same [] i j = inl refl
+lent_or_same (o ∷ streams) zero zero = inr refl
+lent_or_same (o ∷ streams) zero (suc j) = inl refl
+lent_or_same (o ∷ streams) (suc i) zero = inl refl
+lent_or_same (o ∷ streams) (suc i) (suc j) = lent_or_same streams i j
+
+then : (o p q : Option ServerState) → SameOrGone o p → SameOrGone p q → SameOrGone o q
+then o p q (inl e) (inl f) = inl (f ∙ e)
+then o p q (inr e) (inl f) = inr (f ∙ e)
+then o p q a (inr f) = inr f
 
 taken : (b : Bool) (m n : NormalKept) → b ≡ true → m ≡ (if b then m else n)
 taken true m n e = refl
@@ -82,6 +98,7 @@ module _ (c : Setup) (k : Learnt) (i : ℕ) where
     pub same : Same x y
     pub past : y.mutator.past ≡ x.mutator.past
     pub others : (j : ℕ) → j ≢ i → stream_at y.streams j ≡ stream_at x.streams j
+    pub streams : (j : ℕ) → SameOrGone (stream_at x.streams j) (stream_at y.streams j)
 
   pub edited_one : (x y : NormalState) → c ≡ setup_of x → ((s : ServerState) → stream_at x.streams i ≡ Some s → k.own i ≡ known_by (listed s)) → EditsTrack i x y → EditedOne x y
   edited_one x y setup own e = by_leave (must_leave (track_at x.tracks i)) refl e
@@ -92,12 +109,14 @@ module _ (c : Setup) (k : Learnt) (i : ℕ) where
         same = subst (Same x) (sym l.2) refl;
         past = ap (λ (z : NormalState). z.mutator.past) l.2;
         others = (λ j ne. ap (λ (z : NormalState). stream_at z.streams j) l.2 ∙ get_or-set_other x.streams i j None None ne);
+        streams = (λ j. subst (λ (z : NormalState). SameOrGone (stream_at x.streams j) (stream_at z.streams j)) (sym l.2) (lent_or_same x.streams i j));
       }
       by_enter false no is l = record {
         kept_is = ap kept_open l ∙ stays (kept_open x) no is;
         same = subst (Same x) (sym l) refl;
         past = ap (λ (z : NormalState). z.mutator.past) l;
         others = (λ j ne. ap (λ (z : NormalState). stream_at z.streams j) l);
+        streams = (λ j. inl (ap (λ (z : NormalState). stream_at z.streams j) l));
       }
 
       by_leave : (b : Bool) → must_leave (track_at x.tracks i) ≡ b → MatchBool b (LetsGo i x y) (MatchBool (must_enter (track_at x.tracks i)) (Lends i x y) (y ≡ x)) → EditedOne x y
@@ -106,6 +125,7 @@ module _ (c : Setup) (k : Learnt) (i : ℕ) where
         same = subst (Same x) (sym l) refl;
         past = ap (λ (z : NormalState). z.mutator.past) l;
         others = (λ j ne. ap (λ (z : NormalState). stream_at z.streams j) l);
+        streams = (λ j. inl (ap (λ (z : NormalState). stream_at z.streams j) l));
       }
       by_leave false is l = by_enter (must_enter (track_at x.tracks i)) is refl l
 
@@ -117,6 +137,7 @@ module _ (c : Setup) (k : Learnt) (x : NormalState) (setup : c ≡ setup_of x) (
     pub same : y ≡ record x { tracks = y.tracks; streams = y.streams; mutator = y.mutator }
     pub past : y.mutator.past ≡ x.mutator.past
     pub others : (j : ℕ) → n ≤ j → stream_at y.streams j ≡ stream_at x.streams j
+    pub streams : (j : ℕ) → SameOrGone (stream_at x.streams j) (stream_at y.streams j)
 
   pub edited_all : (n : ℕ) (y : NormalState) → EditsTo n x y → EditedTo n y
   edited_all zero y e = record {
@@ -124,6 +145,7 @@ module _ (c : Setup) (k : Learnt) (x : NormalState) (setup : c ≡ setup_of x) (
     same = subst (λ (z : NormalState). z ≡ record x { tracks = z.tracks; streams = z.streams; mutator = z.mutator }) (sym e) refl;
     past = ap (λ (z : NormalState). z.mutator.past) e;
     others = (λ j le. ap (λ (z : NormalState). stream_at z.streams j) e);
+    streams = (λ j. inl (ap (λ (z : NormalState). stream_at z.streams j) e));
   }
   edited_all (suc n) y (z, before, e) =
       let b : EditedTo n z = edited_all n z before in
@@ -132,6 +154,7 @@ module _ (c : Setup) (k : Learnt) (x : NormalState) (setup : c ≡ setup_of x) (
         same = one.same ∙ ap (λ (w : NormalState). record w { tracks = y.tracks; streams = y.streams; mutator = y.mutator }) b.same;
         past = one.past ∙ b.past;
         others = (λ j le. one.others j (λ is. omega arith) ∙ b.others j (omega arith));
+        streams = (λ j. then (stream_at x.streams j) (stream_at z.streams j) (stream_at y.streams j) (b.streams j) (one.streams j));
       }
 
 -- ## The whole mutation
@@ -160,6 +183,25 @@ module _ (c : Setup) (k : Learnt) (room : ℕ) (x y : NormalState) (setup : c �
       ∙ order_is (due_command room e.edited) e.edited
       ∙ ap (λ (d : Setup). ordered (next_command (is_exit e.edited.mutator.draft) e.edited.tracks room (pipe_size d)) (kept_open e.edited)) (ap setup_of b.same ∙ sym setup)
       ∙ ap (commanded_by c room) (b.kept_is ∙ ap (λ (m : NormalKept). edited_to c k m (length x.tracks)) begun_is)
+
+  -- neither the last state nor the other parts of the mixer change
+  pub record Mutated : Type 0 where
+    pub same : y ≡ record x { tracks = y.tracks; streams = y.streams; mutator = y.mutator }
+    pub past : y.mutator.past ≡ x.mutator.past
+    pub streams : (j : ℕ) → SameOrGone (stream_at x.streams j) (stream_at y.streams j)
+
+  pub edits_same : EditsAll room x y → Mutated
+  edits_same e =
+      let b : EditedTo c k (record x { mutator = begun x.mutator }) setup own (length x.tracks) e.edited = edited_all c k (record x { mutator = begun x.mutator }) setup own (length x.tracks) e.edited e.tracks in record {
+        same = subst (λ (w : NormalState). w ≡ record x { tracks = w.tracks; streams = w.streams; mutator = w.mutator }) (sym e.then)
+            (ap (λ (w : NormalState). record w { mutator = finished (commands (due_command room e.edited) e.edited.mutator) }) b.same);
+        past = ap (λ (w : NormalState). w.mutator.past) e.then ∙ past_is (code_of (due_command room e.edited) == code_of e.edited.mutator.draft.command) (due_command room e.edited) e.edited ∙ b.past;
+        streams = (λ j. subst (λ (w : NormalState). SameOrGone (stream_at x.streams j) (stream_at w.streams j)) (sym e.then) (b.streams j));
+      }
+    where
+      past_is : (b : Bool) (command : Command) (z : NormalState) → (finished (if b then z.mutator else record z.mutator { draft = with_command command z.mutator.draft; edited = true })).past ≡ z.mutator.past
+      past_is true command z = refl
+      past_is false command z = refl
 
 -- ## The push
 

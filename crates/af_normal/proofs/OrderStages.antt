@@ -24,10 +24,10 @@ use Rattle.af_life.specs.Edits.{after_ack}
 use Rattle.af_life.specs.Sound.{IsSound}
 use Rattle.af_normal.specs.Coming.{WelcomesTo}
 use Rattle.af_normal.specs.Mutating.{EditsTo, EditsAll, Pushes, begun, commands, finished, due_command}
-use Rattle.af_normal.specs.Order.{IsTied, IsOpen, stream_fits}
+use Rattle.af_normal.specs.Order.{IsTied, IsOpen}
 use Rattle.af_normal.specs.State.{NormalState, setup_of, kept_of}
 use Rattle.af_normal.specs.Turning.{SeesAck, Learns, with_mutator}
-use Rattle.af_normal.proofs.OrderAcks.{welcomed_kept, welcomed_tied}
+use Rattle.af_normal.proofs.OrderAcks.{welcomed_kept, welcomed_tied, welcomed_same}
 use Rattle.af_normal.proofs.OrderOpen.{edit_keeps}
 
 -- ## The acknowledgement
@@ -61,6 +61,26 @@ module _ (links : Links) (ack : Bool) (x y : NormalState) (tied : IsTied links x
 
   pub tied_acked : IsTied links y
   tied_acked = (by_ack ack sees.acked sees.comes).1
+
+  -- nothing changes but the tracks, the stream proxies and the mutator, which is as idle as before
+  pub acked_same : (y ≡ record x { tracks = y.tracks; streams = y.streams; mutator = y.mutator }) × (y.mutator.editing ≡ x.mutator.editing)
+  acked_same = same_by ack sees.acked sees.comes
+    where
+      Same : Type 0
+      Same = (y ≡ record x { tracks = y.tracks; streams = y.streams; mutator = y.mutator }) × (y.mutator.editing ≡ x.mutator.editing)
+
+      same_by : (b : Bool) → WasAcked x.mutator b sees.mutator → Comes b → Same
+      same_by true seen comes =
+          let is : sees.mutator ≡ record x.mutator { past = saw x.mutator.past.number seen.0 x.mutator.past; returned = sees.mutator.returned } = seen.1 in
+          let clear : sees.mutator.past.clear ≡ true = ap (λ (m : Mutates ServerState StreamNames). m.past.clear) is ∙ eq-eqb (word x.mutator.past.number) (word x.mutator.past.number) refl in
+          let there : IsTied links (with_mutator sees.mutator x) = subst (λ (m : Mutates ServerState StreamNames). IsTied links (with_mutator m x)) (sym is) (looked x.mutator.past.number seen.0 sees.mutator.returned) in
+          let w = welcomed_same links (with_mutator sees.mutator x) there sees.held clear y comes in
+          (w.0, w.1 ∙ ap (λ (m : Mutates ServerState StreamNames). m.editing) is)
+      same_by false seen comes =
+          let is : sees.mutator ≡ record x.mutator { past = saw seen.0 [] x.mutator.past } = seen.1.2 in (
+            subst (λ (z : NormalState). z ≡ record x { tracks = z.tracks; streams = z.streams; mutator = z.mutator }) (sym comes) refl,
+            ap (λ (z : NormalState). z.mutator.editing) comes ∙ ap (λ (m : Mutates ServerState StreamNames). m.editing) is,
+          )
 
 -- ## The report and the room
 
