@@ -18,22 +18,11 @@ use Rattle.af_life.specs.Obeys.{slot_for}
 use Rattle.af_life.specs.Serves.{is_found_shut, served, served_to, with_served, IsServed, LegalTrack}
 use Rattle.af_life.specs.TurnEvents.{invalid, status_events}
 use Rattle.af_life.proofs.Lives.{served_len}
+use Rattle.af_normal.proofs.LegalLists.{get_set_same, get_set_other, upd, upd_same, upd_other}
 use Rattle.af_normal.specs.Mixing.{stream_at}
 use Rattle.af_normal.specs.Serving.{Adds, StreamAdds, HandAdds, Attends, Serving, ServesOne, ServesTrack, ServesTo, disabled_events, shut_events}
 
 -- ## Lists
-
-pub get_set_same : {X : Type 0} (xs : List X) (i : ℕ) (x : X) → i < length xs → slice_get (slice_set xs i x) i ≡ Some x
-get_set_same [] i x lt = absurd (omega arith)
-get_set_same (y ∷ xs) zero x lt = refl
-get_set_same (y ∷ xs) (suc i) x lt = get_set_same xs i x (omega arith)
-
-pub get_set_other : {X : Type 0} (xs : List X) (i j : ℕ) (x : X) → j ≢ i → slice_get (slice_set xs i x) j ≡ slice_get xs j
-get_set_other [] i j x ne = refl
-get_set_other (y ∷ xs) zero zero x ne = absurd (ne refl)
-get_set_other (y ∷ xs) zero (suc j) x ne = refl
-get_set_other (y ∷ xs) (suc i) zero x ne = refl
-get_set_other (y ∷ xs) (suc i) (suc j) x ne = get_set_other xs i j x (λ e. ne (ap suc e))
 
 seen_before : (turns : List TrackSeen) (s : TrackSeen) (j : ℕ) → j < length turns → seen_at (turns ++ s ∷ []) j ≡ seen_at turns j
 seen_before [] s j lt = absurd (omega arith)
@@ -49,13 +38,12 @@ seen_new (t ∷ turns) s (suc j) e = seen_new turns s j (omega arith)
 -- ## What a track's part comes to
 
 -- the events of the two servers and of the hand of the track j, served by what those before it left
-pub record Part (c : Setup) (k : Learnt) (x z : Serving) (j : ℕ) (seen : TrackSeen) (tracks : List TrackKept) : Type 0 where
+pub record Part (c : Setup) (k : Learnt) (x z : Serving) (j : ℕ) (fronts : List ℕ) (seen : TrackSeen) (tracks : List TrackKept) : Type 0 where
   pub legal : LegalTrack c k seen tracks j
   pub command : ServerState
   pub has_command : slice_get x.commands j ≡ Some command
   pub command' : ServerState
   pub has_command' : slice_get z.commands j ≡ Some command'
-  pub fronts : List ℕ
   pub looks : LegalLooks (listed command) seen.looks fronts
   pub commanded : Adds command (all_command_events (listed command) seen.looks fronts ++ invalid k seen tracks j ++ status_events seen.status) (words_taken seen.looks) command'
   pub flag : HandSide
@@ -72,14 +60,13 @@ pub record Untouched (x z : Serving) (j : ℕ) : Type 0 where
   pub stream : stream_at z.streams j ≡ stream_at x.streams j
 
 -- a part stays while other tracks are served
-still_part : (c : Setup) (k : Learnt) (x z y : Serving) (j : ℕ) (seen : TrackSeen) (tracks : List TrackKept) → Untouched z y j → Part c k x z j seen tracks → Part c k x y j seen tracks
-still_part c k x z y j seen tracks u p = record {
+still_part : (c : Setup) (k : Learnt) (x z y : Serving) (j : ℕ) (fronts : List ℕ) (seen : TrackSeen) (tracks : List TrackKept) → Untouched z y j → Part c k x z j fronts seen tracks → Part c k x y j fronts seen tracks
+still_part c k x z y j fronts seen tracks u p = record {
   legal = p.legal;
   command = p.command;
   has_command = p.has_command;
   command' = p.command';
   has_command' = u.command ∙ p.has_command';
-  fronts = p.fronts;
   looks = p.looks;
   commanded = p.commanded;
   flag = p.flag;
@@ -118,7 +105,8 @@ module _ (c : Setup) (k : Learnt) where
   pub record ServedTo (n : ℕ) (x z : Serving) (i : ℕ) : Type 0 where
     pub count : length z.turns ≡ i
     pub tracks : z.tracks ≡ served_to c k z.turns x.tracks i
-    pub parts : (j : ℕ) → j < i → Part c k x z j (seen_at z.turns j) (served_to c k z.turns x.tracks j)
+    pub fronts : ℕ → List ℕ
+    pub parts : (j : ℕ) → j < i → Part c k x z j (fronts j) (seen_at z.turns j) (served_to c k z.turns x.tracks j)
     pub rest : (j : ℕ) → i ≤ j → Untouched x z j
     pub long : (length z.streams ≡ length x.streams) × (length z.commands ≡ length x.commands) × (length z.hands ≡ length x.hands)
 
@@ -144,18 +132,19 @@ module _ (c : Setup) (k : Learnt) where
         seen_last : seen_at y.turns i ≡ seen
         seen_last = ap (λ (ts : List TrackSeen). seen_at ts i) turns_are ∙ seen_new z.turns seen i before.count
 
-        joined : (y.tracks ≡ slice_set z.tracks i (served c k seen.looks z.tracks i)) → Part c k x y i seen z.tracks → ((j : ℕ) → j ≢ i → Untouched z y j)
+        joined : (fronts : List ℕ) → (y.tracks ≡ slice_set z.tracks i (served c k seen.looks z.tracks i)) → Part c k x y i fronts seen z.tracks → ((j : ℕ) → j ≢ i → Untouched z y j)
             → (length y.streams ≡ length z.streams) × (length y.commands ≡ length z.commands) × (length y.hands ≡ length z.hands) → ServedTo n x y (suc i)
-        joined tracks part others long = record {
+        joined fronts tracks part others long = record {
           count = ap length turns_are ∙ length-append z.turns (seen ∷ []) ∙ (let l = before.count in omega arith);
           tracks = tracks
               ∙ ap (λ (ts : List TrackKept). slice_set ts i (served c k seen.looks ts i)) (before.tracks ∙ sym (to_same i (omega arith)))
               ∙ ap (λ (e : TrackSeen). slice_set (served_to c k y.turns x.tracks i) i (served c k e.looks (served_to c k y.turns x.tracks i) i)) (sym seen_last);
+          fronts = upd before.fronts i fronts;
           parts = (λ j lj. ⊎_elim
-              (λ (e : j ≡ i). subst (λ (m : ℕ). Part c k x y m (seen_at y.turns m) (served_to c k y.turns x.tracks m)) (sym e)
-              (subst (λ (p : TrackSeen × List TrackKept). Part c k x y i p.0 p.1) (λ d. (sym seen_last d, (before.tracks ∙ sym (to_same i (omega arith))) d)) part))
-              (λ (ne : j ≢ i). subst (λ (p : TrackSeen × List TrackKept). Part c k x y j p.0 p.1) (λ d. (sym (seen_same j (omega arith)) d, sym (to_same j (omega arith)) d))
-              (still_part c k x z y j (seen_at z.turns j) (served_to c k z.turns x.tracks j) (others j ne) (before.parts j (omega arith))))
+              (λ (e : j ≡ i). subst (λ (m : ℕ). Part c k x y m (upd before.fronts i fronts m) (seen_at y.turns m) (served_to c k y.turns x.tracks m)) (sym e)
+              (subst (λ (p : List ℕ × TrackSeen × List TrackKept). Part c k x y i p.0 p.1 p.2) (λ d. (sym (upd_same before.fronts i fronts) d, sym seen_last d, (before.tracks ∙ sym (to_same i (omega arith))) d)) part))
+              (λ (ne : j ≢ i). subst (λ (p : List ℕ × TrackSeen × List TrackKept). Part c k x y j p.0 p.1 p.2) (λ d. (sym (upd_other before.fronts i fronts j ne) d, sym (seen_same j (omega arith)) d, sym (to_same j (omega arith)) d))
+              (still_part c k x z y j (before.fronts j) (seen_at z.turns j) (served_to c k z.turns x.tracks j) (others j ne) (before.parts j (omega arith))))
               (cases_eq j i));
           rest = (λ j le. let u : Untouched z y j = others j (λ e. omega arith) in let w : Untouched x z j = before.rest j (omega arith) in
               record { command = u.command ∙ w.command; flag = u.flag ∙ w.flag; stream = u.stream ∙ w.stream });
@@ -179,7 +168,7 @@ module _ (c : Setup) (k : Learnt) where
       stream_none (Some s) events e = (s, adds_none s events e, refl)
 
       passed : (y : Serving) → (track_at z.tracks i).life.ended ≡ true → y ≡ record z { turns = z.turns ++ nothing_seen ∷ [] } → ServedTo n x y (suc i)
-      passed y ended is = subst (λ (w : Serving). ServedTo n x w (suc i)) (sym is) (joined nothing_seen w refl
+      passed y ended is = subst (λ (w : Serving). ServedTo n x w (suc i)) (sym is) (joined nothing_seen w refl []
           (sym (set-get_or z.tracks i _) ∙ ap (slice_set z.tracks i) (sym (served_ended [] z.tracks i ended)))
           part (λ j ne. record { command = refl; flag = refl; stream = refl }) (refl, refl, refl))
         where
@@ -192,14 +181,13 @@ module _ (c : Setup) (k : Learnt) where
           none : invalid k nothing_seen z.tracks i ≡ []
           none = none_found nothing_seen z.tracks i ended
 
-          part : Part c k x (record z { turns = z.turns ++ nothing_seen ∷ [] }) i nothing_seen z.tracks
+          part : Part c k x (record z { turns = z.turns ++ nothing_seen ∷ [] }) i [] nothing_seen z.tracks
           part = let command = all.commands i lt in let flag = all.hands i lt in record {
             legal = match_true (track_at z.tracks i).life.ended _ _ ended refl;
             command = command.0;
             has_command = command.1;
             command' = command.0;
             has_command' = u.command ∙ command.1;
-            fronts = [];
             looks = tt;
             commanded = adds_none command.0 (invalid k nothing_seen z.tracks i ++ []) (ap (λ (es : List ServerEvent). es ++ []) none);
             flag = flag.0;
@@ -223,7 +211,7 @@ module _ (c : Setup) (k : Learnt) where
       some_same o u v e f = let g : Some u ≡ Some v = sym e ∙ f in cc
 
       went : (y : Serving) → (track_at z.tracks i).life.ended ≡ false → ServesOne c k i z y → ServedTo n x y (suc i)
-      went y lives s = subst (λ (v : Serving). ServedTo n x v (suc i)) (sym s.leaves) (joined s.seen w refl refl part
+      went y lives s = subst (λ (v : Serving). ServedTo n x v (suc i)) (sym s.leaves) (joined s.seen w refl s.attends.fronts refl part
           (λ j ne. record { command = get_set_other z.commands i j s.command' ne; flag = get_set_other z.hands i j s.flag' ne; stream = get_or-set_other z.streams i j s.stream' None ne })
           (length-set z.streams i s.stream', length-set z.commands i s.command', length-set z.hands i s.flag'))
         where
@@ -242,14 +230,13 @@ module _ (c : Setup) (k : Learnt) where
           wide : i < length z.streams
           wide = let l = before.long.0 in let a = all.streams in omega arith
 
-          part : Part c k x w i s.seen z.tracks
+          part : Part c k x w i s.attends.fronts s.seen z.tracks
           part = record {
             legal = match_false (track_at z.tracks i).life.ended _ _ lives s.attends.legal;
             command = s.command;
             has_command = sym u.command ∙ s.has_command;
             command' = s.command';
             has_command' = get_set_same z.commands i s.command' (slice_get_within z.commands i s.command s.has_command);
-            fronts = s.attends.fronts;
             looks = s.attends.looks;
             commanded = subst (λ (es : List ServerEvent). Adds s.command (all_command_events (listed s.command) s.seen.looks s.attends.fronts ++ es ++ status_events s.seen.status) (words_taken s.seen.looks) s.command') (found_is s.seen lives) s.attends.commanded;
             flag = s.flag;
@@ -272,6 +259,7 @@ module _ (c : Setup) (k : Learnt) where
     served_all none zero le y is = record {
       count = ap (λ (z : Serving). length z.turns) is ∙ ap length none;
       tracks = ap (λ (z : Serving). z.tracks) is;
+      fronts = (λ j. []);
       parts = (λ j lj. absurd (omega arith));
       rest = (λ j l. record { command = ap (λ (z : Serving). slice_get z.commands j) is; flag = ap (λ (z : Serving). slice_get z.hands j) is; stream = ap (λ (z : Serving). stream_at z.streams j) is });
       long = (ap (λ (z : Serving). length z.streams) is, ap (λ (z : Serving). length z.commands) is, ap (λ (z : Serving). length z.hands) is);

@@ -22,9 +22,9 @@ use Rattle.af_life.specs.Kept.{track_at, new_track, slot_number, is_home, is_ret
 use Rattle.af_life.specs.Edits.{comes_home, welcomed, after_ack}
 use Rattle.af_normal.specs.Coming.{takes_back, has_back, Welcomes, WelcomesTo}
 use Rattle.af_normal.specs.Mixing.{stream_at}
-use Rattle.af_normal.specs.Order.{AreThere, HasProxies, IsOut, IsTied, stream_fits}
+use Rattle.af_normal.specs.Order.{AreThere, HasProxies, IsOut, IsTied}
 use Rattle.af_normal.specs.State.{NormalState, kept_of}
-use Rattle.af_normal.specs.Turning.{SeesAck, with_mutator}
+use Rattle.af_normal.specs.Turning.{stream_fits}
 use Rattle.af_normal.proofs.OrderEdits.{returning_away, sound_home, away_slot, apart, inside, at_here, at_other}
 use Rattle.af_normal.proofs.OrderSlots.{away_holds, slot_of_away}
 use Rattle.af_normal.proofs.OrderOut.{out_same, out_less, out_other}
@@ -298,3 +298,7 @@ module _ (links : Links) (x : NormalState) (tied : IsTied links x) (held : InDra
 
   pub welcomed_tied : (y : NormalState) → WelcomesTo (length x.tracks) x y → IsTied links y
   welcomed_tied y w = let c : Coming (length x.tracks) y = all_come (length x.tracks) y w in subst (IsTied links) (sym c.4) c.5.tied_is
+
+  pub welcomed_same : (y : NormalState) → WelcomesTo (length x.tracks) x y → (y ≡ record x { tracks = y.tracks; streams = y.streams; mutator = y.mutator }) × (y.mutator.editing ≡ x.mutator.editing)
+  welcomed_same y w = let c : Coming (length x.tracks) y = all_come (length x.tracks) y w in
+      (subst (λ (z : NormalState). z ≡ record x { tracks = z.tracks; streams = z.streams; mutator = z.mutator }) (sym c.4) refl, ap (λ (z : NormalState). z.mutator.editing) c.4)

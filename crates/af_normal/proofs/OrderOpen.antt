@@ -1,5 +1,5 @@
 -- An edit of the draft keeps the order.
-use Rattle.std.proofs.Common.{◌≡◌, ◌≢◌, ℕ, zero, suc, ◌+◌, ◌<◌, ◌≤◌, ◌&&◌, Bool, true, false, true≢false, is_some, MatchBool, sym, refl, ap, subst, ◌∙◌, List, [], ◌∷◌, length, length-set, All, Option, Some, None, ⊎_elim, get_or-set_same, get_or-set_other, arith}
+use Rattle.std.proofs.Common.{◌≡◌, ◌≢◌, ℕ, zero, suc, ◌+◌, ◌<◌, ◌≤◌, ◌^◌, ◌&&◌, Bool, true, false, true≢false, is_some, MatchBool, sym, refl, ap, subst, ◌∙◌, List, [], ◌∷◌, length, length-set, All, Option, Some, None, ⊎_elim, get_or-set_same, get_or-set_other, arith}
 use Rattle.std.specs.Prelude.{slice_set, slice_index_or}
 use Rattle.std.proofs.lemmas.Bool.{cases_eq}
 use Rattle.std.proofs.lemmas.List.Elements.{All-get_or}
@@ -15,14 +15,17 @@ use Rattle.af_life.specs.declared.kept.Holder.TheVariants.{Home, Lent, Returning
 use Rattle.af_life.specs.declared.kept.Setting.{Setting}
 use Rattle.af_life.specs.declared.kept.TrackKept.{TrackKept}
 use Rattle.af_life.specs.Heard.{known_by}
-use Rattle.af_life.specs.Kept.{Setup, track_at, slot_number, is_home, setting_of, no_setting}
+use Rattle.af_life.specs.declared.kept.Heard.{Heard}
+use Rattle.af_life.specs.Kept.{Setup, track_at, nothing_heard, slot_number, is_home, setting_of, no_setting}
 use Rattle.af_life.specs.Edits.{must_leave, must_enter, lent_by, entered}
 use Rattle.af_normal.specs.Editing.{LetsGo, Lends, lets_go, lends}
 use Rattle.af_normal.specs.Mixing.{stream_at}
-use Rattle.af_normal.specs.Mutating.{EditsTrack}
+use Rattle.af_link.specs.declared.names.StreamNames.{StreamNames}
+use Rattle.af_cblk.specs.Sides.{Made}
+use Rattle.af_normal.specs.Mutating.{EditsTrack, MayLeave, MayEnter, IsEditable}
 use Rattle.af_normal.specs.Order.{AreThere, HasSizes, IsOut, IsTied, IsOpen}
 use Rattle.af_normal.specs.State.{NormalState, setup_of, kept_of}
-use Rattle.af_normal.proofs.OrderEdits.{at_here, at_other, leaver_away, leaver_slot, leaver_inside, sound_go, comer_slot, comer_home, comer_inside, comer_holds, sound_lend, apart}
+use Rattle.af_normal.proofs.OrderEdits.{at_here, at_other, leaver_away, leaver_slot, leaver_carried, leaver_inside, sound_go, comer_slot, comer_home, comer_inside, comer_holds, sound_lend, apart}
 use Rattle.af_normal.proofs.OrderSlots.{away_holds}
 use Rattle.af_normal.proofs.OrderOut.{out_moved, out_more}
 
@@ -159,8 +162,8 @@ module _ (links : Links) (edits i : ℕ) (x : NormalState) (open : IsOpen links 
   pub comer_free : must_enter (track_at x.tracks i) ≡ true → is_out x.mutator.out (slot_number (track_at x.tracks i)) ≡ false
   comer_free enters = by_out (is_out x.mutator.out k) refl
     where
-      abbrev own : _
-      own = known_by (record { shape = record { frames = 0; cells = 0; base = 0; wrap = 0 }; events = [] })
+      own : Heard
+      own = nothing_heard
 
       low : (1 ≤ slot_number (track_at x.tracks i)) × (slot_number (track_at x.tracks i) < slots)
       low = comer_slot (kept_of x) open.tied.sound (setup_of x) i own enters
@@ -171,3 +174,31 @@ module _ (links : Links) (edits i : ℕ) (x : NormalState) (open : IsOpen links 
           (λ (same : whose.0 ≡ i). absurd (true≢false (sym (comer_home (kept_of x) open.tied.sound (setup_of x) i own enters) ∙ ap (λ (n : ℕ). is_home (track_at x.tracks n).holder) (sym same) ∙ whose.3)))
           (λ (ne : whose.0 ≢ i). absurd (apart (kept_of x) open.tied.sound i whose.0 ne (comer_holds (kept_of x) open.tied.sound (setup_of x) i own enters) whose.3 whose.2))
           (cases_eq whose.0 i)
+
+  some_there : (o : Option ServerState) → is_some o ≡ true → (p : ServerState) × (o ≡ Some p)
+  some_there None e = no e
+  some_there (Some p) e = (p, refl)
+
+  -- the track i may be edited
+  pub editable : i < length x.tracks → edits < 2 ^ 31 → IsEditable i x
+  editable inside few = record {
+    leaves = (λ e. record { slot = leaver_slot (kept_of x) open.tied.sound i e; carried = leaver_carried (kept_of x) open.tied.sound i e });
+    enters = may_enter;
+    scale = scale_fits (setup_of x) i open.tied.sizes.scales (let e = open.tied.sizes.settings in omega arith);
+    room = (let g = open.changes in omega arith);
+  }
+    where
+      may_enter : must_enter (track_at x.tracks i) ≡ true → MayEnter i x
+      may_enter e =
+          let stream = some_there (stream_at x.streams i) (open.tied.proxies.there i inside ∙ comer_home (kept_of x) open.tied.sound (setup_of x) i nothing_heard e) in
+          let of : IsStreamOf links.streams.now i stream.0 = open.tied.proxies.streams_of i stream.0 stream.1 in
+          let names = open.tied.linked.names in record {
+            slot = comer_slot (kept_of x) open.tied.sound (setup_of x) i nothing_heard e;
+            free = comer_free e;
+            stream = stream.0;
+            is_home = stream.1;
+            in_order = of.in_order;
+            fits = (λ other key. let same : names.0 ≡ other = (let a : Some names.0 ≡ Some other = sym names.1 ∙ key in cc) in
+            subst (λ (bs : List Made). IsStreamOf bs i stream.0) (sym names.2 ∙ ap (λ (n : StreamNames). n.blocks) same) of);
+            room = (let g : (slot_of x.mutator.draft (slot_number (track_at x.tracks i))).generation ≤ edits = open.generations (slot_number (track_at x.tracks i)) in omega arith);
+          }

@@ -3,6 +3,7 @@ pub mod Coming
 pub mod Commands
 pub mod Editing
 pub mod Making
+pub mod LegalKept
 pub mod Mixing
 pub mod Mutating
 pub mod Order

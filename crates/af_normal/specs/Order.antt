@@ -11,7 +11,6 @@ use Rattle.af_link.specs.Linked.{AreLinked}
 use Rattle.af_link.specs.Names.{IsStreamOf}
 use Rattle.af_link.specs.PipeEnds.{in_made}
 use Rattle.af_link.specs.declared.links.Links.{Links}
-use Rattle.af_link.specs.declared.names.StreamNames.{StreamNames}
 use Rattle.af_life.specs.declared.kept.Setting.{Setting}
 use Rattle.af_life.specs.declared.kept.TrackKept.{TrackKept}
 use Rattle.af_life.specs.Kept.{Setup, asked, pipe_size, track_at, is_home, slot_number}
@@ -68,10 +67,6 @@ pub record HasTurns (tracks : ℕ) (turns spare : Roomy TrackTurn) : Type 0 wher
   pub spare_room : tracks ≤ spare.room
   pub seen : HaveRoom turns.items
   pub left : HaveRoom spare.items
-
--- an item of the queue belongs to a track by the names of the stream blocks
-abbrev pub stream_fits : StreamNames → ℕ → ServerState → Type 0
-stream_fits names track s = IsStreamOf names.blocks track s
 
 -- What each step of a turn keeps: the kept values are sound, the proxies are those of its tracks, and the ends are those of the links
 pub record IsTied (links : Links) (m : NormalState) : Type 0 where
