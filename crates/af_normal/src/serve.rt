@@ -186,7 +186,7 @@ impl NormalMixer {
         requires turns { HasTurns (length self.old.tracks) self.old.entry.tracks self.old.spare_turns }
         requires none { self.old.entry.tracks.items ≡ [] }
         ensures serves { ServesAll report.now self.old self.new }
-        ensures own { (i : ℕ) → i < length self.old.tracks → AreOwn links.now self.new.streams self.new.commands self.new.hands i }
+        ensures own { (i : ℕ) → i < length self.new.tracks → AreOwn links.now self.new.streams self.new.commands self.new.hands i }
         ensures turns { HasTurns (length self.old.tracks) self.new.entry.tracks self.new.spare_turns }
         ensures entry { self.new.entry ≡ (record self.old.entry { tracks = self.new.entry.tracks }) }
     {
