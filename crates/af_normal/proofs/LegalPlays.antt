@@ -1,5 +1,5 @@
 -- From the chain of mixing all tracks to the definition's.
-use Rattle.std.proofs.Common.{◌≡◌, ◌≢◌, ℕ, zero, suc, ◌+◌, ◌<◌, ◌≤◌, ◌==◌, Bool, true, false, if◌then◌else◌, true≢false, MatchBool, sym, refl, ap, subst, ◌∙◌, List, [], ◌∷◌, ◌++◌, append-nil, length, map, length-append, length-set, Option, Some, None, ⊎_elim, eq-eqb, ne_eqb, get_or-set_same, get_or-set_other, arith}
+use Rattle.std.proofs.Common.{◌≡◌, ◌≢◌, ℕ, zero, suc, ◌+◌, ◌<◌, ◌≤◌, ◌==◌, Bool, true, false, if◌then◌else◌, true≢false, MatchBool, is_some, sym, refl, ap, subst, ◌∙◌, List, [], ◌∷◌, ◌++◌, append-nil, length, map, length-append, length-set, Option, Some, None, ⊎_elim, eq-eqb, ne_eqb, get_or-set_same, get_or-set_other, arith}
 use Rattle.std.specs.Prelude.{slice_set, fold, filter}
 use Rattle.std.specs.List.{range_with_len, flat_map, AllByRecursion}
 use Rattle.std.proofs.lemmas.Bool.{cases_eq}
@@ -42,6 +42,7 @@ module _ (asked : ℕ) (x : Mixing) where
   -- the take is legal by these lists and fronts
   pub record LegalBy (fronts : ℕ → ℕ) (take : TakeSeen) : Type 0 where
     pub looks : LooksBy asked (list_of take.track) take.slot (fronts take.track)
+    pub there : is_some (stream_at x.streams take.track) ≡ true
     pub frames : length take.frames ≡ count_seen take.slot.seen
     pub place : take.slot.first ≡ 0
 
@@ -64,7 +65,7 @@ module _ (asked : ℕ) (x : Mixing) where
     pub few : length z.takes ≤ i
 
   -- nothing was done by a proxy
-  stays : (o : Option ServerState) (events : List ServerEvent) (words : List ℕ) → events ≡ [] → words ≡ [] → StreamTakes o events words o
+  pub stays : (o : Option ServerState) (events : List ServerEvent) (words : List ℕ) → events ≡ [] → words ≡ [] → StreamTakes o events words o
   stays None events words e f = refl
   stays (Some s) events words e f = (
     s,
@@ -109,6 +110,7 @@ module _ (asked : ℕ) (x : Mixing) where
       legal_before : (u : TakeSeen) → LegalBy b.fronts u → u.track < i → LegalBy (upd b.fronts i t.takes.front) u
       legal_before u l lt = record {
         looks = subst (LooksBy asked (list_of u.track) u.slot) (sym (upd_other b.fronts i t.takes.front u.track (λ is. omega arith))) l.looks;
+        there = l.there;
         frames = l.frames;
         place = l.place;
       }
@@ -117,6 +119,7 @@ module _ (asked : ℕ) (x : Mixing) where
       legal_here = record {
         looks = subst (λ (n : ℕ). LooksBy asked (list_of n) t.take.slot (upd b.fronts i t.takes.front n)) (sym t.takes.track)
             (subst (λ (p : Listed × ℕ). LooksBy asked p.0 t.take.slot p.1) (λ d. (sym own_list d, sym (upd_same b.fronts i t.takes.front) d)) t.takes.looks);
+        there = ap (λ (n : ℕ). is_some (stream_at x.streams n)) t.takes.track ∙ ap is_some (sym (b.same_stream i (omega arith)) ∙ t.is_home);
         frames = t.takes.count;
         place = t.takes.place;
       }

@@ -6,6 +6,7 @@ use Rattle.std.proofs.lemmas.List.{set-get_or}
 use Rattle.std.proofs.lemmas.Option.{slice_get_within}
 use Rattle.af_base.specs.declared.event.HandEvent.{HandEvent}
 use Rattle.af_base.specs.declared.event.ServerEvent.{ServerEvent}
+use Rattle.af_base.specs.declared.turn.CommandLook.{CommandLook}
 use Rattle.af_base.specs.Turn.{TrackSeen}
 use Rattle.af_cblk.specs.Sides.{HandSide}
 use Rattle.af_server.specs.Order.{ServerState}
@@ -89,7 +90,7 @@ module _ (c : Setup) (k : Learnt) where
   if_true false s t e = absurd (true≢false (sym e))
 
   -- a track that had ended is served by nothing
-  served_ended : (looks : _) (tracks : List TrackKept) (i : ℕ) → (track_at tracks i).life.ended ≡ true → served c k looks tracks i ≡ track_at tracks i
+  served_ended : (looks : List CommandLook) (tracks : List TrackKept) (i : ℕ) → (track_at tracks i).life.ended ≡ true → served c k looks tracks i ≡ track_at tracks i
   unfolding served
   served_ended looks tracks i e = if_true (track_at tracks i).life.ended _ _ e
 

@@ -299,6 +299,6 @@ module _ (links : Links) (x : NormalState) (tied : IsTied links x) (held : InDra
   pub welcomed_tied : (y : NormalState) → WelcomesTo (length x.tracks) x y → IsTied links y
   welcomed_tied y w = let c : Coming (length x.tracks) y = all_come (length x.tracks) y w in subst (IsTied links) (sym c.4) c.5.tied_is
 
-  pub welcomed_same : (y : NormalState) → WelcomesTo (length x.tracks) x y → (y ≡ record x { tracks = y.tracks; streams = y.streams; mutator = y.mutator }) × (y.mutator.editing ≡ x.mutator.editing)
+  pub welcomed_same : (y : NormalState) → WelcomesTo (length x.tracks) x y → (y ≡ record x { tracks = y.tracks; streams = y.streams; mutator = y.mutator }) × (y.mutator.editing ≡ x.mutator.editing) × (y.mutator.past ≡ x.mutator.past)
   welcomed_same y w = let c : Coming (length x.tracks) y = all_come (length x.tracks) y w in
-      (subst (λ (z : NormalState). z ≡ record x { tracks = z.tracks; streams = z.streams; mutator = z.mutator }) (sym c.4) refl, ap (λ (z : NormalState). z.mutator.editing) c.4)
+      (subst (λ (z : NormalState). z ≡ record x { tracks = z.tracks; streams = z.streams; mutator = z.mutator }) (sym c.4) refl, ap (λ (z : NormalState). z.mutator.editing) c.4, ap (λ (z : NormalState). z.mutator.past) c.4)

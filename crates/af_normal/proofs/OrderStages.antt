@@ -1,5 +1,5 @@
 -- Each stage of a turn keeps the order.
-use Rattle.std.proofs.Common.{◌≡◌, ◌≢◌, ℕ, zero, suc, ◌+◌, ◌<◌, ◌≤◌, ◌==◌, Bool, true, false, if◌then◌else◌, true≢false, is_some, MatchBool, sym, refl, ap, subst, ◌∙◌, List, [], ◌∷◌, length, Option, Some, None, eq-eqb, arith}
+use Rattle.std.proofs.Common.{◌≡◌, ◌≢◌, ℕ, zero, suc, ◌+◌, ◌<◌, ◌≤◌, ◌==◌, Bool, true, false, if◌then◌else◌, true≢false, is_some, MatchBool, sym, refl, ap, subst, ◌∙◌, List, [], ◌∷◌, ◌++◌, ◌-◌, length, Option, Some, None, eq-eqb, arith}
 use Rattle.std.specs.Prelude.{slice_get}
 use Rattle.af_base.specs.Command.{code_of}
 use Rattle.af_base.specs.declared.report.Report.{Report}
@@ -8,11 +8,12 @@ use Rattle.af_base.specs.declared.state.FastState.{FastState}
 use Rattle.af_base.specs.declared.state.Push.{Push}
 use Rattle.af_base.specs.declared.state.Push.TheVariants.{Pushed, Clean, Busy}
 use Rattle.af_cblk.specs.Sides.{Made}
+use Rattle.af_model.specs.declared.states.MutatorEvent.TheVariants as mutator
 use Rattle.af_model.specs.Draft.{commanded as with_command}
 use Rattle.af_model.specs.StateQueue.{slot_of, word}
 use Rattle.af_server.specs.Order.{ServerState}
 use Rattle.af_stateq.specs.Answers.{WasAcked, WasPushed, SeesIt, shows}
-use Rattle.af_stateq.specs.Ends.{saw, pushes}
+use Rattle.af_stateq.specs.Ends.{Pushes as Past, saw, pushes}
 use Rattle.af_stateq.specs.Mutates.{Mutates, InDraft}
 use Rattle.af_stateq.specs.Shelved.{nothing}
 use Rattle.af_link.specs.Names.{IsStreamOf}
@@ -22,6 +23,7 @@ use Rattle.af_life.specs.declared.kept.TrackKept.{TrackKept}
 use Rattle.af_life.specs.Kept.{track_at}
 use Rattle.af_life.specs.Edits.{after_ack}
 use Rattle.af_life.specs.Sound.{IsSound}
+use Rattle.af_life.specs.TurnEvents.{number_seen}
 use Rattle.af_normal.specs.Coming.{WelcomesTo}
 use Rattle.af_normal.specs.Mutating.{EditsTo, EditsAll, Pushes, begun, commands, finished, due_command}
 use Rattle.af_normal.specs.Order.{IsTied, IsOpen}
@@ -80,6 +82,31 @@ module _ (links : Links) (ack : Bool) (x y : NormalState) (tied : IsTied links x
           let is : sees.mutator ≡ record x.mutator { past = saw seen.0 [] x.mutator.past } = seen.1.2 in (
             subst (λ (z : NormalState). z ≡ record x { tracks = z.tracks; streams = z.streams; mutator = z.mutator }) (sym comes) refl,
             ap (λ (z : NormalState). z.mutator.editing) comes ∙ ap (λ (m : Mutates ServerState StreamNames). m.editing) is,
+          )
+
+  -- one look is added to the list
+  abbrev Added : Bool → Type 0
+  Added b = (items : List (Option ServerState)) × (y.mutator.past.events ≡ x.mutator.past.events ++ mutator.SawAck (number_seen (kept_of x) b) items ∷ []) × (y.mutator.past.number ≡ x.mutator.past.number)
+
+  pub acked_list : Added ack
+  acked_list = list_by ack sees.acked sees.comes
+    where
+      list_by : (b : Bool) → WasAcked x.mutator b sees.mutator → Comes b → Added b
+      list_by true seen comes =
+          let is : sees.mutator ≡ record x.mutator { past = saw x.mutator.past.number seen.0 x.mutator.past; returned = sees.mutator.returned } = seen.1 in
+          let clear : sees.mutator.past.clear ≡ true = ap (λ (m : Mutates ServerState StreamNames). m.past.clear) is ∙ eq-eqb (word x.mutator.past.number) (word x.mutator.past.number) refl in
+          let there : IsTied links (with_mutator sees.mutator x) = subst (λ (m : Mutates ServerState StreamNames). IsTied links (with_mutator m x)) (sym is) (looked x.mutator.past.number seen.0 sees.mutator.returned) in
+          let w = welcomed_same links (with_mutator sees.mutator x) there sees.held clear y comes in (
+            seen.0,
+            ap (λ (past : Past ServerState StreamNames). past.events) w.2 ∙ ap (λ (m : Mutates ServerState StreamNames). m.past.events) is,
+            ap (λ (past : Past ServerState StreamNames). past.number) w.2 ∙ ap (λ (m : Mutates ServerState StreamNames). m.past.number) is,
+          )
+      list_by false seen comes =
+          let is : sees.mutator ≡ record x.mutator { past = saw seen.0 [] x.mutator.past } = seen.1.2 in (
+            [],
+            ap (λ (z : NormalState). z.mutator.past.events) comes ∙ ap (λ (m : Mutates ServerState StreamNames). m.past.events) is
+                ∙ ap (λ (n : ℕ). x.mutator.past.events ++ mutator.SawAck n [] ∷ []) (let a : seen.0 + 1 ≡ x.mutator.past.number = seen.1.1 in omega arith),
+            ap (λ (z : NormalState). z.mutator.past.number) comes ∙ ap (λ (m : Mutates ServerState StreamNames). m.past.number) is,
           )
 
 -- ## The report and the room

@@ -12,10 +12,14 @@ use Rattle.af_base.specs.declared.turn.CommandLook.{CommandLook}
 use Rattle.af_base.specs.Log.{slots}
 use Rattle.af_base.specs.Turn.{Turn, TrackSeen, track_seen}
 use Rattle.af_cblk.specs.Sides.{HandSide}
+use Rattle.af_model.specs.Cycles.{kept}
 use Rattle.af_model.specs.StateQueue.{slot_of}
 use Rattle.af_server.specs.Order.{ServerState}
 use Rattle.af_server.specs.Slot.{listed}
+use Rattle.af_stateq.specs.Ends.{Pushes as Past}
+use Rattle.af_stateq.specs.Mutates.{Mutates}
 use Rattle.af_link.specs.declared.links.Links.{Links}
+use Rattle.af_link.specs.declared.names.StreamNames.{StreamNames}
 use Rattle.af_life.specs.declared.kept.TrackKept.{TrackKept}
 use Rattle.af_life.specs.Heard.{known_by, ready, heard}
 use Rattle.af_life.specs.Kept.{Setup, NormalKept, Learnt, track_at, new_track, track_in, seen_at, nothing_seen, is_home, slot_number, plays}
@@ -128,22 +132,27 @@ module _ (links : Links) (t : ℕ) (x : NormalState) (going : IsGoing links t x)
   pub served_mutator : y.mutator ≡ x.mutator
   served_mutator = ap (λ (w : NormalState). w.mutator) serves.same
 
-  -- what is learnt of a stream proxy is what it knows still
-  pub own_still : (i : ℕ) (s : ServerState) → stream_at y.streams i ≡ Some s → known_by (listed_at (stream_at x.streams i)) ≡ known_by (listed s)
-  own_still i s is = elim (cases_lt i (length x.tracks)) as (λ p. known_by (listed_at (stream_at x.streams i)) ≡ known_by (listed s)) [
+  -- a stream proxy that is home tells still what it told before
+  pub told_served : (i : ℕ) (s : ServerState) → stream_at y.streams i ≡ Some s → ((listed s).shape ≡ (listed_at (stream_at x.streams i)).shape) × (kept (listed s) ≡ kept (listed_at (stream_at x.streams i)))
+  told_served i s is = elim (cases_lt i (length x.tracks)) as (λ p. Tells (stream_at x.streams i) s) [
     | inl lt ↦ by_stream (stream_at x.streams i) (stream_at y.streams i) is (served_done.parts i lt).streamed
-    | inr le ↦ ap (λ (o : Option ServerState). known_by (listed_at o)) (sym (served_done.rest i le).stream ∙ is)
+    | inr le ↦ subst (λ (o : Option ServerState). Tells o s) (sym is ∙ (served_done.rest i le).stream) (refl, refl)
   ]
     where
+      Tells : Option ServerState → ServerState → Type 0
+      Tells o q = ((listed q).shape ≡ (listed_at o).shape) × (kept (listed q) ≡ kept (listed_at o))
+
       same_proxy : (r q : ServerState) → Some r ≡ Some q → r ≡ q
       same_proxy r q e = cc
 
-      by_stream : (o p : Option ServerState) → p ≡ Some s → StreamAdds o (invalid (learnt_by report x.streams) (seen_at (serving_of y).turns i) (served_to (setup_of x) (learnt_by report x.streams) (serving_of y).turns x.tracks i) i) p
-          → known_by (listed_at o) ≡ known_by (listed s)
+      by_stream : (o p : Option ServerState) → p ≡ Some s → StreamAdds o (invalid (learnt_by report x.streams) (seen_at (serving_of y).turns i) (served_to (setup_of x) (learnt_by report x.streams) (serving_of y).turns x.tracks i) i) p → Tells o s
       by_stream None p e a = absurd (true≢false (sym (ap is_some (sym e ∙ a))))
-      by_stream (Some r) p e (q, adds, is_q) = let same : q ≡ s = same_proxy q s (sym is_q ∙ e) in
-          let told = told_still (learnt_by report x.streams) (seen_at (serving_of y).turns i) (served_to (setup_of x) (learnt_by report x.streams) (serving_of y).turns x.tracks i) i r q adds in
-          sym (known_still (listed r) (listed q) told.0 told.1) ∙ ap (λ (p : ServerState). known_by (listed p)) same
+      by_stream (Some r) p e (q, adds, is_q) = subst (Tells (Some r)) (same_proxy q s (sym is_q ∙ e))
+          (told_still (learnt_by report x.streams) (seen_at (serving_of y).turns i) (served_to (setup_of x) (learnt_by report x.streams) (serving_of y).turns x.tracks i) i r q adds)
+
+  -- and is known by the same
+  pub own_still : (i : ℕ) (s : ServerState) → stream_at y.streams i ≡ Some s → known_by (listed_at (stream_at x.streams i)) ≡ known_by (listed s)
+  own_still i s is = let told = told_served i s is in sym (known_still (listed_at (stream_at x.streams i)) (listed s) told.0 told.1)
 
   module _ (own : (i : ℕ) → i < length y.tracks → AreOwn links y.streams y.commands y.hands i) where
     pub served_tied : IsTied links y
@@ -153,8 +162,8 @@ module _ (links : Links) (t : ℕ) (x : NormalState) (going : IsGoing links t x)
     pub served_open : IsOpen links (most_tracks * t) (record y { mutator = begun y.mutator })
     served_open = opened links (most_tracks * t) y served_tied
         (λ k. let g : (slot_of x.mutator.draft k).generation ≤ most_tracks * t = going.small.draft.generations k in
-        let e : (slot_of y.mutator.draft k).generation ≡ (slot_of x.mutator.draft k).generation = ap (λ m. (slot_of m.draft k).generation) served_mutator in omega arith)
-        (let g = going.small.draft.changes in let e = ap (λ m. m.draft.tracks_gen) served_mutator in omega arith)
+        let e : (slot_of y.mutator.draft k).generation ≡ (slot_of x.mutator.draft k).generation = ap (λ (m : Mutates ServerState StreamNames). (slot_of m.draft k).generation) served_mutator in omega arith)
+        (let g = going.small.draft.changes in let e = ap (λ (m : Mutates ServerState StreamNames). m.draft.tracks_gen) served_mutator in omega arith)
 
     -- ## The draft is edited
 
@@ -197,7 +206,7 @@ module _ (links : Links) (t : ℕ) (x : NormalState) (going : IsGoing links t x)
       -- no more states were pushed than there were turns
       pub edited_number : z.mutator.past.number ≤ t
       edited_number = let g = going.small.pushed in
-          let e : z.mutator.past.number ≡ x.mutator.past.number = ap (λ p. p.number) edited_mutated.past ∙ ap (λ m. m.past.number) served_mutator in omega arith
+          let e : z.mutator.past.number ≡ x.mutator.past.number = ap (λ (p : Past ServerState StreamNames). p.number) edited_mutated.past ∙ ap (λ (m : Mutates ServerState StreamNames). m.past.number) served_mutator in omega arith
 
       edited_few : IsEdited (65 * t + 65) (most_tracks * t) (most_tracks * t + most_tracks) (t + 1) (kept_of z)
       edited_few = subst (IsEdited (65 * t + 65) (most_tracks * t) (most_tracks * t + most_tracks) (t + 1)) (sym edited_kept) (edited_small c t k (seen_so_far room) (kept_of x) going.small (few room))

@@ -4,6 +4,7 @@ pub mod Commands
 pub mod Editing
 pub mod Making
 pub mod LegalKept
+pub mod LegalTurned
 pub mod Mixing
 pub mod Mutating
 pub mod Order
