@@ -8,7 +8,7 @@ ghost use Rattle.af_server.specs.Order.{IsServerOf};
 ghost use Rattle.af_normal.specs.Mixing.{stream_at};
 ghost use Rattle.af_normal.specs.declared.turn.Turn.TheVariants.{Turned, Ended};
 ghost use Rattle.af_normal.specs.Order.{IsGoing, IsInOrder};
-ghost use Rattle.af_normal.specs.TurnMade.{GoesOnFrom, TurnMade, has_mixed};
+ghost use Rattle.af_normal.specs.TurnMade.{TurnMade, WentOn, has_mixed};
 ghost use Rattle.af_normal.specs.Turning.{Begins, Hands, HasHands, HandsTo, HasWhole, Learns};
 
 use crate::mixer::NormalMixer;
@@ -111,9 +111,7 @@ impl NormalMixer {
     fn go_on<L: Ledger>(&mut self, links: &Links<'_>, ack: bool, steps: &mut Steps<L>) -> Turn
         requires going { IsGoing links.now (self.old.turns - 1) self.old }
         requires few { self.old.turns ≤ 131072 }
-        ensures goes { (report : Load) × (room : ℕ) × (push : Answer) × GoesOnFrom ack report room push self.old self.new × (result ≡ Turned (has_mixed self.new) push) }
-        ensures order { IsInOrder links.now self.new }
-        ensures turns { self.new.turns ≡ self.old.turns }
+        ensures goes { (report : Load) × (room : ℕ) × (push : Answer) × WentOn links.now ack report room push self.old self.new × (result ≡ Turned (has_mixed self.new) push) }
     {
         let (report, room) = self.learn(links, steps);
         self.serve_all(links, &report, steps);
