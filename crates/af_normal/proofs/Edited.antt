@@ -39,5 +39,5 @@ pub all_only : (room : ℕ) (x y : NormalState) → EditsAll room x y → OnlyEd
 all_only room x y e =
     let inner : OnlyEdits (record x { mutator = begun x.mutator }) e.edited = edits_only (length x.tracks) (record x { mutator = begun x.mutator }) e.edited e.tracks in
     let then : y ≡ record x { tracks = e.edited.tracks; streams = e.edited.streams; mutator = finished (commands (due_command room e.edited) e.edited.mutator) } =
-    e.then ∙ ap (λ (z : NormalState). record z { mutator = finished (commands (due_command room e.edited) e.edited.mutator) }) inner in
+    e.leaves ∙ ap (λ (z : NormalState). record z { mutator = finished (commands (due_command room e.edited) e.edited.mutator) }) inner in
     then ∙ sym (ap (λ (z : NormalState). record x { tracks = z.tracks; streams = z.streams; mutator = z.mutator }) then)

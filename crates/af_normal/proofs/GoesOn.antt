@@ -58,7 +58,7 @@ module _ (links : Links) (t : ℕ) (x : NormalState) (going : IsGoing links t x)
     tied_z = edited_tied links t y after report s serves own room z edits
 
     pub push_idle : z.mutator.editing ≡ false
-    push_idle = ap (λ (m : NormalState). m.mutator.editing) edits.then
+    push_idle = ap (λ (m : NormalState). m.mutator.editing) edits.leaves
 
     pub push_together : z.mutator.past.queue ≡ links.queue.now
     push_together = tied_z.linked.queue_is

@@ -92,9 +92,9 @@ module _ (links : Links) (x : NormalState) (tied : IsTied links x) (none : x.han
       let lt : n < length z.streams = (let s = before.streams in let e = tied.sizes.streams_are in omega arith) in
       let w : HasWhole links.streams.now n z.streams = whole_at n z before (omega arith) in
       let is : w.stream ≡ one.stream = one_of w.stream one.stream (sym w.is_home ∙ one.is_home) in
-      let here : stream_at y.streams n ≡ Some (without_hand one.stream) = ap (λ (m : NormalState). stream_at m.streams n) one.then ∙ get_or-set_same z.streams n (Some (without_hand one.stream)) None lt in
+      let here : stream_at y.streams n ≡ Some (without_hand one.stream) = ap (λ (m : NormalState). stream_at m.streams n) one.leaves ∙ get_or-set_same z.streams n (Some (without_hand one.stream)) None lt in
       record {
-        same = one.then ∙ ap (λ (m : NormalState). record m { streams = y.streams; hands = y.hands }) before.same;
+        same = one.leaves ∙ ap (λ (m : NormalState). record m { streams = y.streams; hands = y.hands }) before.same;
         streams = long.1 ∙ before.streams;
         count = (let c = before.count in let l = long.2 in omega arith);
         hands = hand_more links.streams.now n z y before.count w before.hands one;

@@ -65,7 +65,7 @@ pub record Hands (i : ℕ) (x y : NormalState) : Type 0 where
   pub stream : ServerState
   pub is_home : stream_at x.streams i ≡ Some stream
   pub in_order : IsInOrder (without_hand stream)
-  pub then : y ≡ record x { streams = slice_set x.streams i (Some (without_hand stream)); hands = x.hands ++ hand_of stream ∷ [] }
+  pub leaves : y ≡ record x { streams = slice_set x.streams i (Some (without_hand stream)); hands = x.hands ++ hand_of stream ∷ [] }
 
 -- the first ones did
 abbrev pub HandsTo : ℕ → NormalState → NormalState → Type 0

@@ -16,9 +16,8 @@ ghost use Rattle.af_normal.specs.State.{setup_of};
 ghost use Rattle.af_normal.specs.TurnMade.{IsServable, ServesAll};
 
 use crate::attend::{NOTHING_HEARD, attend, known};
-use crate::mixer::NormalMixer;
+use crate::mixer::{NormalMixer, TrackHand};
 use af_base::{Report, SlotReport, Steps, TrackTurn, TrackTurns};
-use af_cblk::FlagHand;
 use af_life::{Heard, TrackKept, free_slot};
 use af_link::Links;
 use af_server::Server;
@@ -58,7 +57,7 @@ fn attend_at<L: Ledger>(
     ready: TrackKept,
     streams: &mut [Option<Server>],
     commands: &mut [Server],
-    hands: &mut [FlagHand],
+    hands: &mut [TrackHand],
     seen: &mut TrackTurn,
     steps: &mut Steps<L>,
 ) -> TrackKept
