@@ -58,9 +58,10 @@ beyond [] i le = refl
 beyond (f ∷ streams) zero le = absurd (omega arith)
 beyond (f ∷ streams) (suc i) le = beyond streams i (omega arith)
 
-flat_same : {X Y : Type 0} (f g : X → List Y) (xs : List X) → ((x : X) → f x ≡ g x) → flat_map f xs ≡ flat_map g xs
-flat_same {Y = Y} f g [] e = refl
-flat_same {Y = Y} f g (x ∷ xs) e = ap (λ (ys : List Y). ys ++ flat_map f xs) (e x) ∙ ap (λ (ys : List Y). g x ++ ys) (flat_same f g xs e)
+module _ {X Y : Type 0} (f g : X → List Y) (same : (x : X) → f x ≡ g x) where
+  flat_same : (xs : List X) → flat_map f xs ≡ flat_map g xs
+  flat_same [] = refl
+  flat_same (x ∷ xs) = ap (λ (ys : List Y). ys ++ flat_map f xs) (same x) ∙ ap (λ (ys : List Y). g x ++ ys) (flat_same xs)
 
 module _ (links : Links) (t : ℕ) (x : NormalState) (ack : Bool) (report : Report) (room : ℕ) (push : Push) (y : NormalState) (made : IsMade links t x ack report room push y) where
   abbrev home : NormalState
@@ -177,10 +178,13 @@ module _ (links : Links) (t : ℕ) (x : NormalState) (ack : Bool) (report : Repo
           told_is = told_served links t l (going_l links t x ack report room push y made) report s made.goes_on.rest.serves i r served
 
           mixes_are : Mixes ≡ mix_events cs o (mixing_of q).takes i
-          mixes_are = flat_same _ _ (takes_from (mixing_of q).takes i) (λ take.
-              ap (λ (f : Option ServerState). cycle_events (asked (setup_of p)) (listed_at f) take.slot ((mix links t x ack report room push y made).0 i)) pushed
+          mixes_are = flat_same
+              (λ (take : TakeSeen). cycle_events (asked (setup_of p)) (listed_at (stream_at p.streams i)) take.slot ((mix links t x ack report room push y made).0 i))
+              (λ (take : TakeSeen). cycle_events (asked cs) (listed_at (stream_at l.streams i)) take.slot ((mix links t x ack report room push y made).0 i))
+              (λ take. ap (λ (f : Option ServerState). cycle_events (asked (setup_of p)) (listed_at f) take.slot ((mix links t x ack report room push y made).0 i)) pushed
               ∙ events_still (listed_at (stream_at l.streams i)) (listed r) told_is.0 told_is.1 (asked (setup_of p)) take.slot ((mix links t x ack report room push y made).0 i)
               ∙ ap (λ (d : Setup). cycle_events (asked d) (listed_at (stream_at l.streams i)) take.slot ((mix links t x ack report room push y made).0 i)) (setup_of_p links t x ack report room push y made))
+              (takes_from (mixing_of q).takes i)
 
           -- before its part the proxy of the track was home
           home_is : is_some (stream_at l.streams i) ≡ true → i < length l.tracks → is_home (track_at (served_to cs ks ts l.tracks i) i).holder ≡ true

@@ -48,18 +48,19 @@ use Rattle.af_normal.proofs.OrderStages.{acked_kept, tied_acked, acked_same, tie
 
 -- ## No more looks than are due
 
+none_left : (n : ℕ) → (n == 0) ≡ true → n ≡ 0
+none_left n e = grind arith
+
+by_next : (b : Bool) (n k : ℕ) (due : Bool) → (due ≡ true → k ≤ n) → (if b then due else k == 0) ≡ true → suc k ≤ suc n
+by_next true n k due more f = let l : k ≤ n = more f in omega arith
+by_next false n k due more f = let l : k ≡ 0 = none_left k f in omega arith
+
 due_len : (given : Option ℕ) (flush_seen n : ℕ) (looks : List CommandLook) (s : TrackKept) → are_due n given flush_seen looks s ≡ true → length looks ≤ n
 due_len given flush_seen zero [] s e = omega arith
 due_len given flush_seen zero (look ∷ looks) s e = absurd (true≢false (sym e))
 due_len given flush_seen (suc n) [] s e = absurd (true≢false (sym e))
-due_len given flush_seen (suc n) (look ∷ looks) s e = by_next (goes_on look (after_look given flush_seen look s)) e
-  where
-    none_left : (n : ℕ) → (n == 0) ≡ true → n ≡ 0
-    none_left n e = grind arith
-
-    by_next : (b : Bool) → (if b then are_due n given flush_seen looks (after_look given flush_seen look s) else length looks == 0) ≡ true → suc (length looks) ≤ suc n
-    by_next true f = let l : length looks ≤ n = due_len given flush_seen n looks (after_look given flush_seen look s) f in omega arith
-    by_next false f = let l : length looks ≡ 0 = none_left (length looks) f in omega arith
+due_len given flush_seen (suc n) (look ∷ looks) s e = by_next (goes_on look (after_look given flush_seen look s)) n (length looks) (are_due n given flush_seen looks (after_look given flush_seen look s))
+    (due_len given flush_seen n looks (after_look given flush_seen look s)) e
 
 module _ (c : Setup) (k : Learnt) (seen : TrackSeen) (tracks : List TrackKept) (i : ℕ) where
   few_looks : LegalTrack c k seen tracks i → length seen.looks ≤ 64

@@ -1,3 +1,12 @@
+use Rattle.af_normal.proofs.OrderEdits.{sound_go}
+use Rattle.af_normal.proofs.OrderOut.{out_same}
+use Rattle.af_normal.proofs.LegalLists.{upd}
+use Rattle.af_normal.proofs.LegalFlags.{known_still}
+use Rattle.af_normal.proofs.LegalServed.{served_all}
+use Rattle.af_normal.proofs.LegalPlays.{played_all}
+use Rattle.af_normal.proofs.LegalEdits.{push_legal}
+use Rattle.af_normal.proofs.OrderLives.{Grew}
+use Rattle.af_normal.proofs.OrderSlots.{TakesNone}
 use Rattle.std.proofs.Common.{◌≡◌, take}
 use Rattle.af_normal.proofs.plays.keep_frames.Given as goal
 
