@@ -50,13 +50,13 @@ takes_back asked n takes spare takes' spare' h none room e = record {
 module _ (i : ℕ) (x y : NormalState) (h : Hands i x y) where
   pub hands_long : (length y.tracks ≡ length x.tracks) × (length y.streams ≡ length x.streams) × (length y.hands ≡ length x.hands + 1)
   hands_long = (
-    ap (λ (z : NormalState). length z.tracks) h.then,
-    ap (λ (z : NormalState). length z.streams) h.then ∙ length-set x.streams i _,
-    ap (λ (z : NormalState). length z.hands) h.then ∙ length-append x.hands (hand_of h.stream ∷ []),
+    ap (λ (z : NormalState). length z.tracks) h.leaves,
+    ap (λ (z : NormalState). length z.streams) h.leaves ∙ length-set x.streams i _,
+    ap (λ (z : NormalState). length z.hands) h.leaves ∙ length-append x.hands (hand_of h.stream ∷ []),
   )
 
   pub hands_other : (k : ℕ) → k ≢ i → stream_at y.streams k ≡ stream_at x.streams k
-  hands_other k ne = ap (λ (z : NormalState). stream_at z.streams k) h.then ∙ get_or-set_other x.streams i k _ None ne
+  hands_other k ne = ap (λ (z : NormalState). stream_at z.streams k) h.leaves ∙ get_or-set_other x.streams i k _ None ne
 
 -- the last of a list
 get_last : {A : Type 0} (xs : List A) (a : A) (n : ℕ) → length xs ≡ n → slice_get (xs ++ a ∷ []) n ≡ Some a
@@ -80,7 +80,7 @@ HandsOf blocks hands = (k : ℕ) (flag : HandSide) → slice_get hands k ≡ Som
 
 pub hand_more : (blocks : List Made) (i : ℕ) (x y : NormalState) → length x.hands ≡ i → HasWhole blocks i x.streams → HandsOf blocks x.hands → Hands i x y → HandsOf blocks y.hands
 hand_more blocks i x y count whole of h = λ k flag at.
-    let grown : y.hands ≡ x.hands ++ hand_of h.stream ∷ [] = ap (λ (z : NormalState). z.hands) h.then in
+    let grown : y.hands ≡ x.hands ++ hand_of h.stream ∷ [] = ap (λ (z : NormalState). z.hands) h.leaves in
     let here : slice_get (x.hands ++ hand_of h.stream ∷ []) k ≡ Some flag = sym (ap (λ (l : List HandSide). slice_get l k) grown) ∙ at in
     let inside : k < length (x.hands ++ hand_of h.stream ∷ []) = slice_get_within (x.hands ++ hand_of h.stream ∷ []) k flag here in
     ⊎_elim

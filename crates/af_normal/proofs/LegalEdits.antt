@@ -179,7 +179,7 @@ module _ (c : Setup) (k : Learnt) (room : ℕ) (x y : NormalState) (setup : c �
   edits_are e =
       let b : EditedTo c k (record x { mutator = begun x.mutator }) setup own (length x.tracks) e.edited = edited_all c k (record x { mutator = begun x.mutator }) setup own (length x.tracks) e.edited e.tracks in
       let z : NormalState = e.edited in
-      ap kept_of e.then
+      ap kept_of e.leaves
       ∙ order_is (due_command room e.edited) e.edited
       ∙ ap (λ (d : Setup). ordered (next_command (is_exit e.edited.mutator.draft) e.edited.tracks room (pipe_size d)) (kept_open e.edited)) (ap setup_of b.same ∙ sym setup)
       ∙ ap (commanded_by c room) (b.kept_is ∙ ap (λ (m : NormalKept). edited_to c k m (length x.tracks)) begun_is)
@@ -193,10 +193,10 @@ module _ (c : Setup) (k : Learnt) (room : ℕ) (x y : NormalState) (setup : c �
   pub edits_same : EditsAll room x y → Mutated
   edits_same e =
       let b : EditedTo c k (record x { mutator = begun x.mutator }) setup own (length x.tracks) e.edited = edited_all c k (record x { mutator = begun x.mutator }) setup own (length x.tracks) e.edited e.tracks in record {
-        same = subst (λ (w : NormalState). w ≡ record x { tracks = w.tracks; streams = w.streams; mutator = w.mutator }) (sym e.then)
+        same = subst (λ (w : NormalState). w ≡ record x { tracks = w.tracks; streams = w.streams; mutator = w.mutator }) (sym e.leaves)
             (ap (λ (w : NormalState). record w { mutator = finished (commands (due_command room e.edited) e.edited.mutator) }) b.same);
-        past = ap (λ (w : NormalState). w.mutator.past) e.then ∙ past_is (code_of (due_command room e.edited) == code_of e.edited.mutator.draft.command) (due_command room e.edited) e.edited ∙ b.past;
-        streams = (λ j. subst (λ (w : NormalState). SameOrGone (stream_at x.streams j) (stream_at w.streams j)) (sym e.then) (b.streams j));
+        past = ap (λ (w : NormalState). w.mutator.past) e.leaves ∙ past_is (code_of (due_command room e.edited) == code_of e.edited.mutator.draft.command) (due_command room e.edited) e.edited ∙ b.past;
+        streams = (λ j. subst (λ (w : NormalState). SameOrGone (stream_at x.streams j) (stream_at w.streams j)) (sym e.leaves) (b.streams j));
       }
     where
       past_is : (b : Bool) (command : Command) (z : NormalState) → (finished (if b then z.mutator else record z.mutator { draft = with_command command z.mutator.draft; edited = true })).past ≡ z.mutator.past

@@ -106,7 +106,7 @@ module _ (links : Links) (t : ℕ) (x : NormalState) (ack : Bool) (report : Repo
 
   idle_y : y.mutator.editing ≡ false
   idle_y = ap (λ (w : NormalState). w.mutator.editing) (y_same links t x ack report room push y made) ∙ ap (λ (w : NormalState). w.mutator.editing) (q_same links t x ack report room push y made)
-      ∙ push_idle push z p made.goes_on.rest.pushes ∙ ap (λ (w : NormalState). w.mutator.editing) made.goes_on.rest.edits.then
+      ∙ push_idle push z p made.goes_on.rest.pushes ∙ ap (λ (w : NormalState). w.mutator.editing) made.goes_on.rest.edits.leaves
 
   -- each track still has its hand
   hands_done : HaveHands links.streams.now (length s.tracks) s.hands

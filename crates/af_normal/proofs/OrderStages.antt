@@ -166,7 +166,7 @@ module _ (links : Links) where
       by_same false = record { sound = sound_ordered z.tracks z.mutator.draft command mutating.tied.sound; sizes = mutating.tied.sizes; proxies = mutating.tied.proxies; out = mutating.tied.out; linked = mutating.tied.linked }
 
   pub tied_edited : (edits room : ℕ) (x y : NormalState) → IsTied links x → ((k : ℕ) → (slot_of x.mutator.draft k).generation ≤ edits) → x.mutator.draft.tracks_gen ≤ edits → EditsAll room x y → IsTied links y
-  tied_edited edits room x y tied generations changes e = subst (IsTied links) (sym e.then)
+  tied_edited edits room x y tied generations changes e = subst (IsTied links) (sym e.leaves)
       (tied_finished (edits + length x.tracks) (due_command room e.edited) e.edited
       (edited_open links edits (length x.tracks) (record x { mutator = begun x.mutator }) e.edited (opened edits x tied generations changes) e.tracks))
 

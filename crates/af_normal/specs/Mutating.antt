@@ -75,7 +75,7 @@ due_command room x = next_command (is_exit x.mutator.draft) x.tracks room (pipe_
 pub record EditsAll (room : ℕ) (x y : NormalState) : Type 0 where
   pub edited : NormalState
   pub tracks : EditsTo (length x.tracks) (record x { mutator = begun x.mutator }) edited
-  pub then : y ≡ record edited { mutator = finished (commands (due_command room edited) edited.mutator) }
+  pub leaves : y ≡ record edited { mutator = finished (commands (due_command room edited) edited.mutator) }
 
 -- the push answers
 pub record Pushes (push : Push) (x y : NormalState) : Type 0 where

@@ -1,5 +1,5 @@
 -- A whole turn as its steps, one after the other.
-use Rattle.std.specs.Prelude.{◌≡◌, ℕ, ◌-◌, ◌<◌, ◌^◌, ◌==◌, ◌&&◌, not, nat_le, Bool, true, false, MatchBool, length, map, []}
+use Rattle.std.specs.Prelude.{◌≡◌, ℕ, ◌-◌, ◌<◌, ◌^◌, ◌==◌, ◌&&◌, not, nat_le, Bool, true, false, MatchBool, length, map, [], Some}
 use Rattle.af_base.specs.Log.{slots}
 use Rattle.af_base.specs.declared.report.Report.{Report}
 use Rattle.af_base.specs.declared.state.Push.{Push}
@@ -13,8 +13,11 @@ use Rattle.af_link.specs.declared.names.StreamNames.{StreamNames}
 use Rattle.af_life.specs.Edits.{is_exit}
 use Rattle.af_life.specs.Kept.{asked, slot_number, track_at}
 use Rattle.af_life.specs.Plays.{put_by}
-use Rattle.af_normal.specs.Mixing.{Mixing, MixesTo}
+use Rattle.af_link.specs.Names.{IsStreamOf}
+use Rattle.af_normal.specs.AllMixed.{HasTakes}
+use Rattle.af_normal.specs.Mixing.{Mixing, MixesTo, stream_at}
 use Rattle.af_normal.specs.Mutating.{EditsAll, Pushes}
+use Rattle.af_normal.specs.Order.{HasTurns}
 use Rattle.af_normal.specs.Ready.{AreOwn, serving_of}
 use Rattle.af_normal.specs.Serving.{ServesTo}
 use Rattle.af_normal.specs.State.{NormalState, setup_of}
@@ -72,6 +75,14 @@ pub record GoesOnFrom (ack : Bool) (report : Report) (room : ℕ) (push : Push) 
   pub plays : PlaysAll room pushed played
   pub tells : turn_of y.entry ≡ told_turn room ack report push played
   pub leaves : y ≡ record played { entry = y.entry }
+
+-- The same with what stays in order: the proxies and the hands are of their blocks, and the entry and the spare lists have their room
+pub record WentOn (links : Links) (ack : Bool) (report : Report) (room : ℕ) (push : Push) (home y : NormalState) : Type 0 where
+  pub goes : GoesOnFrom ack report room push home y
+  pub own : (i : ℕ) → i < length goes.served.tracks → AreOwn links goes.served.streams goes.served.commands goes.served.hands i
+  pub streams : (i : ℕ) (s : ServerState) → stream_at goes.played.streams i ≡ Some s → IsStreamOf links.streams.now i s
+  pub turns : HasTurns (length y.tracks) y.entry.tracks y.spare_turns
+  pub takes : HasTakes (asked (setup_of y)) (length y.tracks) y.entry.mixes y.spare_takes
 
 -- a turn that goes on, from its look at the acknowledgement
 pub record GoesOnBy (ack : Bool) (report : Report) (room : ℕ) (push : Push) (x y : NormalState) : Type 0 where

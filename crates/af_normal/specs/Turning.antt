@@ -7,7 +7,7 @@ use Rattle.af_model.specs.declared.newest.ReaderEvent.TheVariants.{Load}
 use Rattle.af_cblk.specs.Parts.{client_saw_front}
 use Rattle.af_cblk.specs.Rule.{new_hand}
 use Rattle.af_cblk.specs.Sides.{HandSide, Made}
-use Rattle.af_server.specs.Order.{ServerState}
+use Rattle.af_server.specs.Order.{ServerState, IsInOrder}
 use Rattle.af_server.specs.Slot.{listed}
 use Rattle.af_stateq.specs.Answers.{WasAcked}
 use Rattle.af_stateq.specs.Mutates.{InDraft, Mutates}
@@ -64,7 +64,8 @@ pub record HasWhole (blocks : List Made) (i : ℕ) (streams : List (Option Serve
 pub record Hands (i : ℕ) (x y : NormalState) : Type 0 where
   pub stream : ServerState
   pub is_home : stream_at x.streams i ≡ Some stream
-  pub then : y ≡ record x { streams = slice_set x.streams i (Some (without_hand stream)); hands = x.hands ++ hand_of stream ∷ [] }
+  pub in_order : IsInOrder (without_hand stream)
+  pub leaves : y ≡ record x { streams = slice_set x.streams i (Some (without_hand stream)); hands = x.hands ++ hand_of stream ∷ [] }
 
 -- the first ones did
 abbrev pub HandsTo : ℕ → NormalState → NormalState → Type 0

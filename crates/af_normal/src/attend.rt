@@ -15,7 +15,8 @@ ghost use Rattle.af_normal.specs.Serving.{Adds, StreamAdds, HandAdds, Attends, d
 
 use crate::commands::look_at_commands;
 use af_base::{CommandLooks, INVALID, Steps, TrackTurn};
-use af_cblk::{Block, FlagHand};
+use crate::mixer::TrackHand;
+use af_cblk::Block;
 use af_life::{Heard, Known, TrackKept, is_found_shut, stored_over};
 use af_server::Server;
 use std::sync::ledger::Ledger;
@@ -76,13 +77,13 @@ fn obey<L: Ledger>(
 }
 
 // DISABLED, where the report says so.
-fn disable<L: Ledger>(hand: &mut FlagHand, block: &Block, disabled: bool, steps: &mut Steps<L>)
+fn disable<L: Ledger>(hand: &mut TrackHand, block: &Block, disabled: bool, steps: &mut Steps<L>)
     requires made { hand_made hand.old ≡ block.now }
     ensures made { hand_made hand.new ≡ block.now }
     ensures list { HandAdds hand.old (disabled_events disabled) hand.new }
 {
     if disabled {
-        block.set_disabled(hand, steps);
+        block.set_disabled(&mut hand.flag, steps);
     }
 }
 
@@ -133,7 +134,7 @@ fn store_status<L: Ledger>(
 pub(crate) fn attend<L: Ledger>(
     command: &mut Server,
     stream: &mut Option<Server>,
-    hand: &mut FlagHand,
+    hand: &mut TrackHand,
     command_block: &Block,
     stream_block: &Block,
     given: Option<u32>,

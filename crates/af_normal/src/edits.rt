@@ -96,7 +96,8 @@ impl NormalMixer {
     {
         let before = self.mutator.draft().command;
         let exits = before.code() == Command::Exit.code();
-        let command = next_command(exits, &self.tracks, room, 4 * self.normal * self.frames);
+        let size = 4 * (self.normal * self.frames);
+        let command = next_command(exits, &self.tracks, room, size);
         if command.code() == before.code() {
             return false;
         }
@@ -114,7 +115,7 @@ impl NormalMixer {
         let mut edited = false;
         for i in 0..self.tracks.len() {
             let here = self.edit(i);
-            edited = edited || here;
+            edited = edited | here;
         }
         edited
     }

@@ -1,5 +1,5 @@
 //! How a normal mixer is made.
-ghost use Rattle.std.specs.Prelude.{◌≡◌, ◌+◌, ◌*◌, ◌<◌, ◌≤◌, ◌++◌, ◌∷◌, [], length, map, replicate, All, IfOk, IfErr, Some};
+ghost use Rattle.std.specs.Prelude.{◌≡◌, false, ◌+◌, ◌*◌, ◌<◌, ◌≤◌, ◌++◌, ◌∷◌, [], length, map, replicate, All, IfOk, IfErr, Some};
 ghost use Rattle.af_base.specs.Turn.{take_seen, track_seen};
 ghost use Rattle.af_life.specs.Edits.{is_exit};
 ghost use Rattle.af_normal.specs.AllMixed.{HasFrames};

@@ -10,6 +10,21 @@ use af_server::Server;
 use af_stateq::Mutator;
 use std::marker::Model;
 
+/// The hand of a track's stream block. The number of the track stands beside it, since the hand has no bytes, and an element of such a list can't be lent. Contracts see the hand.
+#[derive(Drop)]
+pub(crate) struct TrackHand {
+    pub(crate) track: u32,
+    pub(crate) flag: FlagHand,
+}
+
+impl Model for TrackHand {
+    ghost use Rattle.af_cblk.specs.Sides.{HandSide};
+
+    ghost Value = { HandSide };
+
+    ghost view = { λ h. h.flag };
+}
+
 /// The mixer that hears of all tracks, tells the fast mixer what to do, and mixes the tracks that have no slot into the pipe (AOSP's MixerThread).
 #[derive(Drop)]
 pub struct NormalMixer {
@@ -21,7 +36,7 @@ pub struct NormalMixer {
     pub(crate) streams: Vec<Option<Server>>,
     pub(crate) commands: Vec<Server>,
     // They are there from the first turn on.
-    pub(crate) hands: Vec<FlagHand>,
+    pub(crate) hands: Vec<TrackHand>,
     pub(crate) mutator: Mutator<Server, StreamNames>,
     pub(crate) ends: (ReportReader, PipeIn),
     pub(crate) entry: TurnEntry,

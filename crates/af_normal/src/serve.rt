@@ -16,9 +16,8 @@ ghost use Rattle.af_normal.specs.State.{setup_of};
 ghost use Rattle.af_normal.specs.TurnMade.{IsServable, ServesAll};
 
 use crate::attend::{NOTHING_HEARD, attend, known};
-use crate::mixer::NormalMixer;
+use crate::mixer::{NormalMixer, TrackHand};
 use af_base::{Report, SlotReport, Steps, TrackTurn, TrackTurns};
-use af_cblk::FlagHand;
 use af_life::{Heard, TrackKept, free_slot};
 use af_link::Links;
 use af_server::Server;
@@ -58,7 +57,7 @@ fn attend_at<L: Ledger>(
     ready: TrackKept,
     streams: &mut [Option<Server>],
     commands: &mut [Server],
-    hands: &mut [FlagHand],
+    hands: &mut [TrackHand],
     seen: &mut TrackTurn,
     steps: &mut Steps<L>,
 ) -> TrackKept
@@ -186,7 +185,7 @@ impl NormalMixer {
         requires turns { HasTurns (length self.old.tracks) self.old.entry.tracks self.old.spare_turns }
         requires none { self.old.entry.tracks.items ≡ [] }
         ensures serves { ServesAll report.now self.old self.new }
-        ensures own { (i : ℕ) → i < length self.old.tracks → AreOwn links.now self.new.streams self.new.commands self.new.hands i }
+        ensures own { (i : ℕ) → i < length self.new.tracks → AreOwn links.now self.new.streams self.new.commands self.new.hands i }
         ensures turns { HasTurns (length self.old.tracks) self.new.entry.tracks self.new.spare_turns }
         ensures entry { self.new.entry ≡ (record self.old.entry { tracks = self.new.entry.tracks }) }
     {

@@ -8,10 +8,10 @@ ghost use Rattle.af_server.specs.Order.{IsServerOf};
 ghost use Rattle.af_normal.specs.Mixing.{stream_at};
 ghost use Rattle.af_normal.specs.declared.turn.Turn.TheVariants.{Turned, Ended};
 ghost use Rattle.af_normal.specs.Order.{IsGoing, IsInOrder};
-ghost use Rattle.af_normal.specs.TurnMade.{GoesOnFrom, TurnMade, has_mixed};
+ghost use Rattle.af_normal.specs.TurnMade.{TurnMade, WentOn, has_mixed};
 ghost use Rattle.af_normal.specs.Turning.{Begins, Hands, HasHands, HandsTo, HasWhole, Learns};
 
-use crate::mixer::NormalMixer;
+use crate::mixer::{NormalMixer, TrackHand};
 use af_base::{Items, Push, Report, Steps};
 use af_link::Links;
 use std::sync::ledger::Ledger;
@@ -57,7 +57,7 @@ impl NormalMixer {
 
     // The stream proxy of a track, which is home, gives its hand.
     fn split_hand<L: Ledger>(&mut self, links: &Links<'_>, i: usize, steps: &mut Steps<L>)
-        requires track { (i < length self.old.streams) × (i < length self.old.tracks) × (i < length links.now.streams.now) }
+        requires track { (i < 2 ^ 32) × (i < length self.old.streams) × (i < length self.old.tracks) × (i < length links.now.streams.now) }
         requires next { length self.old.hands ≡ i }
         requires whole { HasWhole links.now.streams.now i self.old.streams }
         ensures hands { Hands i self.old self.new }
@@ -65,8 +65,9 @@ impl NormalMixer {
         let Some(server) = &mut self.streams[i] else {
             unreachable!()
         };
-        let hand = server.hand(&links.streams[i], steps);
-        self.hands.push_reserved(hand);
+        let flag = server.hand(&links.streams[i], steps);
+        let track = i as u32;
+        self.hands.push_reserved(TrackHand { track, flag });
     }
 
     // In the first turn each stream proxy gives its hand.
@@ -111,9 +112,7 @@ impl NormalMixer {
     fn go_on<L: Ledger>(&mut self, links: &Links<'_>, ack: bool, steps: &mut Steps<L>) -> Turn
         requires going { IsGoing links.now (self.old.turns - 1) self.old }
         requires few { self.old.turns ≤ 131072 }
-        ensures goes { (report : Load) × (room : ℕ) × (push : Answer) × GoesOnFrom ack report room push self.old self.new × (result ≡ Turned (has_mixed self.new) push) }
-        ensures order { IsInOrder links.now self.new }
-        ensures turns { self.new.turns ≡ self.old.turns }
+        ensures goes { (report : Load) × (room : ℕ) × (push : Answer) × WentOn links.now ack report room push self.old self.new × (result ≡ Turned (has_mixed self.new) push) }
     {
         let (report, room) = self.learn(links, steps);
         self.serve_all(links, &report, steps);

@@ -95,7 +95,7 @@ returns g c =
         same = v.same;
         mixes = ap (λ (t : TurnEntry). t.mixes) v.entry;
       };
-      own = v.own;
+      own = λ i lt. v.own i (let l = v.long.0 in omega arith);
       turns = v.turns;
       entry = v.entry;
     }
