@@ -68,10 +68,7 @@ module _ (links : Links) (ack : Bool) (x y : NormalState) (tied : IsTied links x
   pub acked_same : (y ≡ record x { tracks = y.tracks; streams = y.streams; mutator = y.mutator }) × (y.mutator.editing ≡ x.mutator.editing)
   acked_same = same_by ack sees.acked sees.comes
     where
-      Same : Type 0
-      Same = (y ≡ record x { tracks = y.tracks; streams = y.streams; mutator = y.mutator }) × (y.mutator.editing ≡ x.mutator.editing)
-
-      same_by : (b : Bool) → WasAcked x.mutator b sees.mutator → Comes b → Same
+      same_by : (b : Bool) → WasAcked x.mutator b sees.mutator → Comes b → (y ≡ record x { tracks = y.tracks; streams = y.streams; mutator = y.mutator }) × (y.mutator.editing ≡ x.mutator.editing)
       same_by true seen comes =
           let is : sees.mutator ≡ record x.mutator { past = saw x.mutator.past.number seen.0 x.mutator.past; returned = sees.mutator.returned } = seen.1 in
           let clear : sees.mutator.past.clear ≡ true = ap (λ (m : Mutates ServerState StreamNames). m.past.clear) is ∙ eq-eqb (word x.mutator.past.number) (word x.mutator.past.number) refl in
