@@ -47,10 +47,10 @@ lent_or_same (o ∷ streams) zero (suc j) = inl refl
 lent_or_same (o ∷ streams) (suc i) zero = inl refl
 lent_or_same (o ∷ streams) (suc i) (suc j) = lent_or_same streams i j
 
-then : (o p q : Option ServerState) → SameOrGone o p → SameOrGone p q → SameOrGone o q
-then o p q (inl e) (inl f) = inl (f ∙ e)
-then o p q (inr e) (inl f) = inr (f ∙ e)
-then o p q a (inr f) = inr f
+and_then : (o p q : Option ServerState) → SameOrGone o p → SameOrGone p q → SameOrGone o q
+and_then o p q (inl e) (inl f) = inl (f ∙ e)
+and_then o p q (inr e) (inl f) = inr (f ∙ e)
+and_then o p q a (inr f) = inr f
 
 taken : (b : Bool) (m n : NormalKept) → b ≡ true → m ≡ (if b then m else n)
 taken true m n e = refl
@@ -104,15 +104,15 @@ module _ (c : Setup) (k : Learnt) (i : ℕ) where
   edited_one x y setup own e = by_leave (must_leave (track_at x.tracks i)) refl e
     where
       by_enter : (b : Bool) → must_leave (track_at x.tracks i) ≡ false → must_enter (track_at x.tracks i) ≡ b → MatchBool b (Lends i x y) (y ≡ x) → EditedOne x y
-      by_enter true no is l = record {
-        kept_is = ap kept_open l.2 ∙ lent_is x l.0 setup (own l.0 l.1) ∙ comer (kept_open x) no is;
+      by_enter true not_left is l = record {
+        kept_is = ap kept_open l.2 ∙ lent_is x l.0 setup (own l.0 l.1) ∙ comer (kept_open x) not_left is;
         same = subst (Same x) (sym l.2) refl;
         past = ap (λ (z : NormalState). z.mutator.past) l.2;
         others = (λ j ne. ap (λ (z : NormalState). stream_at z.streams j) l.2 ∙ get_or-set_other x.streams i j None None ne);
         streams = (λ j. subst (λ (z : NormalState). SameOrGone (stream_at x.streams j) (stream_at z.streams j)) (sym l.2) (lent_or_same x.streams i j));
       }
-      by_enter false no is l = record {
-        kept_is = ap kept_open l ∙ stays (kept_open x) no is;
+      by_enter false not_left is l = record {
+        kept_is = ap kept_open l ∙ stays (kept_open x) not_left is;
         same = subst (Same x) (sym l) refl;
         past = ap (λ (z : NormalState). z.mutator.past) l;
         others = (λ j ne. ap (λ (z : NormalState). stream_at z.streams j) l);
@@ -154,7 +154,7 @@ module _ (c : Setup) (k : Learnt) (x : NormalState) (setup : c ≡ setup_of x) (
         same = one.same ∙ ap (λ (w : NormalState). record w { tracks = y.tracks; streams = y.streams; mutator = y.mutator }) b.same;
         past = one.past ∙ b.past;
         others = (λ j le. one.others j (λ is. omega arith) ∙ b.others j (omega arith));
-        streams = (λ j. then (stream_at x.streams j) (stream_at z.streams j) (stream_at y.streams j) (b.streams j) (one.streams j));
+        streams = (λ j. and_then (stream_at x.streams j) (stream_at z.streams j) (stream_at y.streams j) (b.streams j) (one.streams j));
       }
 
 -- ## The whole mutation

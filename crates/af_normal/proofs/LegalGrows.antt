@@ -58,9 +58,10 @@ beyond [] i le = refl
 beyond (f ∷ streams) zero le = absurd (omega arith)
 beyond (f ∷ streams) (suc i) le = beyond streams i (omega arith)
 
-flat_same : {X Y : Type 0} (f g : X → List Y) (xs : List X) → ((x : X) → f x ≡ g x) → flat_map f xs ≡ flat_map g xs
-flat_same {Y = Y} f g [] e = refl
-flat_same {Y = Y} f g (x ∷ xs) e = ap (λ (ys : List Y). ys ++ flat_map f xs) (e x) ∙ ap (λ (ys : List Y). g x ++ ys) (flat_same f g xs e)
+module _ {X Y : Type 0} (f g : X → List Y) (same : (x : X) → f x ≡ g x) where
+  flat_same : (xs : List X) → flat_map f xs ≡ flat_map g xs
+  flat_same [] = refl
+  flat_same (x ∷ xs) = ap (λ (ys : List Y). ys ++ flat_map f xs) (same x) ∙ ap (λ (ys : List Y). g x ++ ys) (flat_same xs)
 
 module _ (links : Links) (t : ℕ) (x : NormalState) (ack : Bool) (report : Report) (room : ℕ) (push : Push) (y : NormalState) (made : IsMade links t x ack report room push y) where
   abbrev home : NormalState
@@ -136,12 +137,12 @@ module _ (links : Links) (t : ℕ) (x : NormalState) (ack : Bool) (report : Repo
             (λ j. (same j, sym (ap listed_at part.has_command) j, at_is i j)) part.commanded,
       )
 
+  abbrev Events : Option HandSide → List HandEvent
+  Events h = elim h as (λ w. List HandEvent) [ None ↦ [] | Some f ↦ f.part.events ]
+
   pub hands_grow : (i : ℕ) → hand_events y.hands i ≡ hand_events x.hands i ++ hand_list e i
   hands_grow i = ap (λ (hs : List HandSide). hand_events hs i) hands_y ∙ here ∙ ap (λ (hs : List HandSide). hand_events hs i ++ hand_list e i) hands_l
     where
-      abbrev Events : Option HandSide → List HandEvent
-      Events h = elim h as (λ w. List HandEvent) [ None ↦ [] | Some f ↦ f.part.events ]
-
       here : hand_events s.hands i ≡ hand_events l.hands i ++ hand_list e i
       here = elim (cases_lt i (length l.tracks)) as (λ d. hand_events s.hands i ≡ hand_events l.hands i ++ hand_list e i) [
         | inl lt ↦ let part = (done links t x ack report room push y made).parts i lt in
@@ -152,6 +153,13 @@ module _ (links : Links) (t : ℕ) (x : NormalState) (ack : Bool) (report : Repo
 
   -- ## The streams
 
+  abbrev Grew : ℕ → ServerState → Type 0
+  Grew i v = (v.pass.part.events ≡ (o.streams i).events ++ stream_list cs o e (tracks_at cs ks (kept_of x) e i) i) × (v.pass.part.shape ≡ (o.streams i).shape)
+
+  -- the events of the mix by the list that the serving left
+  abbrev Mixes : ℕ → List ServerEvent
+  Mixes i = mix_of (asked (setup_of p)) (mixing_of p) (mix links t x ack report room push y made).0 (mixing_of q).takes i
+
   pub streams_grow : (i : ℕ) (v : ServerState) → stream_at y.streams i ≡ Some v
       → (v.pass.part.events ≡ (o.streams i).events ++ stream_list cs o e (tracks_at cs ks (kept_of x) e i) i) × (v.pass.part.shape ≡ (o.streams i).shape)
   streams_grow i v is = from_played (stream_at p.streams i) refl ((mix links t x ack report room push y made).1.streams i)
@@ -159,16 +167,9 @@ module _ (links : Links) (t : ℕ) (x : NormalState) (ack : Bool) (report : Repo
       there : stream_at q.streams i ≡ Some v
       there = sym (ap (λ (w : NormalState). stream_at w.streams i) y_same) ∙ is
 
-      abbrev Grew : Type 0
-      Grew = (v.pass.part.events ≡ (o.streams i).events ++ stream_list cs o e (tracks_at cs ks (kept_of x) e i) i) × (v.pass.part.shape ≡ (o.streams i).shape)
-
-      -- the events of the mix by the list that the serving left
-      abbrev Mixes : List ServerEvent
-      Mixes = mix_of (asked (setup_of p)) (mixing_of p) (mix links t x ack report room push y made).0 (mixing_of q).takes i
-
       -- where the proxy was home when all was learnt
-      from_served : (r : ServerState) → stream_at s.streams i ≡ Some r → stream_at p.streams i ≡ Some r → Adds r Mixes (words_of (takes_from (mixing_of q).takes i)) v → Grew
-      from_served r served pushed adds = elim (cases_lt i (length l.tracks)) as (λ d. Grew) [
+      from_served : (r : ServerState) → stream_at s.streams i ≡ Some r → stream_at p.streams i ≡ Some r → Adds r (Mixes i) (words_of (takes_from (mixing_of q).takes i)) v → (Grew i v)
+      from_served r served pushed adds = elim (cases_lt i (length l.tracks)) as (λ d. (Grew i v)) [
         | inl lt ↦ by_learnt (stream_at l.streams i) refl (subst (StreamAdds (stream_at l.streams i) (invalid ks (seen_at ts i) (served_to cs ks ts l.tracks i) i)) served ((done links t x ack report room push y made).parts i lt).streamed)
         | inr le ↦ past le
       ]
@@ -176,11 +177,14 @@ module _ (links : Links) (t : ℕ) (x : NormalState) (ack : Bool) (report : Repo
           told_is : ((listed r).shape ≡ (listed_at (stream_at l.streams i)).shape) × (kept (listed r) ≡ kept (listed_at (stream_at l.streams i)))
           told_is = told_served links t l (going_l links t x ack report room push y made) report s made.goes_on.rest.serves i r served
 
-          mixes_are : Mixes ≡ mix_events cs o (mixing_of q).takes i
-          mixes_are = flat_same _ _ (takes_from (mixing_of q).takes i) (λ take.
-              ap (λ (f : Option ServerState). cycle_events (asked (setup_of p)) (listed_at f) take.slot ((mix links t x ack report room push y made).0 i)) pushed
+          mixes_are : (Mixes i) ≡ mix_events cs o (mixing_of q).takes i
+          mixes_are = flat_same
+              (λ (take : TakeSeen). cycle_events (asked (setup_of p)) (listed_at (stream_at p.streams i)) take.slot ((mix links t x ack report room push y made).0 i))
+              (λ (take : TakeSeen). cycle_events (asked cs) (listed_at (stream_at l.streams i)) take.slot ((mix links t x ack report room push y made).0 i))
+              (λ take. ap (λ (f : Option ServerState). cycle_events (asked (setup_of p)) (listed_at f) take.slot ((mix links t x ack report room push y made).0 i)) pushed
               ∙ events_still (listed_at (stream_at l.streams i)) (listed r) told_is.0 told_is.1 (asked (setup_of p)) take.slot ((mix links t x ack report room push y made).0 i)
               ∙ ap (λ (d : Setup). cycle_events (asked d) (listed_at (stream_at l.streams i)) take.slot ((mix links t x ack report room push y made).0 i)) (setup_of_p links t x ack report room push y made))
+              (takes_from (mixing_of q).takes i)
 
           -- before its part the proxy of the track was home
           home_is : is_some (stream_at l.streams i) ≡ true → i < length l.tracks → is_home (track_at (served_to cs ks ts l.tracks i) i).holder ≡ true
@@ -191,7 +195,7 @@ module _ (links : Links) (t : ℕ) (x : NormalState) (ack : Bool) (report : Repo
           listing true es before inv f g = ap (λ (a : List ServerEvent). a ++ mix_events cs o (mixing_of q).takes i) g ∙ append_assoc before inv (mix_events cs o (mixing_of q).takes i)
           listing false es before inv f g = absurd (true≢false (sym f))
 
-          by_learnt : (f : Option ServerState) → stream_at l.streams i ≡ f → StreamAdds f (invalid ks (seen_at ts i) (served_to cs ks ts l.tracks i) i) (Some r) → Grew
+          by_learnt : (f : Option ServerState) → stream_at l.streams i ≡ f → StreamAdds f (invalid ks (seen_at ts i) (served_to cs ks ts l.tracks i) i) (Some r) → (Grew i v)
           by_learnt None e a = absurd (true≢false (ap is_some a))
           by_learnt (Some r0) learnt (r1, a, is_r) =
               let same : r1 ≡ r = same_proxy r1 r (sym is_r) in
@@ -210,15 +214,15 @@ module _ (links : Links) (t : ℕ) (x : NormalState) (ack : Bool) (report : Repo
                 | inr le ↦ absurd (true≢false (sym (ap is_some learnt) ∙ ap is_some (beyond l.streams i (let n = (going_l links t x ack report room push y made).tied.sizes.streams_are in omega arith))))
               ]
 
-          past : length l.tracks ≤ i → Grew
+          past : length l.tracks ≤ i → (Grew i v)
           past le = absurd (true≢false (sym (ap is_some served) ∙ ap is_some (beyond s.streams i (let n = (going_l links t x ack report room push y made).tied.sizes.streams_are in let w = (done links t x ack report room push y made).long.0 in omega arith))))
 
-      from_played : (f : Option ServerState) → stream_at p.streams i ≡ f → StreamTakes f Mixes (words_of (takes_from (mixing_of q).takes i)) (stream_at q.streams i) → Grew
-      from_played None e a = absurd (true≢false (sym (ap is_some (sym there ∙ a))))
+      from_played : (f : Option ServerState) → stream_at p.streams i ≡ f → StreamTakes f (Mixes i) (words_of (takes_from (mixing_of q).takes i)) (stream_at q.streams i) → (Grew i v)
+      from_played None e a = absurd (true≢false (ap is_some (sym there ∙ a)))
       from_played (Some r) pushed (w, adds, is_w) =
           let same : w ≡ v = same_proxy w v (sym is_w ∙ there) in
           let edited : stream_at z.streams i ≡ Some r = sym (ap (λ (n : NormalState). stream_at n.streams i) (p_same links t x ack report room push y made)) ∙ pushed in
           ⊎_elim
-          (λ (f : stream_at z.streams i ≡ stream_at s.streams i). from_served r (sym f ∙ edited) pushed (subst (Adds r Mixes (words_of (takes_from (mixing_of q).takes i))) same adds))
+          (λ (f : stream_at z.streams i ≡ stream_at s.streams i). from_served r (sym f ∙ edited) pushed (subst (Adds r (Mixes i) (words_of (takes_from (mixing_of q).takes i))) same adds))
           (λ (f : stream_at z.streams i ≡ None). absurd (true≢false (ap is_some (sym edited ∙ f))))
           ((edited_mutated links t l (going_l links t x ack report room push y made) report s made.goes_on.rest.serves made.own room z made.goes_on.rest.edits).streams i)

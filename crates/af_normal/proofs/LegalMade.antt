@@ -150,7 +150,7 @@ module _ (links : Links) (t : ℕ) (x : NormalState) (ack : Bool) (report : Repo
   abbrev pub turns : List TrackSeen
   turns = (serving_of s).turns
 
-  pub outside : Outside
+  abbrev pub outside : Outside
   outside = record {
     report = report;
     streams = (λ i. listed_at (stream_at l.streams i));
@@ -160,7 +160,7 @@ module _ (links : Links) (t : ℕ) (x : NormalState) (ack : Bool) (report : Repo
   }
 
   -- the entry
-  pub told : Turn
+  abbrev pub told : Turn
   told = record { ended = false; room = room; ack = ack; cycle = report.cycle; tracks = turns; push = push; mixes = (mixing_of q).takes }
 
   pub tells : turn_of y.entry ≡ told

@@ -6,6 +6,7 @@ use Rattle.std.proofs.lemmas.List.{set-get_or}
 use Rattle.std.proofs.lemmas.Option.{slice_get_within}
 use Rattle.af_base.specs.declared.event.HandEvent.{HandEvent}
 use Rattle.af_base.specs.declared.event.ServerEvent.{ServerEvent}
+use Rattle.af_base.specs.declared.event.ServerEvent.TheVariants as server
 use Rattle.af_base.specs.declared.turn.CommandLook.{CommandLook}
 use Rattle.af_base.specs.Turn.{TrackSeen}
 use Rattle.af_cblk.specs.Sides.{HandSide}
@@ -119,9 +120,6 @@ module _ (c : Setup) (k : Learnt) where
 
   module _ (n : ℕ) (x : Serving) (all : AreAll n x) where
     module _ (i : ℕ) (lt : i < n) (z : Serving) (before : ServedTo n x z i) where
-      T : List TrackKept
-      T = served_to c k z.turns x.tracks i
-
       -- one that is joined to the list: what was seen of the tracks before it stays
       module _ (seen : TrackSeen) (y : Serving) (turns_are : y.turns ≡ z.turns ++ seen ∷ []) where
         to_same : (j : ℕ) → j ≤ i → served_to c k y.turns x.tracks j ≡ served_to c k z.turns x.tracks j
@@ -157,7 +155,7 @@ module _ (c : Setup) (k : Learnt) where
       none_found : (seen : TrackSeen) (tracks : List TrackKept) (j : ℕ) → (track_at tracks j).life.ended ≡ true → invalid k seen tracks j ≡ []
       none_found seen tracks j e = by_ended (track_at tracks j).life.ended (is_found_shut (heard k j (track_at tracks j)) seen.looks) e
         where
-          by_ended : (b d : Bool) → b ≡ true → (if not b && d then _ ∷ [] else []) ≡ []
+          by_ended : (b d : Bool) → b ≡ true → (if not b && d then server.SetFlags 4 ∷ [] else []) ≡ []
           by_ended true d f = refl
           by_ended false d f = absurd (true≢false (sym f))
 
@@ -169,13 +167,10 @@ module _ (c : Setup) (k : Learnt) where
       stream_none (Some s) events e = (s, adds_none s events e, refl)
 
       passed : (y : Serving) → (track_at z.tracks i).life.ended ≡ true → y ≡ record z { turns = z.turns ++ nothing_seen ∷ [] } → ServedTo n x y (suc i)
-      passed y ended is = subst (λ (w : Serving). ServedTo n x w (suc i)) (sym is) (joined nothing_seen w refl []
+      passed y ended is = subst (λ (w : Serving). ServedTo n x w (suc i)) (sym is) (joined nothing_seen (record z { turns = z.turns ++ nothing_seen ∷ [] }) refl []
           (sym (set-get_or z.tracks i _) ∙ ap (slice_set z.tracks i) (sym (served_ended [] z.tracks i ended)))
           part (λ j ne. record { command = refl; flag = refl; stream = refl }) (refl, refl, refl))
         where
-          abbrev w : Serving
-          w = record z { turns = z.turns ++ nothing_seen ∷ [] }
-
           u : Untouched x z i
           u = before.rest i (omega arith)
 
@@ -204,34 +199,35 @@ module _ (c : Setup) (k : Learnt) where
       found_is : (seen : TrackSeen) → (track_at z.tracks i).life.ended ≡ false → shut_events (is_found_shut (heard k i (track_at z.tracks i)) seen.looks) ≡ invalid k seen z.tracks i
       found_is seen lives = by_ended (track_at z.tracks i).life.ended (is_found_shut (heard k i (track_at z.tracks i)) seen.looks) lives
         where
-          by_ended : (b d : Bool) → b ≡ false → shut_events d ≡ (if not b && d then _ ∷ [] else [])
+          by_ended : (b d : Bool) → b ≡ false → shut_events d ≡ (if not b && d then server.SetFlags 4 ∷ [] else [])
           by_ended true d f = absurd (true≢false f)
           by_ended false d f = refl
 
       some_same : {X : Type 0} (o : Option X) (u v : X) → o ≡ Some u → o ≡ Some v → u ≡ v
       some_same o u v e f = let g : Some u ≡ Some v = sym e ∙ f in cc
 
+      -- what serving it leaves
+      abbrev after : TrackSeen → ServerState → Option ServerState → HandSide → Serving
+      after seen command stream flag = record {
+        tracks = slice_set z.tracks i (served c k seen.looks z.tracks i);
+        streams = slice_set z.streams i stream;
+        commands = slice_set z.commands i command;
+        hands = slice_set z.hands i flag;
+        turns = z.turns ++ seen ∷ [];
+      }
+
       went : (y : Serving) → (track_at z.tracks i).life.ended ≡ false → ServesOne c k i z y → ServedTo n x y (suc i)
-      went y lives s = subst (λ (v : Serving). ServedTo n x v (suc i)) (sym s.leaves) (joined s.seen w refl s.attends.fronts refl part
+      went y lives s = subst (λ (v : Serving). ServedTo n x v (suc i)) (sym s.leaves) (joined s.seen (after s.seen s.command' s.stream' s.flag') refl s.attends.fronts refl part
           (λ j ne. record { command = get_set_other z.commands i j s.command' ne; flag = get_set_other z.hands i j s.flag' ne; stream = get_or-set_other z.streams i j s.stream' None ne })
           (length-set z.streams i s.stream', length-set z.commands i s.command', length-set z.hands i s.flag'))
         where
-          abbrev w : Serving
-          w = record {
-            tracks = slice_set z.tracks i (served c k s.seen.looks z.tracks i);
-            streams = slice_set z.streams i s.stream';
-            commands = slice_set z.commands i s.command';
-            hands = slice_set z.hands i s.flag';
-            turns = z.turns ++ s.seen ∷ [];
-          }
-
           u : Untouched x z i
           u = before.rest i (omega arith)
 
           wide : i < length z.streams
           wide = let l = before.long.0 in let a = all.streams in omega arith
 
-          part : Part c k x w i s.attends.fronts s.seen z.tracks
+          part : Part c k x (after s.seen s.command' s.stream' s.flag') i s.attends.fronts s.seen z.tracks
           part = record {
             legal = match_false (track_at z.tracks i).life.ended _ _ lives s.attends.legal;
             command = s.command;

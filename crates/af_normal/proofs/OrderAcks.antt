@@ -82,7 +82,7 @@ module _ (links : Links) (x : NormalState) (tied : IsTied links x) (held : InDra
     left : (j : ℕ) → i ≤ j → track_at tracks j ≡ track_at x.tracks j
     hand : (j : ℕ) → i ≤ j → is_home (track_at x.tracks j).holder ≡ false → at returned (slot_at j) ≡ at x.mutator.returned (slot_at j)
 
-  Coming : ℕ → NormalState → Type 0
+  abbrev Coming : ℕ → NormalState → Type 0
   Coming i z = (tracks : List TrackKept) × (streams : Items) × (returned : Items) × (out : List Bool) × (z ≡ state tracks streams returned out) × Came i tracks streams returned out
 
   taken : (b : Bool) (s t u : TrackKept) → b ≡ true → s ≡ t → s ≡ (if b then t else u)
@@ -255,21 +255,21 @@ module _ (links : Links) (x : NormalState) (tied : IsTied links x) (held : InDra
           hand = (λ j le a. others None j le a ∙ c.hand j (further j le) a);
         }
 
+    abbrev now : NormalState
+    now = record (state tracks streams returned out) { mutator = takes_back (slot_number (track_at tracks i)) (state tracks streams returned out).mutator }
+
+    abbrev Item : NormalState → Option ServerState → Type 0
+    Item y o = MatchOption o (y ≡ now) (λ server. y ≡ has_back i server now)
+
     -- one track more
     one_more : (y : NormalState) → Welcomes i (state tracks streams returned out) y → Coming (suc i) y
     one_more y w = by_holder (is_returning (track_at tracks i).holder) refl w
       where
-        abbrev z : NormalState
-        z = record (state tracks streams returned out) { mutator = takes_back k (state tracks streams returned out).mutator }
-
-        abbrev Item : Option ServerState → Type 0
-        Item o = MatchOption o (y ≡ z) (λ server. y ≡ has_back i server z)
-
-        by_item : is_returning (track_at tracks i).holder ≡ true → (o : Option ServerState) → at returned k ≡ o → Item o → Coming (suc i) y
+        by_item : is_returning (track_at tracks i).holder ≡ true → (o : Option ServerState) → at returned k ≡ o → Item y o → Coming (suc i) y
         by_item r None is e = (tracks, streams, slice_set returned k None, slice_set out k (is_out out k && not (is_some (at returned k))), e, rests r is)
         by_item r (Some server) is e = (slice_set tracks i (record (track_at tracks i) { holder = Home }), slice_set streams i (Some server), slice_set returned k None, slice_set out k (is_out out k && not (is_some (at returned k))), e, comes r server is)
 
-        by_holder : (b : Bool) → is_returning (track_at tracks i).holder ≡ b → MatchBool b (Item (at returned k)) (y ≡ state tracks streams returned out) → Coming (suc i) y
+        by_holder : (b : Bool) → is_returning (track_at tracks i).holder ≡ b → MatchBool b (Item y (at returned k)) (y ≡ state tracks streams returned out) → Coming (suc i) y
         by_holder true r v = by_item r (at returned k) refl v
         by_holder false r v = (tracks, streams, returned, out, v, passes r)
 

@@ -1,13 +1,14 @@
 -- What a track's part of a turn changes of its life and of its slot.
 use Rattle.std.proofs.Common.{◌≡◌, ℕ, ◌==◌, ◌&&◌, ◌⊎◌, not, Bool, true, false, if◌then◌else◌, true≢false, is_some, sym, refl, ap, ◌∙◌, inl, inr, List, [], ◌∷◌, Option, arith}
+use Rattle.std.specs.List.{AllByRecursion}
 use Rattle.af_base.specs.declared.report.SlotReport.{SlotReport}
 use Rattle.af_base.specs.declared.turn.CommandLook.{CommandLook}
 use Rattle.af_life.specs.declared.state.LifeState.TheVariants.{Absent}
 use Rattle.af_life.specs.declared.track.Known.{Known}
 use Rattle.af_life.specs.declared.track.Life.{Life}
 use Rattle.af_life.specs.State.{is_among}
-use Rattle.af_life.specs.Commands.{by_command}
-use Rattle.af_life.specs.Reports.{by_report}
+use Rattle.af_life.specs.Commands.{Row, applies, commands, first_effect as command_effect, by_command}
+use Rattle.af_life.specs.Reports.{Case, reports, first_effect as report_effect, by_report}
 use Rattle.af_life.specs.declared.kept.Heard.{Heard}
 use Rattle.af_life.specs.declared.kept.TrackKept.{TrackKept}
 use Rattle.af_life.specs.Kept.{Setup, Learnt, track_at, is_home}
@@ -36,31 +37,41 @@ either : (b : Bool) (l t u : Life) → Grew l t → Grew l u → Grew l (if b th
 either true l t u g h = g
 either false l t u g h = h
 
+-- by the first row that applies
+by_row : (rows : List Row) (code argument : ℕ) (l : Life) → AllByRecursion (λ (r : Row). Grew l (r.effect argument l)) rows → Grew l (command_effect rows code argument l)
+by_row [] code argument l all = same l
+by_row (r ∷ rows) code argument l all = either (applies r code l) l (r.effect argument l) (command_effect rows code argument l) all.0 (by_row rows code argument l all.1)
+
+by_case : (cases : List Case) (known : Known) (l : Life) → AllByRecursion (λ (r : Case). Grew l (r.effect known l)) cases → Grew l (report_effect cases known l)
+by_case [] known l all = same l
+by_case (r ∷ cases) known l all = either (r.applies known l) l (r.effect known l) (report_effect cases known l) all.0 (by_case cases known l all.1)
+
 pub grew_command : (code argument : ℕ) (l : Life) → Grew l (by_command code argument l)
 unfolding by_command
-grew_command code argument l = either l.ended l l _ (same l)
-    (either _ l _ _ (record { ended = (λ h. h); absent = no })
-    (either _ l _ _ (record { ended = (λ h. h); absent = no })
-    (either _ l _ _ (record { ended = (λ h. h); absent = no })
-    (either _ l _ _ (record { ended = (λ h. h); absent = no })
-    (either _ l _ _ (record { ended = (λ h. h); absent = no })
-    (either _ l _ _ (record { ended = (λ h. h); absent = no })
-    (either _ l _ _ (record { ended = (λ h. h); absent = no })
-    (either _ l _ _ (record { ended = (λ h. refl); absent = (λ h. h) }) (same l)))))))))
+grew_command code argument l = either l.ended l l (command_effect commands code argument l) (same l) (by_row commands code argument l (
+    record { ended = (λ h. h); absent = no },
+    (record { ended = (λ h. h); absent = no },
+    (record { ended = (λ h. h); absent = no },
+    (record { ended = (λ h. h); absent = no },
+    (record { ended = (λ h. h); absent = no },
+    (record { ended = (λ h. h); absent = no },
+    (record { ended = (λ h. h); absent = no },
+    (record { ended = (λ h. refl); absent = (λ h. h) }, tt)))))))))
 
 pub grew_report : (known : Known) (l : Life) → Grew l (by_report known l)
 unfolding by_report
-grew_report known l = either _ l _ _ (record { ended = (λ h. refl); absent = (λ h. h) })
-    (either _ l _ _ (record { ended = (λ h. h); absent = (λ h. h) })
-    (either _ l _ _ (record { ended = (λ h. h); absent = no })
-    (either _ l _ _ (same l)
-    (either _ l _ _ (record { ended = (λ h. h); absent = no })
-    (either _ l _ _ (record { ended = (λ h. h); absent = no })
-    (either _ l _ _ (record { ended = (λ h. h); absent = no })
-    (either _ l _ _ (record { ended = (λ h. h); absent = (λ h. h) })
-    (either _ l _ _ (same l)
-    (either _ l _ _ (record { ended = (λ h. h); absent = (λ h. h) })
-    (either _ l _ _ (same l) (same l)))))))))))
+grew_report known l = by_case reports known l (
+    record { ended = (λ h. refl); absent = (λ h. h) },
+    (record { ended = (λ h. h); absent = (λ h. h) },
+    (record { ended = (λ h. h); absent = no },
+    (same l,
+    (record { ended = (λ h. h); absent = no },
+    (record { ended = (λ h. h); absent = no },
+    (record { ended = (λ h. h); absent = no },
+    (record { ended = (λ h. h); absent = (λ h. h) },
+    (same l,
+    (record { ended = (λ h. h); absent = (λ h. h) },
+    (same l, tt)))))))))))
 
 all_three : (b c d : Bool) → (b && (not c && d)) ≡ true → (b ≡ true) × (c ≡ false) × (d ≡ true)
 all_three true false true e = (refl, refl, refl)

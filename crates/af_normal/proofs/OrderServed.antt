@@ -33,34 +33,34 @@ abbrev pub StaysPut : TrackKept → TrackKept → Type 0
 StaysPut s t = (t.holder ≡ s.holder) × (is_home s.holder ≡ false → t.slot ≡ s.slot)
 
 module _ (c : Setup) (k : Learnt) (seen : List TrackSeen) (draft : FastState) (tracks : List TrackKept) (sound : IsSound tracks draft) where
+  abbrev T : ℕ → List TrackKept
+  T n = served_to c k seen tracks n
+
+  abbrev now : ℕ → TrackKept
+  now n = served c k (seen_at seen n).looks (served_to c k seen tracks n) n
+
+  goes : (n : ℕ) → Goes (slot_for c (served_to c k seen tracks n) n) (track_at (served_to c k seen tracks n) n) (served c k (seen_at seen n).looks (served_to c k seen tracks n) n)
+  goes n = goes_served c k (seen_at seen n).looks (served_to c k seen tracks n) n ((sound_served c k seen draft tracks n sound).slotted n).unopened
+
+  here : (n : ℕ) → StaysPut (track_at tracks n) (track_at (served_to c k seen tracks n) n) → StaysPut (track_at tracks n) (served c k (seen_at seen n).looks (served_to c k seen tracks n) n)
+  here n before = (
+    (goes n).holder ∙ before.0,
+    λ away. let was : is_home (track_at (served_to c k seen tracks n) n).holder ≡ false = ap is_home before.0 ∙ away in
+    elim (goes n).slot as (λ p. (now n).slot ≡ (track_at tracks n).slot) [
+      | inl e ↦ e ∙ before.1 away
+      | inr g ↦ absurd (true≢false (sym (((sound_served c k seen draft tracks n sound).slotted n).homely g.0) ∙ was))
+    ],
+  )
+
   pub stay_put : (n j : ℕ) → StaysPut (track_at tracks j) (track_at (served_to c k seen tracks n) j)
   stay_put zero j = (refl, λ away. refl)
-  stay_put (suc n) j = elim (at_set T n t j) as (λ p. StaysPut (track_at tracks j) (track_at (slice_set (served_to c k seen tracks n) n (served c k (seen_at seen n).looks (served_to c k seen tracks n) n)) j)) [
-    | inl p ↦ subst (StaysPut (track_at tracks j)) (sym p.1) (subst (λ (i : ℕ). StaysPut (track_at tracks i) t) (sym p.0) here)
+  stay_put (suc n) j = elim (at_set (T n) n (now n) j) as (λ p. StaysPut (track_at tracks j) (track_at (slice_set (served_to c k seen tracks n) n (served c k (seen_at seen n).looks (served_to c k seen tracks n) n)) j)) [
+    | inl p ↦ subst (StaysPut (track_at tracks j)) (sym p.1) (subst (λ (i : ℕ). StaysPut (track_at tracks i) (now n)) (sym p.0) (here n (stay_put n n)))
     | inr q ↦ subst (StaysPut (track_at tracks j)) (sym q) (stay_put n j)
   ]
-    where
-      abbrev T : List TrackKept
-      T = served_to c k seen tracks n
-
-      abbrev t : TrackKept
-      t = served c k (seen_at seen n).looks (served_to c k seen tracks n) n
-
-      goes : Goes (slot_for c (served_to c k seen tracks n) n) (track_at (served_to c k seen tracks n) n) (served c k (seen_at seen n).looks (served_to c k seen tracks n) n)
-      goes = goes_served c k (seen_at seen n).looks (served_to c k seen tracks n) n ((sound_served c k seen draft tracks n sound).slotted n).unopened
-
-      here : StaysPut (track_at tracks n) (served c k (seen_at seen n).looks (served_to c k seen tracks n) n)
-      here = let before = stay_put n n in (
-        goes.holder ∙ before.0,
-        λ away. let was : is_home (track_at T n).holder ≡ false = ap is_home before.0 ∙ away in
-        elim goes.slot as (λ p. t.slot ≡ (track_at tracks n).slot) [
-          | inl e ↦ e ∙ before.1 away
-          | inr g ↦ absurd (true≢false (sym (((sound_served c k seen draft tracks n sound).slotted n).homely g.0) ∙ was))
-        ],
-      )
 
 -- what is out stays out
-out_put : (tracks now : List TrackKept) (out : List Bool) → length now ≡ length tracks → ((j : ℕ) → StaysPut (track_at tracks j) (track_at now j)) → IsOut tracks out → IsOut now out
+pub out_put : (tracks now : List TrackKept) (out : List Bool) → length now ≡ length tracks → ((j : ℕ) → StaysPut (track_at tracks j) (track_at now j)) → IsOut tracks out → IsOut now out
 out_put tracks now out long put h = record {
   at_slot = (λ q low high on. let old = h.at_slot q low high on in (
     old.0,

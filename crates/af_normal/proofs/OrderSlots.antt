@@ -20,22 +20,28 @@ no h = absurd (true≢false (sym h))
 
 -- ## A free slot
 
-found : (p : ℕ → Bool) (a n k : ℕ) → find p (range_with_len a n) ≡ Some k → (p k ≡ true) × (a ≤ k) × (k < a + n)
+or_false : (a b : Bool) → (a || b) ≡ false → (a ≡ false) × (b ≡ false)
+or_false true b e = absurd (true≢false e)
+or_false false b e = (refl, e)
+
+abbrev Found : (ℕ → Bool) → ℕ → ℕ → ℕ → Type 0
+Found p a n k = (p k ≡ true) × (a ≤ k) × (k < a + n)
+
+found : (p : ℕ → Bool) (a n k : ℕ) → find p (range_with_len a n) ≡ Some k → Found p a n k
 found p a zero k e = no (ap is_some e)
-found p a (suc n) k e = by_first (p a) refl e
+found p a (suc n) k e = by_first (p a) refl (found p (a + 1) n k) e
   where
-    by_first : (b : Bool) → p a ≡ b → (if b then Some a else find p (range_with_len (a + 1) n)) ≡ Some k → (p k ≡ true) × (a ≤ k) × (k < a + suc n)
-    by_first true is f = let same : a ≡ k = ap number_of f in (subst (λ (j : ℕ). p j ≡ true) same is, omega arith, omega arith)
-    by_first false is f = let more = found p (a + 1) n k f in (more.0, (let l = more.1 in omega arith), (let l = more.2 in omega arith))
+    by_first : (b : Bool) → p a ≡ b → (find p (range_with_len (a + 1) n) ≡ Some k → Found p (a + 1) n k) → (if b then Some a else find p (range_with_len (a + 1) n)) ≡ Some k → Found p a (suc n) k
+    by_first true is later f = let same : a ≡ k = ap number_of f in (subst (λ (j : ℕ). p j ≡ true) same is, omega arith, omega arith)
+    by_first false is later f = let more = later f in (more.0, (let l = more.1 in omega arith), (let l = more.2 in omega arith))
 
 none_holds : (k : ℕ) (tracks : List TrackKept) → list_any (holds k) tracks ≡ false → (j : ℕ) → holds k (track_at tracks j) ≡ false
 none_holds k [] e j = refl
-none_holds k (s ∷ tracks) e j = by_head (holds k s) refl e j
+none_holds k (s ∷ tracks) e zero = neither.0
   where
-    by_head : (b : Bool) → holds k s ≡ b → (b || list_any (holds k) tracks) ≡ false → (j : ℕ) → holds k (track_at (s ∷ tracks) j) ≡ false
-    by_head true is f j = absurd (true≢false f)
-    by_head false is f zero = is
-    by_head false is f (suc j) = none_holds k tracks f j
+    neither : (holds k s ≡ false) × (list_any (holds k) tracks ≡ false)
+    neither = or_false (holds k s) (list_any (holds k) tracks) e
+none_holds k (s ∷ tracks) e (suc j) = none_holds k tracks (or_false (holds k s) (list_any (holds k) tracks) e).1 j
 
 not_true : (b : Bool) → not b ≡ true → b ≡ false
 not_true true e = no e
@@ -145,9 +151,9 @@ module _ (c : Setup) (tracks : List TrackKept) (i : ℕ) (s t : TrackKept) (is :
   -- whoever holds a slot then held it before, or it was free
   pub takes_none : TakesNone tracks i t
   takes_none k h = let parts = has_slot k t h in
-      let open : (s.life.ended && is_home s.holder) ≡ false = ap (λ (o : Holder). s.life.ended && is_home o) (sym goes.holder) ∙ not_ended t.life.ended s.life.ended (is_home t.holder) goes.life.ended parts.2 in
+      let before : (s.life.ended && is_home s.holder) ≡ false = ap (λ (o : Holder). s.life.ended && is_home o) (sym goes.holder) ∙ not_ended t.life.ended s.life.ended (is_home t.holder) goes.life.ended parts.2 in
       elim goes.slot as (λ x. (holds k (track_at tracks i) ≡ true) ⊎ ((j : ℕ) → holds k (track_at tracks j) ≡ false)) [
-        | inl e ↦ inl (ap (holds k) is ∙ slot_is k s (ap is_some (sym e) ∙ parts.0) (ap number_of (sym e) ∙ parts.1) open)
+        | inl e ↦ inl (ap (holds k) is ∙ slot_is k s (ap is_some (sym e) ∙ parts.0) (ap number_of (sym e) ∙ parts.1) before)
         | inr g ↦ inr (given_free c tracks i k (sym g.1 ∙ some_of t.slot k parts.0 parts.1)).2
       ]
     where

@@ -68,10 +68,7 @@ module _ (links : Links) (ack : Bool) (x y : NormalState) (tied : IsTied links x
   pub acked_same : (y ≡ record x { tracks = y.tracks; streams = y.streams; mutator = y.mutator }) × (y.mutator.editing ≡ x.mutator.editing)
   acked_same = same_by ack sees.acked sees.comes
     where
-      Same : Type 0
-      Same = (y ≡ record x { tracks = y.tracks; streams = y.streams; mutator = y.mutator }) × (y.mutator.editing ≡ x.mutator.editing)
-
-      same_by : (b : Bool) → WasAcked x.mutator b sees.mutator → Comes b → Same
+      same_by : (b : Bool) → WasAcked x.mutator b sees.mutator → Comes b → (y ≡ record x { tracks = y.tracks; streams = y.streams; mutator = y.mutator }) × (y.mutator.editing ≡ x.mutator.editing)
       same_by true seen comes =
           let is : sees.mutator ≡ record x.mutator { past = saw x.mutator.past.number seen.0 x.mutator.past; returned = sees.mutator.returned } = seen.1 in
           let clear : sees.mutator.past.clear ≡ true = ap (λ (m : Mutates ServerState StreamNames). m.past.clear) is ∙ eq-eqb (word x.mutator.past.number) (word x.mutator.past.number) refl in
@@ -144,8 +141,8 @@ sound_ordered tracks draft command h = record {
 module _ (links : Links) (edits : ℕ) where
   -- after the first tracks were edited
   pub edited_open : (n : ℕ) (x y : NormalState) → IsOpen links edits x → EditsTo n x y → IsOpen links (edits + n) y
-  edited_open zero x y open e = subst (λ (m : ℕ). IsOpen links m y) (omega arith) (subst (IsOpen links edits) (sym e) open)
-  edited_open (suc n) x y open (z, before, e) = subst (λ (m : ℕ). IsOpen links m y) (omega arith) (edit_keeps links (edits + n) n z (edited_open n x z open before) y e)
+  edited_open zero x y mutating e = subst (λ (m : ℕ). IsOpen links m y) (omega arith) (subst (IsOpen links edits) (sym e) mutating)
+  edited_open (suc n) x y mutating (z, before, e) = subst (λ (m : ℕ). IsOpen links m y) (omega arith) (edit_keeps links (edits + n) n z (edited_open n x z mutating before) y e)
 
 module _ (links : Links) where
   -- a mutation begins
@@ -159,11 +156,11 @@ module _ (links : Links) where
 
   -- and ends
   pub tied_finished : (edits : ℕ) (command : Command) (z : NormalState) → IsOpen links edits z → IsTied links (record z { mutator = finished (commands command z.mutator) })
-  tied_finished edits command z open = by_same (code_of command == code_of z.mutator.draft.command)
+  tied_finished edits command z mutating = by_same (code_of command == code_of z.mutator.draft.command)
     where
       by_same : (b : Bool) → IsTied links (record z { mutator = finished (if b then z.mutator else record z.mutator { draft = with_command command z.mutator.draft; edited = true }) })
-      by_same true = record { sound = open.tied.sound; sizes = open.tied.sizes; proxies = open.tied.proxies; out = open.tied.out; linked = open.tied.linked }
-      by_same false = record { sound = sound_ordered z.tracks z.mutator.draft command open.tied.sound; sizes = open.tied.sizes; proxies = open.tied.proxies; out = open.tied.out; linked = open.tied.linked }
+      by_same true = record { sound = mutating.tied.sound; sizes = mutating.tied.sizes; proxies = mutating.tied.proxies; out = mutating.tied.out; linked = mutating.tied.linked }
+      by_same false = record { sound = sound_ordered z.tracks z.mutator.draft command mutating.tied.sound; sizes = mutating.tied.sizes; proxies = mutating.tied.proxies; out = mutating.tied.out; linked = mutating.tied.linked }
 
   pub tied_edited : (edits room : ℕ) (x y : NormalState) → IsTied links x → ((k : ℕ) → (slot_of x.mutator.draft k).generation ≤ edits) → x.mutator.draft.tracks_gen ≤ edits → EditsAll room x y → IsTied links y
   tied_edited edits room x y tied generations changes e = subst (IsTied links) (sym e.leaves)

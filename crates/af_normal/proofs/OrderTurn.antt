@@ -48,21 +48,22 @@ use Rattle.af_normal.proofs.OrderStages.{acked_kept, tied_acked, acked_same, tie
 
 -- ## No more looks than are due
 
+none_left : (n : ℕ) → (n == 0) ≡ true → n ≡ 0
+none_left n e = grind arith
+
+by_next : (b : Bool) (n k : ℕ) (due : Bool) → (due ≡ true → k ≤ n) → (if b then due else k == 0) ≡ true → suc k ≤ suc n
+by_next true n k due more f = let l : k ≤ n = more f in omega arith
+by_next false n k due more f = let l : k ≡ 0 = none_left k f in omega arith
+
 due_len : (given : Option ℕ) (flush_seen n : ℕ) (looks : List CommandLook) (s : TrackKept) → are_due n given flush_seen looks s ≡ true → length looks ≤ n
 due_len given flush_seen zero [] s e = omega arith
 due_len given flush_seen zero (look ∷ looks) s e = absurd (true≢false (sym e))
 due_len given flush_seen (suc n) [] s e = absurd (true≢false (sym e))
-due_len given flush_seen (suc n) (look ∷ looks) s e = by_next (goes_on look (after_look given flush_seen look s)) e
-  where
-    none_left : (n : ℕ) → (n == 0) ≡ true → n ≡ 0
-    none_left n e = grind arith
-
-    by_next : (b : Bool) → (if b then are_due n given flush_seen looks (after_look given flush_seen look s) else length looks == 0) ≡ true → suc (length looks) ≤ suc n
-    by_next true f = let l : length looks ≤ n = due_len given flush_seen n looks (after_look given flush_seen look s) f in omega arith
-    by_next false f = let l : length looks ≡ 0 = none_left (length looks) f in omega arith
+due_len given flush_seen (suc n) (look ∷ looks) s e = by_next (goes_on look (after_look given flush_seen look s)) n (length looks) (are_due n given flush_seen looks (after_look given flush_seen look s))
+    (due_len given flush_seen n looks (after_look given flush_seen look s)) e
 
 module _ (c : Setup) (k : Learnt) (seen : TrackSeen) (tracks : List TrackKept) (i : ℕ) where
-  few_looks : LegalTrack c k seen tracks i → length seen.looks ≤ 64
+  pub few_looks : LegalTrack c k seen tracks i → length seen.looks ≤ 64
   few_looks legal = by_ended (track_at tracks i).life.ended legal
     where
       by_wait : (b : Bool) → MatchBool b (seen.looks ≡ []) (are_due most_looks (slot_for c tracks i) (heard k i (track_at tracks i)).flush_seen seen.looks (ready k i (track_at tracks i)) ≡ true) → length seen.looks ≤ 64
@@ -73,7 +74,7 @@ module _ (c : Setup) (k : Learnt) (seen : TrackSeen) (tracks : List TrackKept) (
       by_ended true e = let l : length seen.looks ≡ 0 = ap (λ (s : TrackSeen). length s.looks) e in omega arith
       by_ended false h = by_wait (is_some (ready k i (track_at tracks i)).awaits) h.looks
 
-seen_past : (turns : List TrackSeen) (i : ℕ) → length turns ≤ i → seen_at turns i ≡ nothing_seen
+pub seen_past : (turns : List TrackSeen) (i : ℕ) → length turns ≤ i → seen_at turns i ≡ nothing_seen
 seen_past [] i le = refl
 seen_past (s ∷ turns) zero le = absurd (omega arith)
 seen_past (s ∷ turns) (suc i) le = seen_past turns i (omega arith)
@@ -132,6 +133,9 @@ module _ (links : Links) (t : ℕ) (x : NormalState) (going : IsGoing links t x)
   pub served_mutator : y.mutator ≡ x.mutator
   served_mutator = ap (λ (w : NormalState). w.mutator) serves.same
 
+  abbrev Tells : Option ServerState → ServerState → Type 0
+  Tells o q = ((listed q).shape ≡ (listed_at o).shape) × (kept (listed q) ≡ kept (listed_at o))
+
   -- a stream proxy that is home tells still what it told before
   pub told_served : (i : ℕ) (s : ServerState) → stream_at y.streams i ≡ Some s → ((listed s).shape ≡ (listed_at (stream_at x.streams i)).shape) × (kept (listed s) ≡ kept (listed_at (stream_at x.streams i)))
   told_served i s is = elim (cases_lt i (length x.tracks)) as (λ p. Tells (stream_at x.streams i) s) [
@@ -139,14 +143,11 @@ module _ (links : Links) (t : ℕ) (x : NormalState) (going : IsGoing links t x)
     | inr le ↦ subst (λ (o : Option ServerState). Tells o s) (sym is ∙ (served_done.rest i le).stream) (refl, refl)
   ]
     where
-      Tells : Option ServerState → ServerState → Type 0
-      Tells o q = ((listed q).shape ≡ (listed_at o).shape) × (kept (listed q) ≡ kept (listed_at o))
-
       same_proxy : (r q : ServerState) → Some r ≡ Some q → r ≡ q
       same_proxy r q e = cc
 
       by_stream : (o p : Option ServerState) → p ≡ Some s → StreamAdds o (invalid (learnt_by report x.streams) (seen_at (serving_of y).turns i) (served_to (setup_of x) (learnt_by report x.streams) (serving_of y).turns x.tracks i) i) p → Tells o s
-      by_stream None p e a = absurd (true≢false (sym (ap is_some (sym e ∙ a))))
+      by_stream None p e a = absurd (true≢false (ap is_some (sym e ∙ a)))
       by_stream (Some r) p e (q, adds, is_q) = subst (Tells (Some r)) (same_proxy q s (sym is_q ∙ e))
           (told_still (learnt_by report x.streams) (seen_at (serving_of y).turns i) (served_to (setup_of x) (learnt_by report x.streams) (serving_of y).turns x.tracks i) i r q adds)
 

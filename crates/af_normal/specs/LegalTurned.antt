@@ -21,7 +21,7 @@ use Rattle.af_normal.specs.State.{NormalState, setup_of, kept_of}
 
 -- the events of the hand of the track i, none where it is not split off yet
 abbrev pub hand_events : List HandSide → ℕ → List HandEvent
-hand_events hands i = elim slice_get hands i as (λ h. List HandEvent) [ None ↦ [] | Some h ↦ h.part.events ]
+hand_events hands i = elim (slice_get hands i) as (λ h. List HandEvent) [ None ↦ [] | Some h ↦ h.part.events ]
 
 -- The list of each party after the turn e, from what m kept and by what the turn saw: the command proxies and the hands of its tracks, the stream proxies that are home afterwards, the reader of the report, the writing end of the pipe, and the mutator
 pub record Grows (c : Setup) (m : NormalKept) (o : Outside) (e : Turn) (x y : NormalState) : Type 0 where
