@@ -1,5 +1,5 @@
 -- What comes home by a look at the acknowledgement, and that the order stays.
-use Rattle.std.proofs.Common.{◌≡◌, ◌≢◌, ℕ, zero, suc, ◌+◌, ◌<◌, ◌≤◌, ◌&&◌, not, Bool, true, false, if◌then◌else◌, true≢false, is_some, MatchBool, MatchOption, sym, refl, ap, subst, ◌∙◌, inl, inr, List, [], ◌∷◌, length, map, Option, Some, None, ⊎_elim, length-set, get_or-set_same, get_or-set_other, arith}
+use Rattle.std.proofs.Common.{◌≡◌, ◌≢◌, ℕ, zero, suc, ◌+◌, ◌<◌, ◌≤◌, ◌&&◌, not, Bool, true, false, if◌then◌else◌, true≢false, is_some, MatchBool, MatchOption, ◌⊎◌, sym, refl, ap, subst, ◌∙◌, inl, inr, List, [], ◌∷◌, length, map, Option, Some, None, ⊎_elim, length-set, get_or-set_same, get_or-set_other, arith}
 use Rattle.std.specs.Prelude.{slice_set}
 use Rattle.std.proofs.lemmas.Bool.{cases_eq}
 use Rattle.std.proofs.lemmas.List.{ext_get_or, get_or-map, length-map}
@@ -74,6 +74,15 @@ module _ (links : Links) (x : NormalState) (tied : IsTied links x) (held : InDra
       let of : IsStreamOf names.0.blocks (slot_of x.mutator.draft (slot_at i)).track s = held.fit_returned names.0 names.1 (slot_at i) s (away_slot (kept_of x) tied.sound i away).1 is in
       subst (λ (bs : List Made). IsStreamOf bs i s) names.2 (subst (λ (n : ℕ). IsStreamOf names.0.blocks n s) ((tied.sound.drafted i).own away).0 of)
 
+  not_there : (o : Option ServerState) → is_some o ≡ false → o ≡ None
+  not_there None e = refl
+  not_there (Some s) e = absurd (true≢false e)
+
+  -- a returning track has no proxy
+  gone : (i : ℕ) → is_returning (track_at x.tracks i).holder ≡ true → is_some (stream_at x.streams i) ≡ false
+  gone i r = let away = returning_away (track_at x.tracks i).holder r in
+      tied.proxies.there i (inside x.tracks i (slot_of_away (track_at x.tracks i) (tied.sound.slotted i) away)) ∙ away
+
   -- the first i tracks have what comes to them
   record Came (i : ℕ) (tracks : List TrackKept) (streams returned : Items) (out : List Bool) : Type 0 where
     tied_is : IsTied links (state tracks streams returned out)
@@ -81,6 +90,8 @@ module _ (links : Links) (x : NormalState) (tied : IsTied links x) (held : InDra
     done : (j : ℕ) → j < i → track_at tracks j ≡ welcomed last (track_at x.tracks j)
     left : (j : ℕ) → i ≤ j → track_at tracks j ≡ track_at x.tracks j
     hand : (j : ℕ) → i ≤ j → is_home (track_at x.tracks j).holder ≡ false → at returned (slot_at j) ≡ at x.mutator.returned (slot_at j)
+    same : (j : ℕ) → (is_returning (track_at x.tracks j).holder ≡ false) ⊎ (i ≤ j) → stream_at streams j ≡ stream_at x.streams j
+    brought : (j : ℕ) → j < i → is_returning (track_at x.tracks j).holder ≡ true → stream_at streams j ≡ at x.mutator.returned (slot_at j)
 
   abbrev Coming : ℕ → NormalState → Type 0
   Coming i z = (tracks : List TrackKept) × (streams : Items) × (returned : Items) × (out : List Bool) × (z ≡ state tracks streams returned out) × Came i tracks streams returned out
@@ -128,9 +139,14 @@ module _ (links : Links) (x : NormalState) (tied : IsTied links x) (held : InDra
     further : (j : ℕ) → suc i ≤ j → i ≤ j
     further j le = omega arith
 
+    sooner : (j : ℕ) → (is_returning (track_at x.tracks j).holder ≡ false) ⊎ (suc i ≤ j) → (is_returning (track_at x.tracks j).holder ≡ false) ⊎ (i ≤ j)
+    sooner j (inl h) = inl h
+    sooner j (inr le) = inr (omega arith)
+
     -- nothing changes but what was written as it was
-    stays : (r : Items) (o : List Bool) → IsTied links (state tracks streams r o) → comes_home last (track_at x.tracks i) ≡ false → ((j : ℕ) → suc i ≤ j → is_home (track_at x.tracks j).holder ≡ false → at r (slot_at j) ≡ at returned (slot_at j)) → Came (suc i) tracks streams r o
-    stays r o t e same = record {
+    stays : (r : Items) (o : List Bool) → IsTied links (state tracks streams r o) → comes_home last (track_at x.tracks i) ≡ false → ((j : ℕ) → suc i ≤ j → is_home (track_at x.tracks j).holder ≡ false → at r (slot_at j) ≡ at returned (slot_at j))
+        → (is_returning (track_at x.tracks i).holder ≡ true → at x.mutator.returned (slot_at i) ≡ None) → Came (suc i) tracks streams r o
+    stays r o t e same none = record {
       tied_is = t;
       long = c.long;
       done = (λ j lt. ⊎_elim
@@ -139,10 +155,18 @@ module _ (links : Links) (x : NormalState) (tied : IsTied links x) (held : InDra
           (cases_eq j i));
       left = (λ j le. c.left j (further j le));
       hand = (λ j le a. same j le a ∙ c.hand j (further j le) a);
+      same = (λ j h. c.same j (sooner j h));
+      brought = (λ j lj r. ⊎_elim
+          (λ (is : j ≡ i). subst (λ (n : ℕ). stream_at streams n ≡ at x.mutator.returned (slot_at n)) (sym is)
+          (let back : is_returning (track_at x.tracks i).holder ≡ true = ap (λ (n : ℕ). is_returning (track_at x.tracks n).holder) (sym is) ∙ r in
+          c.same i (inr (omega arith)) ∙ not_there (stream_at x.streams i) (gone i back) ∙ sym (none back)))
+          (λ (ne : j ≢ i). c.brought j (omega arith) r)
+          (cases_eq j i));
     }
 
     passes : is_returning (track_at tracks i).holder ≡ false → Came (suc i) tracks streams returned out
     passes e = stays returned out c.tied_is (false_left (is_returning (track_at x.tracks i).holder) _ (sym (ap (λ (s : TrackKept). is_returning s.holder) here) ∙ e)) (λ j le a. refl)
+        (λ back. absurd (true≢false (sym back ∙ sym (ap (λ (s : TrackKept). is_returning s.holder) here) ∙ e)))
 
     module _ (r : is_returning (track_at tracks i).holder ≡ true) where
       r_is : is_returning (track_at x.tracks i).holder ≡ true
@@ -192,6 +216,7 @@ module _ (links : Links) (x : NormalState) (tied : IsTied links x) (held : InDra
       })
           (both_false (is_returning (track_at x.tracks i).holder) (not (carries last (slot_at i))) (sym some_is ∙ ap is_some none))
           (others None)
+          (λ back. sym item_is ∙ none)
         where
           both_false : (a b : Bool) → b ≡ false → (a && b) ≡ false
           both_false true b e = e
@@ -215,6 +240,10 @@ module _ (links : Links) (x : NormalState) (tied : IsTied links x) (held : InDra
             ∙ c.tied_is.proxies.there j (let l : length (slice_set tracks i home) ≡ length tracks = length-set tracks i home in omega arith)
             ∙ sym (ap (λ (s : TrackKept). is_home s.holder) (at_other tracks i home j ne)))
             (cases_eq j i)
+
+        apart_from : (j : ℕ) → (is_returning (track_at x.tracks j).holder ≡ false) ⊎ (suc i ≤ j) → j ≢ i
+        apart_from j (inl h) e = no (sym h ∙ ap (λ (n : ℕ). is_returning (track_at x.tracks n).holder) e ∙ r_is)
+        apart_from j (inr le) e = omega arith
 
         some_inj : (s t : ServerState) → Some s ≡ Some t → s ≡ t
         some_inj s t e = cc
@@ -253,6 +282,11 @@ module _ (links : Links) (x : NormalState) (tied : IsTied links x) (held : InDra
               (cases_eq j i));
           left = (λ j le. at_other tracks i home j (λ e. omega arith) ∙ c.left j (further j le));
           hand = (λ j le a. others None j le a ∙ c.hand j (further j le) a);
+          same = (λ j h. get_or-set_other streams i j (Some server) None (apart_from j h) ∙ c.same j (sooner j h));
+          brought = (λ j lj back. ⊎_elim
+              (λ (e : j ≡ i). subst (λ (n : ℕ). stream_at (slice_set streams i (Some server)) n ≡ at x.mutator.returned (slot_at n)) (sym e) (get_or-set_same streams i (Some server) None wide ∙ sym is ∙ item_is))
+              (λ (ne : j ≢ i). get_or-set_other streams i j (Some server) None ne ∙ c.brought j (omega arith) back)
+              (cases_eq j i));
         }
 
     abbrev now : NormalState
@@ -281,6 +315,8 @@ module _ (links : Links) (x : NormalState) (tied : IsTied links x) (held : InDra
     done = (λ j lt. absurd (omega arith));
     left = (λ j le. refl);
     hand = (λ j le a. refl);
+    same = (λ j h. refl);
+    brought = (λ j lt back. absurd (omega arith));
   })
   all_come (suc n) y w = let before : Coming n w.0 = all_come n w.0 w.1 in
       one_more n before.0 before.1 before.2 before.3 before.5 y (subst (λ (z : NormalState). Welcomes n z y) before.4 w.2)
@@ -302,3 +338,17 @@ module _ (links : Links) (x : NormalState) (tied : IsTied links x) (held : InDra
   pub welcomed_same : (y : NormalState) → WelcomesTo (length x.tracks) x y → (y ≡ record x { tracks = y.tracks; streams = y.streams; mutator = y.mutator }) × (y.mutator.editing ≡ x.mutator.editing) × (y.mutator.past ≡ x.mutator.past)
   welcomed_same y w = let c : Coming (length x.tracks) y = all_come (length x.tracks) y w in
       (subst (λ (z : NormalState). z ≡ record x { tracks = z.tracks; streams = z.streams; mutator = z.mutator }) (sym c.4) refl, ap (λ (z : NormalState). z.mutator.editing) c.4, ap (λ (z : NormalState). z.mutator.past) c.4)
+
+  -- each proxy is where it was, or came from hand
+  pub record Brings (y : NormalState) : Type 0 where
+    pub same : (j : ℕ) → is_returning (track_at x.tracks j).holder ≡ false → stream_at y.streams j ≡ stream_at x.streams j
+    pub brought : (j : ℕ) → is_returning (track_at x.tracks j).holder ≡ true → stream_at y.streams j ≡ at x.mutator.returned (slot_number (track_at x.tracks j))
+    pub pending : y.mutator.pending ≡ x.mutator.pending
+
+  pub welcomed_brings : (y : NormalState) → WelcomesTo (length x.tracks) x y → Brings y
+  welcomed_brings y w = let c : Coming (length x.tracks) y = all_come (length x.tracks) y w in record {
+    same = (λ j e. ap (λ (z : NormalState). stream_at z.streams j) c.4 ∙ c.5.same j (inl e));
+    brought = (λ j r. ap (λ (z : NormalState). stream_at z.streams j) c.4
+        ∙ c.5.brought j (inside x.tracks j (slot_of_away (track_at x.tracks j) (tied.sound.slotted j) (returning_away (track_at x.tracks j).holder r))) r);
+    pending = ap (λ (z : NormalState). z.mutator.pending) c.4;
+  }
