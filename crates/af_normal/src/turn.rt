@@ -8,6 +8,8 @@ ghost use Rattle.af_server.specs.Order.{IsServerOf};
 ghost use Rattle.af_normal.specs.Mixing.{stream_at};
 ghost use Rattle.af_normal.specs.Coming.{HaveSlots, WelcomesTo};
 ghost use Rattle.af_normal.specs.declared.turn.Turn.TheVariants.{Turned, Ended};
+ghost use Rattle.af_life.specs.Kept.{Outside};
+ghost use Rattle.af_normal.specs.LegalTurned.{IsLegal};
 ghost use Rattle.af_normal.specs.Order.{IsGoing, IsInOrder};
 ghost use Rattle.af_normal.specs.TurnMade.{Does, TurnMade, WentOn, has_mixed};
 ghost use Rattle.af_normal.specs.Turning.{Begins, Hands, HasHands, HandsTo, HasWhole, Learns};
@@ -153,6 +155,7 @@ impl NormalMixer {
         requires few { self.old.turns ≤ 131072 }
         requires lives { self.old.ended ≡ false }
         ensures does { Does result self.old self.new }
+        ensures legal { (o : Outside) × IsLegal o self.old self.new }
         ensures order { IsInOrder links.now self.new }
         ensures turns { self.new.turns ≡ self.old.turns }
     {
@@ -174,6 +177,7 @@ impl NormalMixer {
         ensures order { IsInOrder links.now self.new }
         ensures turns { self.new.turns ≡ self.old.turns + 1 }
         ensures made { TurnMade result self.old self.new }
+        ensures legal { (o : Outside) × IsLegal o self.old self.new }
     {
         self.begin();
         self.make_hands(links, steps);
