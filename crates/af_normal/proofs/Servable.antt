@@ -159,10 +159,12 @@ module _ (links : Links) (x b : NormalState) (order : IsInOrder links x) (begins
       by_turns : (n : ℕ) → x.turns ≡ n → HasWhole links.streams.now i b.streams
       by_turns zero e = at_first (order.none_yet e)
       by_turns (suc n) e =
-          let whole : length x.hands ≡ length x.tracks = (order.hands (omega arith)).whole in
+          let some : 1 ≤ x.turns = omega (arith, e) in
+          let whole : length x.hands ≡ length x.tracks = (order.hands some).whole in
           let empty : x.hands ≡ [] = sym (ap (λ (z : NormalState). z.hands) same) ∙ none in
           let zero_long : length x.hands ≡ 0 = ap length empty in
-          absurd (omega arith)
+          let lt : i < length x.tracks = within in
+          absurd (omega (arith, whole, zero_long, lt))
 
   -- the lists of the entry are empty, and what they had is spare
   pub record Emptied : Type 0 where
