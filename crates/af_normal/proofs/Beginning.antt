@@ -1,6 +1,6 @@
 -- A turn begins in order: the last entry's lists are empty again, and the hands are there.
-use Rattle.std.proofs.Common.{◌≡◌, ◌≢◌, All, ℕ, zero, suc, ◌+◌, ◌*◌, ◌<◌, ◌≤◌, ◌×◌, ◌==◌, Bool, true, false, true≢false, MatchBool, List, [], ◌∷◌, ◌++◌, length, reverse, slice_get, slice_set, Option, Some, None, refl, sym, ap, subst, ◌∙◌, get_or-set_other, length-append, length-set, arith, ⊎_elim}
-use Rattle.std.proofs.lemmas.List.{length-reverse}
+use Rattle.std.proofs.Common.{◌≡◌, ◌≢◌, All, ℕ, zero, suc, ◌+◌, ◌*◌, ◌<◌, ◌≤◌, ◌==◌, Bool, true, false, true≢false, MatchBool, List, [], ◌∷◌, ◌++◌, length, reverse, take, drop, append_assoc, slice_get, slice_set, Option, Some, None, refl, sym, ap, subst, ◌∙◌, get_or-set_other, length-append, length-set, arith, ⊎_elim}
+use Rattle.std.proofs.lemmas.List.{length-reverse, reverse-append, reverse-reverse, take-append-drop}
 use Rattle.std.proofs.lemmas.List.Elements.{All-append, All-nil, All-from_get_or, All-get_or}
 use Rattle.std.proofs.lemmas.Grind.{common_steps, moves}
 use Rattle.std.proofs.lemmas.Option.{slice_get_within}
@@ -92,3 +92,12 @@ hand_more blocks i x y count whole of h = λ k flag at.
         let lt : k < length x.hands = omega (arith, inside, length-append x.hands (hand_of h.stream ∷ []), count) in
         of k flag (sym (get_before x.hands (hand_of h.stream) k lt) ∙ here))
     (cases_eq k i)
+
+-- one item more went back
+pub one_back : {A : Type 0} (xs a b ys : List A) (item : A) → b ≡ a ++ item ∷ [] → b ++ reverse ys ≡ xs → a ++ reverse (ys ++ item ∷ []) ≡ xs
+one_back xs a b ys item e h = ap (λ (zs : List _). a ++ zs) (reverse-append ys (item ∷ [])) ∙ sym (append_assoc a (item ∷ []) (reverse ys)) ∙ ap (λ (zs : List _). zs ++ reverse ys) (sym e) ∙ h
+
+-- all did
+pub all_back : {A : Type 0} (xs a to to' : List A) → length a ≡ 0 → a ++ reverse (drop (length to) to') ≡ xs → take (length to) to' ≡ to → to' ≡ to ++ reverse xs
+all_back xs [] to to' none h front = sym (take-append-drop (length to) to') ∙ ap (λ (zs : List _). zs ++ drop (length to) to') front ∙ ap (λ (zs : List _). to ++ zs) (sym (reverse-reverse (drop (length to) to')) ∙ ap reverse h)
+all_back xs (x ∷ a) to to' none h front = absurd (omega arith)

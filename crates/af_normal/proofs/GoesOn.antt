@@ -1,9 +1,12 @@
 -- What each step of a turn that goes on asks for, by the steps before it.
-use Rattle.std.proofs.Common.{◌≡◌, ℕ, ◌+◌, ◌*◌, ◌^◌, ◌<◌, ◌≤◌, ◌×◌, All, false, List, [], length, Option, Some, refl, sym, ap, subst, ◌∙◌, arith}
+use Rattle.std.proofs.Common.{⊥, ◌≡◌, ℕ, zero, suc, ◌∷◌, None, ◌+◌, ◌*◌, ◌^◌, ◌<◌, ◌≤◌, All, false, List, [], length, Option, Some, refl, sym, ap, subst, ◌∙◌, arith}
 use Rattle.std.proofs.lemmas.Nat.{mul-le-mul_left}
 use Rattle.af_base.specs.declared.report.Report.{Report}
 use Rattle.af_base.specs.declared.state.Push.{Push}
+use Rattle.af_cblk.specs.Sides.{Made}
 use Rattle.af_server.specs.Order.{ServerState}
+use Rattle.af_link.specs.Names.{IsStreamOf}
+use Rattle.af_normal.specs.Mixing.{stream_at}
 use Rattle.af_link.specs.PipeEnds.{in_made}
 use Rattle.af_link.specs.declared.links.Links.{Links}
 use Rattle.af_life.specs.declared.kept.Setting.{Setting}
@@ -18,12 +21,24 @@ use Rattle.af_normal.specs.State.{NormalState, setup_of}
 use Rattle.af_normal.specs.TurnMade.{ServesAll}
 use Rattle.af_normal.specs.Turning.{Learns}
 use Rattle.af_normal.proofs.Edited.{all_only}
-use Rattle.af_normal.proofs.Homes.{servers_of}
+use Rattle.af_normal.proofs.Homes.{servers_of, streams_of}
 use Rattle.af_normal.proofs.OrderTurn.{going_learnt, served_mutator, served_tied, served_open, edited_tied, edited_number, pushed_tied, pushed_few, mixed_home}
 
 -- a buffer has frames
 pub some_asked : (frames normal : ℕ) → 1 ≤ frames → 1 ≤ normal → 1 ≤ normal * frames
 some_asked frames normal f n = grind arith
+
+within : (streams : List (Option ServerState)) (i : ℕ) (s : ServerState) → stream_at streams i ≡ Some s → i < length streams
+within [] i s e = absurd (none_some e)
+  where
+    none_some : None ≡ Some s → ⊥
+    none_some e = cc
+within (o ∷ streams) zero s e = omega arith
+within (o ∷ streams) (suc i) s e = let l = within streams i s e in omega arith
+
+-- the proxies that are home are of their blocks, each by its number
+pub all_streams_of : (blocks : List Made) (streams : List (Option ServerState)) → length streams ≤ length blocks → AreServersOf blocks streams → (i : ℕ) (s : ServerState) → stream_at streams i ≡ Some s → IsStreamOf blocks i s
+all_streams_of blocks streams few h i s e = streams_of blocks streams few h i (within streams i s e) s e
 
 module _ (links : Links) (t : ℕ) (x : NormalState) (going : IsGoing links t x) (few : t < 131072)
     (report : Report) (room : ℕ) (y : NormalState) (learns : Learns report room x y)
@@ -95,7 +110,7 @@ module _ (links : Links) (t : ℕ) (x : NormalState) (going : IsGoing links t x)
         spare_turns = ap (λ (m : NormalState). m.spare_turns) d ∙ ap (λ (m : NormalState). m.spare_turns) b;
       }
 
-      same_tracks : length p.tracks ≡ length y.tracks
+      pub same_tracks : length p.tracks ≡ length y.tracks
       same_tracks = sym tied_p.sizes.settings ∙ ap (λ (c : Setup). length c.settings) still.setup ∙ after.tied.sizes.settings
 
       pub play_ready : AreServersOf links.streams.now p.streams

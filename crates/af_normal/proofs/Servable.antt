@@ -1,5 +1,5 @@
 -- What a turn that has begun in order may do next.
-use Rattle.std.proofs.Common.{⊥, ◌++◌, reverse, ⊎_elim, get_or-set_same, ◌≡◌, ◌≢◌, ℕ, zero, suc, ◌+◌, ◌-◌, ◌*◌, ◌^◌, ◌<◌, ◌≤◌, ◌×◌, ◌==◌, Bool, true, false, true≢false, is_some, MatchBool, List, [], length, slice_get, Option, Some, None, refl, sym, ap, subst, ◌∙◌, arith}
+use Rattle.std.proofs.Common.{⊥, ◌++◌, reverse, ⊎_elim, get_or-set_same, ◌≡◌, ◌≢◌, ℕ, zero, suc, ◌+◌, ◌-◌, ◌*◌, ◌^◌, ◌<◌, ◌≤◌, ◌==◌, Bool, true, false, true≢false, is_some, MatchBool, List, [], length, slice_get, Option, Some, None, refl, sym, ap, subst, ◌∙◌, arith}
 use Rattle.af_base.specs.declared.report.Report.{Report}
 use Rattle.std.proofs.lemmas.Bool.{cases_eq}
 use Rattle.af_base.specs.Log.{slots}

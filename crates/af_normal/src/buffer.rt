@@ -31,6 +31,7 @@ impl NormalMixer {
         requires none { self.old.entry.mixes.items ≡ [] }
         requires sizes { (1 ≤ asked (setup_of self.old)) × (asked (setup_of self.old) < 2 ^ 32) }
         ensures mixes { MixesTo (asked (setup_of self.old)) (length self.old.tracks) (mixing_of self.old) (mixing_of self.new) }
+        ensures long { length self.new.tracks ≡ length self.old.tracks }
         ensures there { map is_some self.new.streams ≡ map is_some self.old.streams }
         ensures ready { AreServersOf links.now.streams.now self.new.streams }
         ensures takes { HasTakes (asked (setup_of self.old)) (length self.old.tracks) self.new.entry.mixes self.new.spare_takes }
@@ -68,6 +69,7 @@ impl NormalMixer {
         requires none { self.old.entry.mixes.items ≡ [] }
         requires sizes { (1 ≤ asked (setup_of self.old)) × (self.old.frames ≤ 1024) × (self.old.normal ≤ 16) }
         ensures mixes { MatchBool (nat_le (asked (setup_of self.old)) room) (MixesTo (asked (setup_of self.old)) (length self.old.tracks) (mixing_of self.old) (mixing_of self.new)) (mixing_of self.new ≡ mixing_of self.old) }
+        ensures long { length self.new.tracks ≡ length self.old.tracks }
         ensures there { map is_some self.new.streams ≡ map is_some self.old.streams }
         ensures ready { AreServersOf links.now.streams.now self.new.streams }
         ensures takes { HasTakes (asked (setup_of self.old)) (length self.old.tracks) self.new.entry.mixes self.new.spare_takes }
@@ -134,6 +136,7 @@ impl NormalMixer {
         requires scales { All (λ setting. setting.scale ≤ 4096) self.old.settings }
         ensures plays { PlaysAll room self.old self.new }
         ensures mixed { result ≡ has_mixed self.new }
+        ensures long { length self.new.tracks ≡ length self.old.tracks }
         ensures there { map is_some self.new.streams ≡ map is_some self.old.streams }
         ensures ready { AreServersOf links.now.streams.now self.new.streams }
         ensures takes { HasTakes (asked (setup_of self.old)) (length self.old.tracks) self.new.entry.mixes self.new.spare_takes }

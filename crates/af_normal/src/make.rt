@@ -106,7 +106,7 @@ fn spare_turns(alloc: Global, count: usize) -> Result<TrackTurns, Memory>
     ensures { IfOk result (λ l. (length l.items ≡ count) × (l.room ≡ count) × HaveRoom l.items) }
 {
     let mut turns = TrackTurns::with_room(alloc, count)?;
-    for _ in 0..count {
+    for _made in 0..count {
         turns.push(TrackTurn {
             looks: CommandLooks::with_room(alloc, MOST_LOOKS)?,
             status: None,
@@ -121,7 +121,7 @@ fn spare_takes(alloc: Global, count: usize, asked: usize) -> Result<NormalTakes,
     ensures { IfOk result (λ l. (length l.items ≡ count) × (l.room ≡ count) × All (HasFrames asked) l.items) }
 {
     let mut takes = NormalTakes::with_room(alloc, count)?;
-    for _ in 0..count {
+    for _made in 0..count {
         takes.push(NormalTake {
             track: 0,
             slot: SlotEntry {

@@ -1,14 +1,17 @@
 //! A turn of the normal mixer.
-ghost use Rattle.std.specs.Prelude.{◌≡◌, ℕ, ◌+◌, ◌-◌, ◌*◌, ◌<◌, ◌≤◌, ◌^◌, ◌++◌, [], true, false, length, reverse, map, All, Some, slice_get};
+ghost use Rattle.std.specs.Prelude.{◌≡◌, ℕ, ◌+◌, ◌-◌, ◌*◌, ◌<◌, ◌≤◌, ◌^◌, ◌++◌, [], MatchBool, true, false, length, reverse, map, All, Some, slice_get};
 ghost use Rattle.af_base.specs.declared.report.Report.{Report as Load};
 ghost use Rattle.af_base.specs.declared.state.Push.{Push as Answer};
 ghost use Rattle.af_base.specs.Turn.{ended_turn, turn_of, track_seen, take_seen};
 ghost use Rattle.af_link.specs.PipeEnds.{in_made};
 ghost use Rattle.af_server.specs.Order.{IsServerOf};
 ghost use Rattle.af_normal.specs.Mixing.{stream_at};
+ghost use Rattle.af_normal.specs.Coming.{HaveSlots, WelcomesTo};
 ghost use Rattle.af_normal.specs.declared.turn.Turn.TheVariants.{Turned, Ended};
+ghost use Rattle.af_life.specs.Kept.{Outside};
+ghost use Rattle.af_normal.specs.LegalTurned.{IsLegal};
 ghost use Rattle.af_normal.specs.Order.{IsGoing, IsInOrder};
-ghost use Rattle.af_normal.specs.TurnMade.{TurnMade, WentOn, has_mixed};
+ghost use Rattle.af_normal.specs.TurnMade.{Does, TurnMade, WentOn, has_mixed};
 ghost use Rattle.af_normal.specs.Turning.{Begins, Hands, HasHands, HandsTo, HasWhole, Learns};
 
 use crate::mixer::{NormalMixer, TrackHand};
@@ -31,7 +34,7 @@ fn give_back<T: Drop>(from: &mut Items<T>, to: &mut Items<T>)
     ensures empty { from.new ≡ record from.old { items = [] } }
     ensures moved { to.new ≡ record to.old { items = to.old.items ++ reverse from.old.items } }
 {
-    for _ in 0..from.as_slice().len() {
+    for _moved in 0..from.as_slice().len() {
         let Some(item) = from.pop() else {
             unreachable!()
         };
@@ -135,6 +138,36 @@ impl NormalMixer {
         Turn::Ended
     }
 
+    // Where the last push was seen acknowledged, the proxies in hand come home.
+    fn come_home(&mut self, ack: bool)
+        requires long { length self.old.streams ≡ length self.old.tracks }
+        requires slots { HaveSlots self.old.tracks }
+        ensures { MatchBool ack (WelcomesTo (length self.old.tracks) self.old self.new) (self.new ≡ self.old) }
+    {
+        if ack {
+            self.welcome_all();
+        }
+    }
+
+    // The rest of a turn of a mixer that had not ended.
+    fn look<L: Ledger>(&mut self, links: &Links<'_>, steps: &mut Steps<L>) -> Turn
+        requires going { IsGoing links.now (self.old.turns - 1) self.old }
+        requires few { self.old.turns ≤ 131072 }
+        requires lives { self.old.ended ≡ false }
+        ensures does { Does result self.old self.new }
+        ensures legal { (o : Outside) × IsLegal o self.old self.new }
+        ensures order { IsInOrder links.now self.new }
+        ensures turns { self.new.turns ≡ self.old.turns }
+    {
+        let ack = self.mutator.acked(links.queue, steps);
+        let over = ack & self.exits;
+        if over {
+            return self.stop();
+        }
+        self.come_home(ack);
+        self.go_on(links, ack, steps)
+    }
+
     /// One turn: the acknowledgement is looked for, and what comes by it comes home; the report is loaded and the pipe's room read; each track has its part; the draft is edited and pushed; and a buffer is mixed where the pipe has room.
     ///
     /// It takes no memory and waits for nobody.
@@ -144,19 +177,13 @@ impl NormalMixer {
         ensures order { IsInOrder links.now self.new }
         ensures turns { self.new.turns ≡ self.old.turns + 1 }
         ensures made { TurnMade result self.old self.new }
+        ensures legal { (o : Outside) × IsLegal o self.old self.new }
     {
         self.begin();
         self.make_hands(links, steps);
         if self.ended {
             return self.stop();
         }
-        let ack = self.mutator.acked(links.queue, steps);
-        if ack && self.exits {
-            return self.stop();
-        }
-        if ack {
-            self.welcome_all();
-        }
-        self.go_on(links, ack, steps)
+        self.look(links, steps)
     }
 }

@@ -1,4 +1,4 @@
-use Rattle.std.proofs.Common.{◌≡◌, ℕ, ◌+◌, ◌^◌, ◌<◌, ◌×◌, length}
+use Rattle.std.proofs.Common.{◌≡◌, ℕ, ◌+◌, ◌^◌, ◌<◌, length}
 use Rattle.af_normal.specs.Mutating.{EditsTo}
 use Rattle.af_normal.specs.Order.{IsOpen}
 use Rattle.af_normal.proofs.mixer.NormalMixer.edit_all.Given as goal

@@ -1,0 +1,36 @@
+-- A turn as a whole keeps the order.
+use Rattle.std.proofs.Common.{◌≡◌, ℕ, ◌+◌, ◌-◌, ◌&&◌, Bool, true, false, MatchBool, length, refl, sym, ap, subst, ◌∙◌, Some}
+use Rattle.af_base.specs.declared.report.Report.{Report}
+use Rattle.af_base.specs.declared.state.Push.{Push}
+use Rattle.af_server.specs.Order.{ServerState}
+use Rattle.af_stateq.specs.Answers.{WasAcked}
+use Rattle.af_stateq.specs.Mutates.{InDraft, Mutates}
+use Rattle.af_link.specs.declared.links.Links.{Links}
+use Rattle.af_link.specs.declared.names.StreamNames.{StreamNames}
+use Rattle.af_life.specs.Edits.{is_exit}
+use Rattle.af_normal.specs.declared.turn.Turn.TheVariants.{Turned, Ended}
+use Rattle.af_normal.specs.Coming.{WelcomesTo}
+use Rattle.af_normal.specs.Order.{IsGoing, IsInOrder}
+use Rattle.af_normal.specs.State.{NormalState}
+use Rattle.af_normal.specs.TurnMade.{Does, GoesOnBy, TurnsBy, WentOn, has_mixed}
+use Rattle.af_normal.specs.Turning.{SeesAck, stream_fits, with_mutator}
+use Rattle.af_normal.proofs.LegalMade.{IsMade}
+use Rattle.af_normal.proofs.OrderLast.{order_done}
+
+module _ (links : Links) (t : ℕ) (x : NormalState) (going : IsGoing links t x) (ack : Bool) (m : Mutates ServerState StreamNames) (acked : WasAcked x.mutator ack m) (held : InDraft stream_fits m)
+    (home : NormalState) (comes : MatchBool ack (WelcomesTo (length x.tracks) (with_mutator m x) home) (home ≡ with_mutator m x)) where
+  pub seen : SeesAck ack x home
+  seen = record { mutator = m; acked = acked; held = held; comes = comes }
+
+  module _ (lives : x.ended ≡ false) (no_exit : (is_exit x.mutator.past.last && ack) ≡ false) (report : Report) (room : ℕ) (push : Push) (y : NormalState) (went : WentOn links ack report room push home y) where
+    by : GoesOnBy ack report room push x y
+    by = record { home = home; sees = seen; rest = went.goes }
+
+    pub made : IsMade links t x ack report room push y
+    made = record { going = going; goes_on = by; own = went.own }
+
+    pub in_order : IsInOrder links y
+    in_order = order_done links t x ack report room push y made lives no_exit went.streams went.turns went.takes
+
+    pub turns_by : TurnsBy push x y
+    turns_by = record { ack = ack; report = report; room = room; lives = (lives, no_exit); goes_on = by }
