@@ -65,10 +65,10 @@ returns-then-self g c =
       mutator = h.mutator;
       looks = on_true h.ended (h.mutator ≡ h.mutator) (WasAcked h.mutator true h.mutator × (is_exit h.mutator.past.last ≡ true)) over refl;
       tells = c.stop.ensures.tells;
-      leaves = c.stop.ensures.leaves ∙ ap (λ (v : NormalState). record v { ended = true; entry = y.entry }) c.self.view_is;
+      leaves = c.stop.ensures.leaves;
     } in
     record {
-      order = stopped links x.turns h going y stops (c.stop.ensures.rooms.0 ∙ ap (λ (v : NormalState). v.entry.tracks.room) c.self.view_is) (c.stop.ensures.rooms.1 ∙ ap (λ (v : NormalState). v.entry.mixes.room) c.self.view_is);
+      order = stopped links x.turns h going y stops c.stop.ensures.rooms.0 c.stop.ensures.rooms.1;
       turns = ap (λ (v : NormalState). v.turns) stops.leaves ∙ going.next;
       made = record { begun = b; begins = e.begins; handed = h; hands = c.make_hands.ensures.hands; does = subst (λ r. Does r h y) (sym c.stop.ensures.ended) stops };
       legal = ended_legally x b h y e.begins c.make_hands.ensures.hands stops;
