@@ -1,5 +1,6 @@
 -- Cases of what a test or an option decides.
-use Rattle.std.proofs.Common.{◌≡◌, ◌≢◌, ℕ, suc, zero, Bool, true, false, MatchBool, Option, Some, None, MatchOption, List, [], ◌∷◌, slice_get, slice_set, refl, ap, sym, subst}
+use Rattle.std.proofs.Common.{◌≡◌, ◌≢◌, ◌==◌, length, true≢false, ℕ, suc, zero, Bool, true, false, MatchBool, Option, Some, None, MatchOption, List, [], ◌∷◌, slice_get, slice_set, refl, ap, sym, ◌∙◌, ◌≤◌, subst, arith}
+use Rattle.std.proofs.lemmas.Bool.{eqb-true, eq-eqb}
 
 pub by_test : (b : Bool) (P Q R : Type 0) → (P → R) → (Q → R) → MatchBool b P Q → R
 by_test true P Q R f g m = f m
@@ -22,3 +23,15 @@ get_set_other (x ∷ xs) zero zero a ne = absurd (ne refl)
 get_set_other (x ∷ xs) zero (suc k) a ne = refl
 get_set_other (x ∷ xs) (suc i) zero a ne = refl
 get_set_other (x ∷ xs) (suc i) (suc k) a ne = get_set_other xs i k a (λ e. ne (ap suc e))
+
+pub where_true : (b : Bool) (P R Q : Type 0) → (P → R) → MatchBool b P Q → MatchBool b R Q
+where_true true P R Q f m = f m
+where_true false P R Q f m = m
+
+pub none_of_zero : {A : Type 0} (xs : List A) → (length xs == 0) ≡ true → xs ≡ []
+none_of_zero [] e = refl
+none_of_zero (x ∷ xs) e = absurd (omega (arith, eqb-true (length (x ∷ xs)) 0 e))
+
+pub some_of_other : {A : Type 0} (xs : List A) → (length xs == 0) ≡ false → 1 ≤ length xs
+some_of_other [] e = absurd (true≢false (sym (eq-eqb 0 0 refl) ∙ e))
+some_of_other (x ∷ xs) e = omega arith

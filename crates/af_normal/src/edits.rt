@@ -107,7 +107,7 @@ impl NormalMixer {
 
     // Each track is detached or attached, where that is due; whether one was.
     fn edit_all(&mut self, links: &Links<'_>) -> bool
-        requires open { (edits : ℕ) × (edits + 32 < 2 ^ 31) × IsOpen links.now edits self.old }
+        requires may { (edits : ℕ) × (edits + 32 < 2 ^ 31) × IsOpen links.now edits self.old }
         requires none { self.old.mutator.edited ≡ false }
         ensures edits { EditsTo (length self.old.tracks) self.old self.new }
         ensures edited { result ≡ self.new.mutator.edited }
@@ -123,7 +123,7 @@ impl NormalMixer {
     /// One mutation of the draft: the tracks in order, and then the command.
     pub(crate) fn mutate(&mut self, links: &Links<'_>, room: u32)
         requires idle { self.old.mutator.editing ≡ false }
-        requires open { (edits : ℕ) × (edits + 32 < 2 ^ 31) × IsOpen links.now edits (record self.old { mutator = begun self.old.mutator }) }
+        requires may { (edits : ℕ) × (edits + 32 < 2 ^ 31) × IsOpen links.now edits (record self.old { mutator = begun self.old.mutator }) }
         requires sizes { (self.old.frames ≤ 1024) × (self.old.normal ≤ 16) }
         requires colds { self.old.mutator.draft.cold_gen < 2 ^ 31 }
         ensures edits { EditsAll room self.old self.new }

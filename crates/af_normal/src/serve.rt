@@ -1,5 +1,5 @@
 //! The tracks' part of a turn, one after the other.
-ghost use Rattle.std.specs.Prelude.{◌≡◌, ℕ, ◌+◌, ◌-◌, ◌<◌, ◌^◌, [], ◌∷◌, ◌++◌, false, length, Some};
+ghost use Rattle.std.specs.Prelude.{◌≡◌, ℕ, ◌+◌, ◌-◌, ◌<◌, ◌^◌, [], ◌∷◌, ◌++◌, MatchBool, false, length, Some};
 ghost use Rattle.af_base.specs.Log.{slots};
 ghost use Rattle.af_base.specs.Turn.{track_seen};
 ghost use Rattle.af_server.specs.Order.{IsInOrder, ServerState};
@@ -145,6 +145,31 @@ impl NormalMixer {
         );
     }
 
+    // The same of any track: one that had ended is passed over.
+    fn attend_due<L: Ledger>(
+        &mut self,
+        links: &Links<'_>,
+        i: usize,
+        report: &Report,
+        seen: &mut TrackTurn,
+        steps: &mut Steps<L>,
+    )
+        requires track { (i < length self.old.tracks) × (i < length self.old.streams) × (i < length self.old.settings) }
+        requires slot { slot_number (track_at self.old.tracks i) < slots }
+        requires few { (track_at self.old.tracks i).settled < 2 ^ 24 - 256 }
+        requires own { AreOwn links.now self.old.streams self.old.commands self.old.hands i }
+        requires seen { (track_seen seen.old ≡ nothing_seen) × (seen.old.looks.room ≡ most_looks) }
+        ensures serves { (k : Learnt) → k.report ≡ report.now → k.own i ≡ known_at (stream_at self.old.streams i) → MatchBool (track_at self.old.tracks i).life.ended ((self.new ≡ self.old) × (track_seen seen.new ≡ nothing_seen)) (ServesBy (setup_of self.old) k i (track_seen seen.new) (serving_of self.old) (serving_of self.new)) }
+        ensures own { AreOwn links.now self.new.streams self.new.commands self.new.hands i }
+        ensures same { self.new ≡ (record self.old { tracks = self.new.tracks; streams = self.new.streams; commands = self.new.commands; hands = self.new.hands }) }
+        ensures room { seen.new.looks.room ≡ most_looks }
+    {
+        if self.tracks[i].life.ended {
+            return;
+        }
+        self.attend_to(links, i, report, seen, steps);
+    }
+
     // A track has its part of the turn, and its record joins the entry. One that had ended is passed over.
     fn serve<L: Ledger>(
         &mut self,
@@ -167,9 +192,7 @@ impl NormalMixer {
         ensures turns { (turn : Record) × (self.new.entry.tracks ≡ record self.old.entry.tracks { items = self.old.entry.tracks.items ++ turn ∷ [] }) × (turn.looks.room ≡ most_looks) }
     {
         let mut seen = next_turn(&mut self.spare_turns);
-        if !self.tracks[i].life.ended {
-            self.attend_to(links, i, report, &mut seen, steps);
-        }
+        self.attend_due(links, i, report, &mut seen, steps);
         self.entry.tracks.push(seen);
     }
 

@@ -76,6 +76,7 @@ impl NormalMixer {
     // In the first turn each stream proxy gives its hand.
     fn make_hands<L: Ledger>(&mut self, links: &Links<'_>, steps: &mut Steps<L>)
         requires sizes { (length self.old.streams ≡ length self.old.tracks) × (length self.old.tracks ≤ length links.now.streams.now) }
+        requires few { length self.old.tracks ≤ 32 }
         requires whole { self.old.hands ≡ [] → (i : ℕ) → i < length self.old.tracks → HasWhole links.now.streams.now i self.old.streams }
         ensures hands { HasHands self.old self.new }
     {

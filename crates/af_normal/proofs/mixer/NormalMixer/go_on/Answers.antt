@@ -1,4 +1,5 @@
-use Rattle.std.proofs.Common.{Bool, not, ◌==◌, is_some, length-map, ◌≡◌, ℕ, ◌+◌, ◌-◌, ◌*◌, ◌^◌, ◌<◌, ◌≤◌, List, [], length, map, Option, Some, refl, sym, ap, subst, ◌∙◌, arith}
+use Rattle.std.proofs.Common.{Bool, not, ◌==◌, is_some, ◌≡◌, ℕ, ◌+◌, ◌-◌, ◌*◌, ◌^◌, ◌<◌, ◌≤◌, List, [], length, map, Option, Some, refl, sym, ap, subst, ◌∙◌, arith}
+use Rattle.std.proofs.lemmas.List.{length-map}
 use Rattle.af_base.specs.declared.report.Report.{Report}
 use Rattle.af_base.specs.declared.state.Push.{Push}
 use Rattle.af_base.specs.declared.turn.NormalTake.{NormalTake}
@@ -19,18 +20,18 @@ use Rattle.af_normal.proofs.OrderTurn.{going_learnt}
 use Rattle.af_normal.proofs.Servable.{servable}
 use Rattle.af_normal.proofs.mixer.NormalMixer.go_on.Goals as goal
 
-pub learn-requires : goal.learn-requires
-learn-requires g c = let l = c.requires.going.tied.linked in record { report = l.report_is; pipe = l.pipe_is }
+pub learn-room-requires : goal.learn-room-requires
+learn-room-requires g c = let l = c.requires.going.tied.linked in record { report = l.report_is; pipe = l.pipe_is }
 
 pub serve_all-requires : goal.serve_all-requires
 serve_all-requires g c =
     let t : ℕ = c.args.self.now.turns - 1 in
     let few : t < 131072 = (let f = c.requires.few in let n = c.requires.going.next in omega arith) in
     let y : NormalState = c.learn-room.new.self in
-    let a : IsGoing c.args.links.now t y = going_learnt c.args.links.now t c.args.self.now c.requires.going c.learn-room.result.0 c.learn-room.result.1 y c.learn-room.ensures in
+    let a : IsGoing c.args.links.now t y = going_learnt c.args.links.now t c.args.self.now c.requires.going c.learn-room.result.0 c.learn-room.result.1 y c.learn-room.ensures.learns in
     record {
       sizes = (a.tied.sizes.streams_are, a.tied.sizes.settings);
-      tracks = servable c.args.links.now t c.args.self.now c.requires.going few c.learn-room.result.0 c.learn-room.result.1 y c.learn-room.ensures;
+      tracks = servable c.args.links.now t c.args.self.now c.requires.going few c.learn-room.result.0 c.learn-room.result.1 y c.learn-room.ensures.learns;
       turns = a.turns_room;
       none = a.none.0;
     }
@@ -47,14 +48,14 @@ mutate-requires g c =
     let s : NormalState = c.serve_all.new.self in
     let e = c.serve_all.ensures in
     record {
-      idle = is_idle links t x c.requires.going few r n y c.learn-room.ensures s e.serves e.own;
-      open = may_mutate links t x c.requires.going few r n y c.learn-room.ensures s e.serves e.own;
-      sizes = small_sizes links t x c.requires.going few r n y c.learn-room.ensures s e.serves e.own;
-      colds = few_colds links t x c.requires.going few r n y c.learn-room.ensures s e.serves e.own;
+      idle = is_idle links t x c.requires.going few r n y c.learn-room.ensures.learns s e.serves e.own;
+      may = may_mutate links t x c.requires.going few r n y c.learn-room.ensures.learns s e.serves e.own;
+      sizes = small_sizes links t x c.requires.going few r n y c.learn-room.ensures.learns s e.serves e.own;
+      colds = few_colds links t x c.requires.going few r n y c.learn-room.ensures.learns s e.serves e.own;
     }
 
-pub push-requires : goal.push-requires
-push-requires g c =
+pub push-pushed-requires : goal.push-pushed-requires
+push-pushed-requires g c =
     let links : Links = c.args.links.now in
     let t : ℕ = c.args.self.now.turns - 1 in
     let few : t < 131072 = (let f = c.requires.few in let n = c.requires.going.next in omega arith) in
@@ -66,13 +67,13 @@ push-requires g c =
     let e = c.serve_all.ensures in
     let z : NormalState = c.mutate.new.self in
     record {
-      idle = push_idle links t x c.requires.going few r n y c.learn-room.ensures s e.serves e.own z c.mutate.ensures;
-      together = push_together links t x c.requires.going few r n y c.learn-room.ensures s e.serves e.own z c.mutate.ensures;
-      room = push_room links t x c.requires.going few r n y c.learn-room.ensures s e.serves e.own z c.mutate.ensures;
+      idle = push_idle links t x c.requires.going few r n y c.learn-room.ensures.learns s e.serves e.own z c.mutate.ensures.edits;
+      together = push_together links t x c.requires.going few r n y c.learn-room.ensures.learns s e.serves e.own z c.mutate.ensures.edits;
+      room = push_room links t x c.requires.going few r n y c.learn-room.ensures.learns s e.serves e.own z c.mutate.ensures.edits;
     }
 
-pub play-requires : goal.play-requires
-play-requires g c =
+pub play-mixed-requires : goal.play-mixed-requires
+play-mixed-requires g c =
     let links : Links = c.args.links.now in
     let t : ℕ = c.args.self.now.turns - 1 in
     let few : t < 131072 = (let f = c.requires.few in let n = c.requires.going.next in omega arith) in
@@ -85,19 +86,19 @@ play-requires g c =
     let z : NormalState = c.mutate.new.self in
     let a : Push = c.push-pushed.result in
     let p : NormalState = c.push-pushed.new.self in
-    let tied = tied_p links t x c.requires.going few r n y c.learn-room.ensures s e.serves e.own z c.mutate.ensures a p c.push-pushed.ensures.pushes in
+    let tied = tied_p links t x c.requires.going few r n y c.learn-room.ensures.learns s e.serves e.own z c.mutate.ensures.edits a p c.push-pushed.ensures.pushes in
     record {
       tracks = (tied.sizes.few, sym tied.sizes.settings);
       streams = tied.sizes.streams_are;
       blocks = tied.sizes.blocks.0;
-      home = play_home links t x c.requires.going few r n y c.learn-room.ensures s e.serves e.own z c.mutate.ensures a p c.push-pushed.ensures.pushes;
-      ready = play_ready links t x c.requires.going few r n y c.learn-room.ensures s e.serves e.own z c.mutate.ensures a p c.push-pushed.ensures.pushes;
-      few = play_few links t x c.requires.going few r n y c.learn-room.ensures s e.serves e.own z c.mutate.ensures a p c.push-pushed.ensures.pushes;
-      takes = play_takes links t x c.requires.going few r n y c.learn-room.ensures s e.serves e.own z c.mutate.ensures a p c.push-pushed.ensures.pushes;
-      none = play_none links t x c.requires.going few r n y c.learn-room.ensures s e.serves e.own z c.mutate.ensures a p c.push-pushed.ensures.pushes;
-      sizes = play_sizes links t x c.requires.going few r n y c.learn-room.ensures s e.serves e.own z c.mutate.ensures a p c.push-pushed.ensures.pushes;
+      home = play_home links t x c.requires.going few r n y c.learn-room.ensures.learns s e.serves e.own z c.mutate.ensures.edits a p c.push-pushed.ensures.pushes;
+      ready = play_ready links t x c.requires.going few r n y c.learn-room.ensures.learns s e.serves e.own z c.mutate.ensures.edits a p c.push-pushed.ensures.pushes;
+      few = play_few links t x c.requires.going few r n y c.learn-room.ensures.learns s e.serves e.own z c.mutate.ensures.edits a p c.push-pushed.ensures.pushes;
+      takes = play_takes links t x c.requires.going few r n y c.learn-room.ensures.learns s e.serves e.own z c.mutate.ensures.edits a p c.push-pushed.ensures.pushes;
+      none = play_none links t x c.requires.going few r n y c.learn-room.ensures.learns s e.serves e.own z c.mutate.ensures.edits a p c.push-pushed.ensures.pushes;
+      sizes = play_sizes links t x c.requires.going few r n y c.learn-room.ensures.learns s e.serves e.own z c.mutate.ensures.edits a p c.push-pushed.ensures.pushes;
       pipe = tied.linked.pipe_is;
-      room = play_room links t x c.requires.going few r n y c.learn-room.ensures s e.serves e.own z c.mutate.ensures a p c.push-pushed.ensures.pushes;
+      room = play_room links t x c.requires.going few r n y c.learn-room.ensures.learns s e.serves e.own z c.mutate.ensures.edits a p c.push-pushed.ensures.pushes;
       scales = tied.sizes.scales;
     }
 
@@ -118,11 +119,11 @@ returns g c =
     let q : NormalState = c.play-mixed.new.self in
     let w : NormalState = c.note.new.self in
     let g : Pushes a z p = c.push-pushed.ensures.pushes in
-    let l : Learns r n x y = c.learn-room.ensures in
+    let l : Learns r n x y = c.learn-room.ensures.learns in
     let d = c.play-mixed.ensures in
     let told = c.note.ensures in
-    let same = still links t x c.requires.going few r n y l s e.serves e.own z c.mutate.ensures a p g in
-    let tied = tied_p links t x c.requires.going few r n y l s e.serves e.own z c.mutate.ensures a p g in
+    let same = still links t x c.requires.going few r n y l s e.serves e.own z c.mutate.ensures.edits a p g in
+    let tied = tied_p links t x c.requires.going few r n y l s e.serves e.own z c.mutate.ensures.edits a p g in
     let long : length w.tracks ≡ length p.tracks = ap (λ (m : NormalState). length m.tracks) told.same ∙ d.long in
     let spare : w.spare_turns ≡ s.spare_turns = ap (λ (m : NormalState). m.spare_turns) told.same ∙ ap (λ (m : NormalState). m.spare_turns) d.plays.same ∙ same.spare_turns in
     let turns : w.entry.tracks ≡ s.entry.tracks = told.lists.0 ∙ ap (λ (m : TurnEntry). m.tracks) d.entry ∙ same.tracks in
@@ -136,7 +137,7 @@ returns g c =
           served = s;
           serves = e.serves;
           edited = z;
-          edits = c.mutate.ensures;
+          edits = c.mutate.ensures.edits;
           pushed = p;
           pushes = g;
           played = q;
@@ -146,7 +147,7 @@ returns g c =
         };
         own = e.own;
         streams = all_streams_of links.streams.now q.streams streams_long d.ready;
-        turns = subst (λ (k : ℕ). HasTurns k w.entry.tracks w.spare_turns) (sym (long ∙ same_tracks links t x c.requires.going few r n y l s e.serves e.own z c.mutate.ensures a p g))
+        turns = subst (λ (k : ℕ). HasTurns k w.entry.tracks w.spare_turns) (sym (long ∙ same_tracks links t x c.requires.going few r n y l s e.serves e.own z c.mutate.ensures.edits a p g))
             (subst (λ (m : Roomy TrackTurn). HasTurns (length y.tracks) m w.spare_turns) (sym turns) (subst (HasTurns (length y.tracks) s.entry.tracks) (sym spare) e.turns));
         takes = subst (λ (k : Setup). HasTakes (asked k) (length w.tracks) w.entry.mixes w.spare_takes) (sym setup)
             (subst (λ (k : ℕ). HasTakes (asked (setup_of p)) k w.entry.mixes w.spare_takes) (sym long)
