@@ -1,11 +1,17 @@
 -- A new mixer is in order.
-use Rattle.std.proofs.Common.{◌≡◌, ℕ, zero, suc, ◌+◌, ◌-◌, ◌*◌, ◌<◌, ◌≤◌, ◌&&◌, Bool, true, false, true≢false, is_some, sym, refl, ap, subst, ◌∙◌, List, [], ◌∷◌, length, replicate, All, Option, Some, None, arith}
+use Rattle.std.proofs.Common.{◌≡◌, ℕ, zero, suc, ◌+◌, ◌-◌, ◌*◌, ◌<◌, ◌≤◌, ◌&&◌, Bool, true, false, true≢false, is_some, sym, refl, ap, subst, ◌∙◌, List, [], ◌∷◌, length, map, replicate, All, Option, Some, None, arith}
 use Rattle.std.specs.Prelude.{slice_get}
-use Rattle.std.proofs.lemmas.List.{length-replicate}
-use Rattle.std.proofs.lemmas.List.Elements.{All-get_or}
+use Rattle.std.proofs.lemmas.List.{length-replicate, length-map, nil_from_length}
+use Rattle.std.proofs.lemmas.List.Elements.{All-get_or, All-nil}
 use Rattle.std.proofs.lemmas.Option.{slice_get_within}
 use Rattle.af_base.specs.declared.state.FastState.{FastState}
+use Rattle.af_base.specs.declared.turn.NormalTake.{NormalTake}
+use Rattle.af_base.specs.declared.turn.TrackTurn.{TrackTurn}
+use Rattle.af_base.specs.declared.turn.TurnEntry.{TurnEntry}
 use Rattle.af_base.specs.Log.{slots}
+use Rattle.af_base.specs.Roomy.{Roomy}
+use Rattle.af_base.specs.Turn.{Turn, turn_of, ended_turn, track_seen, take_seen}
+use Rattle.af_cblk.specs.Sides.{HandSide}
 use Rattle.af_model.specs.Draft.{initial}
 use Rattle.af_model.specs.StateQueue.{IsState}
 use Rattle.af_server.specs.Order.{ServerState}
@@ -19,13 +25,15 @@ use Rattle.af_life.specs.declared.kept.Setting.{Setting}
 use Rattle.af_life.specs.declared.kept.TrackKept.{TrackKept}
 use Rattle.af_life.specs.Kept.{Setup, NormalKept, new_normal, new_track, track_at, is_home}
 use Rattle.af_life.specs.Obeys.{holds}
+use Rattle.af_life.specs.Serves.{most_looks}
 use Rattle.af_life.specs.Small.{IsSmall}
 use Rattle.af_life.specs.Sound.{IsSlotted, IsDrafted, IsSound}
 use Rattle.af_life.proofs.Smalls.{new_small}
 use Rattle.af_normal.specs.Making.{TrackList, IsMade, AreNew}
 use Rattle.af_normal.specs.Mixing.{stream_at}
-use Rattle.af_normal.specs.AllMixed.{HasTakes}
+use Rattle.af_normal.specs.AllMixed.{HasFrames, HasTakes}
 use Rattle.af_normal.specs.Order.{AreThere, HasTurns, IsTied, IsInOrder}
+use Rattle.af_normal.specs.Ready.{HaveRoom}
 use Rattle.af_normal.specs.State.{NormalState, setup_of, kept_of}
 
 no : {A : Type 0} → false ≡ true → A
@@ -142,3 +150,76 @@ module _ (links : Links) (frames normal : ℕ) (tracks : TrackList) (mutator : M
     takes = subst (λ (k : ℕ). HasTakes (normal * frames) k m.entry.mixes m.spare_takes) (sym long) made.takes;
     idle = new.mutator_is.idle.1;
   })
+
+-- ## A mixer of parts that were just made
+
+module _ (n asked : ℕ) (entry : TurnEntry) (turns : Roomy TrackTurn) (takes : Roomy NormalTake) (ended : turn_of entry ≡ ended_turn) (rooms : (entry.tracks.room ≡ n) × (entry.mixes.room ≡ n)) where
+  no_tracks : entry.tracks.items ≡ []
+  no_tracks = nil_from_length entry.tracks.items (sym (length-map entry.tracks.items track_seen) ∙ ap (λ (t : Turn). length t.tracks) ended)
+
+  no_mixes : entry.mixes.items ≡ []
+  no_mixes = nil_from_length entry.mixes.items (sym (length-map entry.mixes.items take_seen) ∙ ap (λ (t : Turn). length t.mixes) ended)
+
+  pub new_turns : (length turns.items ≡ n) × (turns.room ≡ n) × HaveRoom turns.items → HasTurns n entry.tracks turns
+  new_turns t = record {
+    together = (let l : length entry.tracks.items ≡ 0 = ap (λ (ts : List TrackTurn). length ts) no_tracks in let m = t.0 in omega arith);
+    turns_room = (let r = rooms.0 in omega arith);
+    spare_room = (let r = t.1 in omega arith);
+    seen = subst HaveRoom (sym no_tracks) (All-nil (λ (r : TrackTurn). r.looks.room ≡ most_looks));
+    left = t.2;
+  }
+
+  pub new_takes : (length takes.items ≡ n) × (takes.room ≡ n) × All (HasFrames asked) takes.items → HasTakes asked n entry.mixes takes
+  new_takes t = record {
+    together = (let l : length entry.mixes.items ≡ 0 = ap (λ (ts : List NormalTake). length ts) no_mixes in let m = t.0 in omega arith);
+    mixes_room = (let r = rooms.1 in omega arith);
+    spare_room = (let r = t.1 in omega arith);
+    mixed = subst (All (HasFrames asked)) (sym no_mixes) (All-nil (HasFrames asked));
+    left = t.2;
+  }
+
+pub made_is : (frames normal : ℕ) (tracks : TrackList) (mutator : Mutates ServerState StreamNames) (reader : ReaderSide) (pipe : InSide) (entry : TurnEntry) (turns : Roomy TrackTurn) (takes : Roomy NormalTake)
+    (settings : List Setting) (streams : List (Option ServerState)) (commands : List ServerState) (kept : List TrackKept) (hands : List HandSide) (mutates : Mutates ServerState StreamNames)
+    → settings ≡ tracks.settings → streams ≡ tracks.streams → commands ≡ tracks.commands → kept ≡ replicate (length tracks.settings) new_track → hands ≡ [] → mutates ≡ mutator
+    → turn_of entry ≡ ended_turn → (entry.tracks.room ≡ length tracks.settings) × (entry.mixes.room ≡ length tracks.settings)
+    → (length turns.items ≡ length tracks.settings) × (turns.room ≡ length tracks.settings) × HaveRoom turns.items
+    → (length takes.items ≡ length tracks.settings) × (takes.room ≡ length tracks.settings) × All (HasFrames (normal * frames)) takes.items
+    → IsMade frames normal tracks mutator reader pipe record {
+  frames = frames;
+  normal = normal;
+  settings = settings;
+  tracks = kept;
+  streams = streams;
+  commands = commands;
+  hands = hands;
+  mutator = mutates;
+  reader = reader;
+  pipe = pipe;
+  entry = entry;
+  spare_turns = turns;
+  spare_takes = takes;
+  ended = false;
+  turns = 0;
+}
+made_is frames normal tracks mutator reader pipe entry turns takes settings streams commands kept hands mutates a b d e f g ended rooms t u = record {
+  is = λ i. record {
+    frames = frames;
+    normal = normal;
+    settings = a i;
+    tracks = e i;
+    streams = b i;
+    commands = d i;
+    hands = f i;
+    mutator = g i;
+    reader = reader;
+    pipe = pipe;
+    entry = entry;
+    spare_turns = turns;
+    spare_takes = takes;
+    ended = false;
+    turns = 0;
+  };
+  entry = ended;
+  turns = new_turns (length tracks.settings) (normal * frames) entry turns takes ended rooms t;
+  takes = new_takes (length tracks.settings) (normal * frames) entry turns takes ended rooms u;
+}

@@ -1,5 +1,5 @@
 //! The meetings of the mixer's ends, and of the proxies that are home.
-ghost use Rattle.std.specs.Prelude.{◌≡◌, ℕ, ◌+◌, ◌<◌, ◌⊎◌, true, false, [], is_some, length, slice_get, Option, Some, None};
+ghost use Rattle.std.specs.Prelude.{◌≡◌, ℕ, ◌+◌, ◌<◌, ◌⊎◌, true, false, [], is_some, length, slice_get, slice_set, Option, Some, None};
 ghost use Rattle.af_cblk.specs.Sides.{HandSide, hand_made};
 ghost use Rattle.af_client.specs.Order.{IsClientOf};
 ghost use Rattle.af_model.specs.NewestValue.{HasHistory as HasReportHistory};
@@ -22,6 +22,38 @@ use af_link::{Links, PipeOut, ReportWriter, StreamNames, meet_all, meet_pipe, me
 use af_server::Server;
 use af_stateq::{Observer, meet};
 use std::sync::ledger::Ledger;
+
+// A stream proxy that is there meets its client, and its hand where that was split off; whether it is there.
+fn meet_stream<L: Ledger>(
+    stream: &mut Option<Server>,
+    hands: &mut [TrackHand],
+    i: usize,
+    block: &Block,
+    client: &mut Client,
+    steps: &mut Steps<L>,
+) -> bool
+    requires client { IsClientOf block.now client.old }
+    requires stream { (s : ServerState) → stream.old ≡ Some s → IsServerOf block.now s }
+    requires hands { (length hands.old ≡ 0) ⊎ (i < length hands.old) }
+    requires flags { (h : HandSide) → slice_get hands.old i ≡ Some h → hand_made h ≡ block.now }
+    ensures client { IsClientOf block.now client.new }
+    ensures stream { (s : ServerState) → stream.new ≡ Some s → IsServerOf block.now s }
+    ensures flags { (h : HandSide) → slice_get hands.new i ≡ Some h → hand_made h ≡ block.now }
+    ensures met { MeetsStream stream.old (slice_get hands.old i) client.old stream.new (slice_get hands.new i) client.new }
+    ensures others { (j : ℕ) → (j ≡ i → ⊥) → slice_get hands.new j ≡ slice_get hands.old j }
+    ensures long { length hands.new ≡ length hands.old }
+    ensures there { result ≡ is_some stream.old }
+{
+    let Some(server) = stream else {
+        return false;
+    };
+    if hands.is_empty() {
+        meet_track(client, server, block, steps);
+    } else {
+        meet_all(client, server, &mut hands[i].flag, block, steps);
+    }
+    true
+}
 
 impl NormalMixer {
     /// The reader of reports and the end that puts frames meet the other ends of the report and of the pipe, which `FastMixer::pair` lends. Each learns what its other has done so far. It appends Learn to each of the four lists, in ten steps.
@@ -68,5 +100,23 @@ impl NormalMixer {
     {
         let NormalMixer { mutator, .. } = self;
         meet(links.queue, mutator, observer, steps);
+    }
+
+    // The command proxy of a track meets its client.
+    fn meet_command<L: Ledger>(
+        &mut self,
+        i: usize,
+        block: &Block,
+        client: &mut Client,
+        steps: &mut Steps<L>,
+    )
+        requires track { i < length self.old.commands }
+        requires client { IsClientOf block.now client.old }
+        requires server { (s : ServerState) → slice_get self.old.commands i ≡ Some s → IsServerOf block.now s }
+        ensures client { IsClientOf block.now client.new }
+        ensures server { (s : ServerState) → slice_get self.new.commands i ≡ Some s → IsServerOf block.now s }
+        ensures met { (s : ServerState) → slice_get self.old.commands i ≡ Some s → (t : ServerState) × (self.new ≡ record self.old { commands = slice_set self.old.commands i t }) × Meets s t client.old client.new }
+    {
+        meet_track(client, &mut self.commands[i], block, steps);
     }
 }
