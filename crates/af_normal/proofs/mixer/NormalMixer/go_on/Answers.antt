@@ -1,4 +1,4 @@
-use Rattle.std.proofs.Common.{Bool, not, ◌==◌, is_some, ◌≡◌, ℕ, ◌+◌, ◌-◌, ◌*◌, ◌^◌, ◌<◌, ◌≤◌, List, [], length, map, Option, Some, refl, sym, ap, subst, ◌∙◌, arith}
+use Rattle.std.proofs.Common.{Bool, not, ◌==◌, is_some, ◌≡◌, ℕ, ◌-◌, ◌<◌, ◌≤◌, length, sym, ap, subst, ◌∙◌, arith}
 use Rattle.std.proofs.lemmas.List.{length-map}
 use Rattle.af_base.specs.declared.report.Report.{Report}
 use Rattle.af_base.specs.declared.state.Push.{Push}
@@ -13,9 +13,8 @@ use Rattle.af_normal.specs.Order.{HasTurns, IsGoing}
 use Rattle.af_normal.specs.State.{NormalState, setup_of}
 use Rattle.af_normal.specs.declared.turn.Turn.TheVariants.{Turned}
 use Rattle.af_normal.specs.Mutating.{Pushes}
-use Rattle.af_normal.specs.TurnMade.{WentOn, ServesAll, PlaysAll}
 use Rattle.af_normal.specs.Turning.{Learns}
-use Rattle.af_normal.proofs.GoesOn.{after, all_streams_of, same_tracks, may_mutate, is_idle, few_colds, small_sizes, push_idle, push_together, push_room, tied_p, still, Still, play_ready, play_takes, play_none, play_few, play_home, play_sizes, play_room}
+use Rattle.af_normal.proofs.GoesOn.{all_streams_of, same_tracks, may_mutate, is_idle, few_colds, small_sizes, push_idle, push_together, push_room, tied_p, still, play_ready, play_takes, play_none, play_few, play_home, play_sizes, play_room}
 use Rattle.af_normal.proofs.OrderTurn.{going_learnt}
 use Rattle.af_normal.proofs.Servable.{servable}
 use Rattle.af_normal.proofs.mixer.NormalMixer.go_on.Goals as goal

@@ -1,6 +1,4 @@
-use Rattle.std.proofs.Common.{◌==◌, ◌≡◌, ◌≢◌, ℕ, ◌+◌, ◌<◌, suc, length, List, Option, Some, refl, sym, ap, ◌∙◌, subst, arith}
-use Rattle.af_server.specs.Order.{ServerState}
-use Rattle.af_normal.specs.Mixing.{stream_at}
+use Rattle.std.proofs.Common.{◌==◌, ◌≡◌, ◌≢◌, ℕ, ◌+◌, ◌<◌, suc, length, sym, ap, ◌∙◌, subst, arith}
 use Rattle.af_normal.specs.State.{NormalState}
 use Rattle.af_normal.specs.Turning.{Hands, HandsTo, HasWhole}
 use Rattle.af_normal.proofs.Beginning.{hands_long, hands_other}

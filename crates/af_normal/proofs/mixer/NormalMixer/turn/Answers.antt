@@ -14,6 +14,7 @@ use Rattle.af_normal.proofs.Cases.{on_true}
 use Rattle.af_normal.proofs.LegalBegins.{begun_by, begun_legally, ended_legally}
 use Rattle.af_normal.proofs.Servable.{emptied, going_begun, whole_begun}
 use Rattle.af_normal.proofs.Stopped.{stopped}
+use Rattle.af_normal.proofs.Turned.{answer_is}
 use Rattle.af_normal.proofs.mixer.NormalMixer.turn.Goals as goal
 
 pub begin-requires : goal.begin-requires
@@ -70,7 +71,7 @@ returns-then-self g c =
     record {
       order = stopped links x.turns h going y stops c.stop.ensures.rooms.0 c.stop.ensures.rooms.1;
       turns = ap (λ (v : NormalState). v.turns) stops.leaves ∙ going.next;
-      made = record { begun = b; begins = e.begins; handed = h; hands = c.make_hands.ensures.hands; does = subst (λ r. Does r h y) (sym c.stop.ensures.ended) stops };
+      answer = answer_is c.stop.result h y (subst (λ r. Does r h y) (sym c.stop.ensures.ended) stops);
       legal = ended_legally x b h y e.begins c.make_hands.ensures.hands stops;
     }
 
@@ -87,6 +88,6 @@ returns g c =
     record {
       order = d.order;
       turns = d.turns ∙ going.next;
-      made = record { begun = b; begins = e.begins; handed = h; hands = c.make_hands.ensures.hands; does = d.does };
+      answer = answer_is c.look.result h y d.does;
       legal = (d.legal.0, begun_legally x h y d.legal.0 (begun_by x b h e.begins c.make_hands.ensures.hands) d.legal.1);
     }
