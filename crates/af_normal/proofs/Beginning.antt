@@ -1,5 +1,5 @@
 -- A turn begins in order: the last entry's lists are empty again, and the hands are there.
-use Rattle.std.proofs.Common.{◌≡◌, ◌≢◌, All, ℕ, zero, suc, ◌+◌, ◌-◌, ◌*◌, ◌<◌, ◌≤◌, ◌==◌, Bool, true, false, true≢false, MatchBool, List, [], ◌∷◌, ◌++◌, length, reverse, take, drop, append_assoc, slice_get, slice_set, Option, Some, None, refl, sym, ap, subst, ◌∙◌, get_or-set_other, length-append, length-set, arith, ⊎_elim}
+use Rattle.std.proofs.Common.{◌≡◌, ◌≢◌, All, ℕ, zero, suc, ◌+◌, ◌*◌, ◌<◌, ◌≤◌, ◌==◌, Bool, true, false, true≢false, MatchBool, List, [], ◌∷◌, ◌++◌, length, reverse, take, drop, append_assoc, slice_get, slice_set, Option, Some, None, refl, sym, ap, subst, ◌∙◌, get_or-set_other, length-append, length-set, arith, ⊎_elim}
 use Rattle.std.proofs.lemmas.List.{length-reverse, reverse-append, reverse-reverse, take-append-drop}
 use Rattle.std.proofs.lemmas.List.Elements.{All-append, All-nil, All-head, All-tail, All-push, All-from_get_or, All-get_or}
 use Rattle.std.proofs.lemmas.Grind.{common_steps, moves}
@@ -55,6 +55,9 @@ module _ (i : ℕ) (x y : NormalState) (h : Hands i x y) where
     ap (λ (z : NormalState). length z.streams) h.leaves ∙ length-set x.streams i _,
     ap (λ (z : NormalState). length z.hands) h.leaves ∙ length-append x.hands (hand_of h.stream ∷ []),
   )
+
+  pub hands_same : y ≡ record x { streams = y.streams; hands = y.hands }
+  hands_same = h.leaves ∙ sym (ap (λ (z : NormalState). record x { streams = z.streams; hands = z.hands }) h.leaves)
 
   pub hands_other : (k : ℕ) → k ≢ i → stream_at y.streams k ≡ stream_at x.streams k
   hands_other k ne = ap (λ (z : NormalState). stream_at z.streams k) h.leaves ∙ get_or-set_other x.streams i k _ None ne
