@@ -89,12 +89,12 @@ hand_more blocks i x y count whole of h = λ k flag at.
     let inside : k < length (x.hands ++ hand_of h.stream ∷ []) = slice_get_within (x.hands ++ hand_of h.stream ∷ []) k flag here in
     ⊎_elim
     (λ (e : k ≡ i).
-        let is : flag ≡ hand_of h.stream = one_of flag (hand_of h.stream) (sym here ∙ ap (λ (n : ℕ). slice_get (x.hands ++ hand_of h.stream ∷ []) n) e ∙ get_last x.hands (hand_of h.stream) i count) in
-        let same : whole.stream ≡ h.stream = one_of whole.stream h.stream (sym whole.is_home ∙ h.is_home) in
-        ap (λ (n : ℕ). slice_get blocks n) e ∙ whole.fits.made ∙ ap (λ (s : ServerState). Some (hand_made (hand_of s))) same ∙ ap (λ (f : HandSide). Some (hand_made f)) (sym is))
+    let is : flag ≡ hand_of h.stream = one_of flag (hand_of h.stream) (sym here ∙ ap (λ (n : ℕ). slice_get (x.hands ++ hand_of h.stream ∷ []) n) e ∙ get_last x.hands (hand_of h.stream) i count) in
+    let same : whole.stream ≡ h.stream = one_of whole.stream h.stream (sym whole.is_home ∙ h.is_home) in
+    ap (λ (n : ℕ). slice_get blocks n) e ∙ whole.fits.made ∙ ap (λ (s : ServerState). Some (hand_made (hand_of s))) same ∙ ap (λ (f : HandSide). Some (hand_made f)) (sym is))
     (λ (ne : k ≢ i).
-        let lt : k < length x.hands = omega (arith, inside, length-append x.hands (hand_of h.stream ∷ []), count) in
-        of k flag (sym (get_before x.hands (hand_of h.stream) k lt) ∙ here))
+    let lt : k < length x.hands = omega (arith, inside, length-append x.hands (hand_of h.stream ∷ []), count) in
+    of k flag (sym (get_before x.hands (hand_of h.stream) k lt) ∙ here))
     (cases_eq k i)
 
 -- one item more went back

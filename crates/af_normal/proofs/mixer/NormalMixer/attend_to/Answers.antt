@@ -20,7 +20,6 @@ use Rattle.af_normal.proofs.mixer.NormalMixer.attend_to.Goals as goal
 pub own-own-requires-clause-order : goal.own-own-requires-clause-order
 own-own-requires-clause-order g c = λ s e. (c.requires.own.stream_is s e).in_order
 
-
 pub returns-clause-own : goal.returns-clause-own
 returns-clause-own g c =
     subst (λ (d : List (Option ServerState) × List ServerState × List HandSide). AreOwn c.args.links.now d.0 d.1 d.2 c.args.i)

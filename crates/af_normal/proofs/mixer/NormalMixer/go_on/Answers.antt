@@ -129,28 +129,34 @@ returns g c =
     let setup : setup_of w ≡ setup_of p = ap setup_of told.same ∙ ap setup_of d.plays.same in
     let streams_long : length q.streams ≤ length links.streams.now = (let h = length-map q.streams is_some in let i = length-map p.streams is_some in let j = ap length d.there in let k = tied.sizes.streams_are in let b : length p.tracks ≤ length links.streams.now = play_blocks links t x c.requires.going few r n y l s e.serves e.own z c.mutate.ensures.edits a p g in omega arith) in
     record {
-      goes = (r, n, a, record {
-        goes = record {
-          learnt = y;
-          learns = l;
-          served = s;
-          serves = e.serves;
-          edited = z;
-          edits = c.mutate.ensures.edits;
-          pushed = p;
-          pushes = g;
-          played = q;
-          plays = d.plays;
-          tells = told.tells;
-          leaves = told.same;
-        };
-        own = e.own;
-        streams = all_streams_of links.streams.now q.streams streams_long d.ready;
-        turns = subst (λ (k : ℕ). HasTurns k w.entry.tracks w.spare_turns) (sym (long ∙ same_tracks links t x c.requires.going few r n y l s e.serves e.own z c.mutate.ensures.edits a p g))
-            (subst (λ (m : Roomy TrackTurn). HasTurns (length y.tracks) m w.spare_turns) (sym turns) (subst (HasTurns (length y.tracks) s.entry.tracks) (sym spare) e.turns));
-        takes = subst (λ (k : Setup). HasTakes (asked k) (length w.tracks) w.entry.mixes w.spare_takes) (sym setup)
-            (subst (λ (k : ℕ). HasTakes (asked (setup_of p)) k w.entry.mixes w.spare_takes) (sym long)
-            (subst (λ (m : Roomy NormalTake). HasTakes (asked (setup_of p)) (length p.tracks) m w.spare_takes) (sym told.lists.1)
-            (subst (HasTakes (asked (setup_of p)) (length p.tracks) q.entry.mixes) (sym (ap (λ (m : NormalState). m.spare_takes) told.same)) d.takes)));
-      }, ap (λ (b : Bool). Turned b a) (d.mixed ∙ ap (λ (m : Roomy NormalTake). not (length m.items == 0)) (sym told.lists.1)));
+      goes = (
+        r,
+        n,
+        a,
+        record {
+          goes = record {
+            learnt = y;
+            learns = l;
+            served = s;
+            serves = e.serves;
+            edited = z;
+            edits = c.mutate.ensures.edits;
+            pushed = p;
+            pushes = g;
+            played = q;
+            plays = d.plays;
+            tells = told.tells;
+            leaves = told.same;
+          };
+          own = e.own;
+          streams = all_streams_of links.streams.now q.streams streams_long d.ready;
+          turns = subst (λ (k : ℕ). HasTurns k w.entry.tracks w.spare_turns) (sym (long ∙ same_tracks links t x c.requires.going few r n y l s e.serves e.own z c.mutate.ensures.edits a p g))
+              (subst (λ (m : Roomy TrackTurn). HasTurns (length y.tracks) m w.spare_turns) (sym turns) (subst (HasTurns (length y.tracks) s.entry.tracks) (sym spare) e.turns));
+          takes = subst (λ (k : Setup). HasTakes (asked k) (length w.tracks) w.entry.mixes w.spare_takes) (sym setup)
+              (subst (λ (k : ℕ). HasTakes (asked (setup_of p)) k w.entry.mixes w.spare_takes) (sym long)
+              (subst (λ (m : Roomy NormalTake). HasTakes (asked (setup_of p)) (length p.tracks) m w.spare_takes) (sym told.lists.1)
+              (subst (HasTakes (asked (setup_of p)) (length p.tracks) q.entry.mixes) (sym (ap (λ (m : NormalState). m.spare_takes) told.same)) d.takes)));
+        },
+        ap (λ (b : Bool). Turned b a) (d.mixed ∙ ap (λ (m : Roomy NormalTake). not (length m.items == 0)) (sym told.lists.1)),
+      );
     }
