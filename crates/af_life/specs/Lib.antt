@@ -12,4 +12,5 @@ pub mod Turn
 pub mod TurnEvents
 pub mod Drained
 pub mod Small
+pub mod Sound
 pub mod Plain

@@ -1,9 +1,11 @@
 -- How returning proxies come home.
-use Rattle.std.specs.Prelude.{◌≡◌, ℕ, zero, suc, ◌&&◌, not, is_some, MatchBool, MatchOption, slice_set, Some, None}
+use Rattle.std.specs.Prelude.{◌≡◌, ℕ, zero, suc, ◌<◌, ◌≤◌, ◌&&◌, not, true, List, is_some, MatchBool, MatchOption, slice_set, Some, None}
+use Rattle.af_base.specs.Log.{slots}
 use Rattle.af_server.specs.Order.{ServerState}
 use Rattle.af_stateq.specs.Mutates.{Mutates, at, is_out}
 use Rattle.af_link.specs.declared.names.StreamNames.{StreamNames}
 use Rattle.af_life.specs.declared.kept.Holder.TheVariants.{Home}
+use Rattle.af_life.specs.declared.kept.TrackKept.{TrackKept}
 use Rattle.af_life.specs.Kept.{is_returning, slot_number, track_at}
 use Rattle.af_normal.specs.State.{NormalState}
 
@@ -24,3 +26,7 @@ Welcomes i x y = let s = track_at x.tracks i in let z = record x { mutator = tak
 abbrev pub WelcomesTo : ℕ → NormalState → NormalState → Type 0
 WelcomesTo zero x y = y ≡ x
 WelcomesTo (suc i) x y = (z : NormalState) × WelcomesTo i x z × Welcomes i z y
+
+-- each returning track has a slot
+abbrev pub HaveSlots : List TrackKept → Type 0
+HaveSlots tracks = (i : ℕ) → is_returning (track_at tracks i).holder ≡ true → (1 ≤ slot_number (track_at tracks i)) × (slot_number (track_at tracks i) < slots)

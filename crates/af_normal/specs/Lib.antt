@@ -2,8 +2,16 @@ pub mod AllMixed
 pub mod Coming
 pub mod Commands
 pub mod Editing
+pub mod Making
+pub mod LegalKept
+pub mod LegalTurned
+pub mod Meeting
 pub mod Mixing
+pub mod Mutating
+pub mod Order
 pub mod Ready
 pub mod Serving
 pub mod State
 pub mod Sums
+pub mod TurnMade
+pub mod Turning

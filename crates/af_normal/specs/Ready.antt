@@ -1,5 +1,5 @@
 -- When the parts of a track belong to the blocks of a run's links.
-use Rattle.std.specs.Prelude.{◌≡◌, ℕ, List, length, map, slice_get, Some}
+use Rattle.std.specs.Prelude.{◌≡◌, ℕ, ◌<◌, List, length, map, slice_get, Option, Some}
 use Rattle.std.specs.List.{All}
 use Rattle.af_base.specs.declared.turn.TrackTurn.{TrackTurn}
 use Rattle.af_base.specs.Turn.{track_seen}
@@ -16,15 +16,13 @@ use Rattle.af_normal.specs.State.{NormalState}
 abbrev pub serving_of : NormalState → Serving
 serving_of m = record { tracks = m.tracks; streams = m.streams; commands = m.commands; hands = m.hands; turns = map track_seen m.entry.tracks.items }
 
--- the command proxy, the hand and, where it is home, the stream proxy of the track i are those of its two blocks
-pub record IsTrackReady (links : Links) (x : Serving) (i : ℕ) : Type 0 where
-  pub command : ServerState
-  pub has_command : slice_get x.commands i ≡ Some command
-  pub command_is : IsStreamOf links.commands.now i command
-  pub flag : HandSide
-  pub has_flag : slice_get x.hands i ≡ Some flag
-  pub flag_is : slice_get links.streams.now i ≡ Some (hand_made flag)
-  pub stream_is : (s : ServerState) → stream_at x.streams i ≡ Some s → IsStreamOf links.streams.now i s
+-- The command proxy, the hand and, where it is home, the stream proxy of the track i are those of its two blocks
+pub record AreOwn (links : Links) (streams : List (Option ServerState)) (commands : List ServerState) (hands : List HandSide) (i : ℕ) : Type 0 where
+  pub blocks : (i < length links.commands.now) × (i < length links.streams.now)
+  pub there : (i < length commands) × (i < length hands)
+  pub command_is : (s : ServerState) → slice_get commands i ≡ Some s → IsStreamOf links.commands.now i s
+  pub flag_is : (h : HandSide) → slice_get hands i ≡ Some h → slice_get links.streams.now i ≡ Some (hand_made h)
+  pub stream_is : (s : ServerState) → stream_at streams i ≡ Some s → IsStreamOf links.streams.now i s
 
 -- there is one of each for each of so many tracks
 pub record AreWhole (n : ℕ) (x : Serving) : Type 0 where

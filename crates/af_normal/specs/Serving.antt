@@ -64,6 +64,38 @@ pub record Attends (given : Option ℕ) (h : Heard) (s : TrackKept) (command : S
   pub streamed : StreamAdds stream (shut_events (is_found_shut h seen.looks)) stream'
   pub disabled : HandAdds flag (disabled_events seen.disabled) flag'
 
+-- the proxies and the hand of the track i do their part
+pub record AttendsAt (given : Option ℕ) (h : Heard) (s : TrackKept) (i : ℕ) (streams : List (Option ServerState)) (commands : List ServerState) (hands : List HandSide) (seen : TrackSeen) (streams' : List (Option ServerState)) (commands' : List ServerState) (hands' : List HandSide) : Type 0 where
+  pub command : ServerState
+  pub has_command : slice_get commands i ≡ Some command
+  pub flag : HandSide
+  pub has_flag : slice_get hands i ≡ Some flag
+  pub command' : ServerState
+  pub stream' : Option ServerState
+  pub flag' : HandSide
+  pub attends : Attends given h s command (stream_at streams i) flag seen command' stream' flag'
+  pub streams_are : streams' ≡ slice_set streams i stream'
+  pub commands_are : commands' ≡ slice_set commands i command'
+  pub hands_are : hands' ≡ slice_set hands i flag'
+
+-- The track i has its part of the turn by what was learnt, and `seen` is what the entry is to hold of it
+pub record ServesBy (c : Setup) (k : Learnt) (i : ℕ) (seen : TrackSeen) (x : Serving) (y : Serving) : Type 0 where
+  pub command : ServerState
+  pub has_command : slice_get x.commands i ≡ Some command
+  pub flag : HandSide
+  pub has_flag : slice_get x.hands i ≡ Some flag
+  pub command' : ServerState
+  pub stream' : Option ServerState
+  pub flag' : HandSide
+  pub attends : let s = track_at x.tracks i in Attends (slot_for c x.tracks i) (heard k i s) (ready k i s) command (stream_at x.streams i) flag seen command' stream' flag'
+  pub leaves : y ≡ record {
+    tracks = slice_set x.tracks i (served c k seen.looks x.tracks i);
+    streams = slice_set x.streams i stream';
+    commands = slice_set x.commands i command';
+    hands = slice_set x.hands i flag';
+    turns = x.turns;
+  }
+
 -- the track i has its part of the turn by what was learnt
 pub record ServesOne (c : Setup) (k : Learnt) (i : ℕ) (x : Serving) (y : Serving) : Type 0 where
   pub command : ServerState

@@ -2,7 +2,7 @@
 ghost use Rattle.std.specs.Prelude.{◌≡◌, ◌<◌, ◌≤◌, true, length};
 ghost use Rattle.af_base.specs.Log.{slots};
 ghost use Rattle.af_life.specs.Kept.{is_returning, slot_number, track_at};
-ghost use Rattle.af_normal.specs.Coming.{Welcomes};
+ghost use Rattle.af_normal.specs.Coming.{HaveSlots, Welcomes, WelcomesTo};
 
 use crate::mixer::NormalMixer;
 use af_life::{Holder, TrackKept};
@@ -26,5 +26,16 @@ impl NormalMixer {
             holder: Holder::Home,
             ..track
         };
+    }
+
+    // Each returning proxy that is in hand comes home.
+    pub(crate) fn welcome_all(&mut self)
+        requires long { length self.old.streams ≡ length self.old.tracks }
+        requires slots { HaveSlots self.old.tracks }
+        ensures { WelcomesTo (length self.old.tracks) self.old self.new }
+    {
+        for i in 0..self.tracks.len() {
+            self.welcome(i);
+        }
     }
 }

@@ -1,5 +1,5 @@
 //! One track's part of a turn, with its two proxies and its hand.
-ghost use Rattle.std.specs.Prelude.{◌≡◌, ◌+◌, ◌<◌, ◌≤◌, ◌^◌, ◌∷◌, ◌++◌, [], length, Some, if◌then◌else◌};
+ghost use Rattle.std.specs.Prelude.{◌≡◌, ◌+◌, ◌-◌, ◌<◌, ◌≤◌, ◌^◌, ◌∷◌, ◌++◌, [], length, Some, if◌then◌else◌};
 ghost use Rattle.af_base.specs.Turn.{track_seen};
 ghost use Rattle.af_base.specs.declared.event.ServerEvent.TheVariants as server_event;
 ghost use Rattle.af_cblk.specs.Sides.{hand_made};
@@ -14,8 +14,9 @@ ghost use Rattle.af_normal.specs.Commands.{LooksMade};
 ghost use Rattle.af_normal.specs.Serving.{Adds, StreamAdds, HandAdds, Attends, disabled_events, shut_events};
 
 use crate::commands::look_at_commands;
+use crate::mixer::TrackHand;
 use af_base::{CommandLooks, INVALID, Steps, TrackTurn};
-use af_cblk::{Block, FlagHand};
+use af_cblk::Block;
 use af_life::{Heard, Known, TrackKept, is_found_shut, stored_over};
 use af_server::Server;
 use std::sync::ledger::Ledger;
@@ -76,13 +77,13 @@ fn obey<L: Ledger>(
 }
 
 // DISABLED, where the report says so.
-fn disable<L: Ledger>(hand: &mut FlagHand, block: &Block, disabled: bool, steps: &mut Steps<L>)
+fn disable<L: Ledger>(hand: &mut TrackHand, block: &Block, disabled: bool, steps: &mut Steps<L>)
     requires made { hand_made hand.old ≡ block.now }
     ensures made { hand_made hand.new ≡ block.now }
     ensures list { HandAdds hand.old (disabled_events disabled) hand.new }
 {
     if disabled {
-        block.set_disabled(hand, steps);
+        block.set_disabled(&mut hand.flag, steps);
     }
 }
 
@@ -133,7 +134,7 @@ fn store_status<L: Ledger>(
 pub(crate) fn attend<L: Ledger>(
     command: &mut Server,
     stream: &mut Option<Server>,
-    hand: &mut FlagHand,
+    hand: &mut TrackHand,
     command_block: &Block,
     stream_block: &Block,
     given: Option<u32>,
@@ -146,7 +147,7 @@ pub(crate) fn attend<L: Ledger>(
     requires stream { (s : ServerState) → stream.old ≡ Some s → IsServerOf stream_block.now s }
     requires hand { hand_made hand.old ≡ stream_block.now }
     requires seen { (track_seen seen.old ≡ nothing_seen) × (most_looks ≤ seen.old.looks.room) }
-    requires few { ready.settled < 2 ^ 23 }
+    requires few { ready.settled < 2 ^ 24 - 128 }
     ensures command { IsServerOf command_block.now command.new }
     ensures stream { (s : ServerState) → stream.new ≡ Some s → IsServerOf stream_block.now s }
     ensures hand { hand_made hand.new ≡ stream_block.now }

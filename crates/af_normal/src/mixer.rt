@@ -1,4 +1,6 @@
 //! The normal mixer, and what contracts see of it.
+ghost use Rattle.std.specs.Prelude.{◌≡◌};
+
 use af_base::{Frame, NormalTakes, TrackTurns, TurnEntry};
 use af_cblk::FlagHand;
 use af_gain::Sum;
@@ -7,6 +9,21 @@ use af_link::{PipeIn, ReportReader, StreamNames};
 use af_server::Server;
 use af_stateq::Mutator;
 use std::marker::Model;
+
+/// The hand of a track's stream block. The number of the track stands beside it, since the hand has no bytes, and an element of such a list can't be lent. Contracts see the hand.
+#[derive(Drop)]
+pub(crate) struct TrackHand {
+    pub(crate) track: u32,
+    pub(crate) flag: FlagHand,
+}
+
+impl Model for TrackHand {
+    ghost use Rattle.af_cblk.specs.Sides.{HandSide};
+
+    ghost Value = { HandSide };
+
+    ghost view = { λ h. h.flag };
+}
 
 /// The mixer that hears of all tracks, tells the fast mixer what to do, and mixes the tracks that have no slot into the pipe (AOSP's MixerThread).
 #[derive(Drop)]
@@ -19,7 +36,7 @@ pub struct NormalMixer {
     pub(crate) streams: Vec<Option<Server>>,
     pub(crate) commands: Vec<Server>,
     // They are there from the first turn on.
-    pub(crate) hands: Vec<FlagHand>,
+    pub(crate) hands: Vec<TrackHand>,
     pub(crate) mutator: Mutator<Server, StreamNames>,
     pub(crate) ends: (ReportReader, PipeIn),
     pub(crate) entry: TurnEntry,
@@ -27,18 +44,38 @@ pub struct NormalMixer {
     pub(crate) spare_turns: TrackTurns,
     pub(crate) spare_takes: NormalTakes,
     pub(crate) ended: bool,
+    // Whether the last state pushed is an Exit.
+    pub(crate) exits: bool,
     pub(crate) turns: u32,
     pub(crate) sums: Vec<Sum>,
     pub(crate) buffer: Vec<Frame>,
 }
 
 impl Model for NormalMixer {
-    ghost use Rattle.std.specs.Prelude.{◌≡◌, ◌*◌, length};
+    ghost use Rattle.std.specs.Prelude.{◌≡◌, ◌*◌, ◌≤◌, length};
+    ghost use Rattle.std.specs.Vec.{vec_capacity};
+    ghost use Rattle.af_life.specs.Edits.{is_exit};
     ghost use Rattle.af_normal.specs.State.{NormalState};
 
     ghost Value = { NormalState };
 
     ghost view = { λ m. record { frames = m.frames; normal = m.normal; settings = m.settings.items; tracks = m.tracks.items; streams = m.streams.items; commands = m.commands.items; hands = m.hands.items; mutator = m.mutator; reader = m.ends.0; pipe = m.ends.1; entry = m.entry; spare_turns = m.spare_turns; spare_takes = m.spare_takes; ended = m.ended; turns = m.turns } };
 
-    ghost invariant = { λ m. (length m.sums.items ≡ m.normal * m.frames) × (length m.buffer.items ≡ m.normal * m.frames) };
+    ghost invariant = { λ m. (length m.sums.items ≡ m.normal * m.frames) × (length m.buffer.items ≡ m.normal * m.frames) × (m.exits ≡ is_exit m.mutator.past.last) × (length m.tracks.items ≤ vec_capacity m.hands) };
+}
+
+impl NormalMixer {
+    /// What the last turn saw and did. Before the first turn it is the entry of a turn that has ended.
+    pub fn last(&self) -> &TurnEntry
+        ensures { result.now ≡ self.now.entry }
+    {
+        &self.entry
+    }
+
+    /// How many turns were made.
+    pub fn turns(&self) -> u32
+        ensures { result ≡ self.now.turns }
+    {
+        self.turns
+    }
 }

@@ -1,0 +1,54 @@
+-- Flags that a server sets tell nothing of it: its looks answer by the list before them as well.
+use Rattle.std.proofs.Common.{◌≡◌, ℕ, ◌&&◌, not, min, Bool, true, false, if◌then◌else◌, is_some, MatchOption, sym, refl, ap, subst, ◌∙◌, List, [], ◌∷◌, ◌++◌, append-nil, Option, Some, None}
+use Rattle.std.proofs.lemmas.Grind.{fold-append}
+use Rattle.af_base.specs.declared.event.ServerEvent.{ServerEvent}
+use Rattle.af_base.specs.declared.event.ServerEvent.TheVariants as server
+use Rattle.af_base.specs.declared.log.SlotEntry.{SlotEntry}
+use Rattle.af_base.specs.declared.seen.Seen.TheVariants as seen
+use Rattle.af_base.specs.Turn.{TrackSeen}
+use Rattle.af_model.specs.Cycles.{Listed, kept, LooksBy, cycle_events, after_look}
+use Rattle.af_model.specs.ServerCalls.{ServerKept, server_kept, server_keeps, server_begins, look_at, look_events, flushes_by}
+use Rattle.af_model.specs.declared.shape.Shape.{Shape}
+use Rattle.af_server.specs.Order.{ServerState}
+use Rattle.af_server.specs.Slot.{listed}
+use Rattle.af_life.specs.declared.kept.TrackKept.{TrackKept}
+use Rattle.af_life.specs.Heard.{known_by, heard_with, heard}
+use Rattle.af_life.specs.Kept.{Learnt, no_counts, track_at}
+use Rattle.af_life.specs.Serves.{is_found_shut}
+use Rattle.af_life.specs.TurnEvents.{invalid}
+use Rattle.af_normal.specs.Serving.{Adds}
+
+kept_still : (shape : Shape) (events : List ServerEvent) (b : Bool) → server_kept shape (events ++ (if b then server.SetFlags 4 ∷ [] else [])) ≡ server_kept shape events
+kept_still shape events true = fold-append (server_keeps shape) (server_begins shape) events (server.SetFlags 4 ∷ [])
+kept_still shape events false = ap (server_kept shape) (append-nil events)
+
+-- what a list tells: its shape, and what is kept by it
+abbrev Told : Type 0
+Told = Shape × ServerKept
+
+abbrev told : Listed → Told
+told s = (s.shape, kept s)
+
+-- the server went on by INVALID, or by nothing
+pub told_still : (k : Learnt) (seen : TrackSeen) (tracks : List TrackKept) (i : ℕ) (s t : ServerState) → Adds s (invalid k seen tracks i) [] t → ((listed t).shape ≡ (listed s).shape) × (kept (listed t) ≡ kept (listed s))
+told_still k seen tracks i s t a = (
+  a.shape,
+  ap (λ (shape : Shape). server_kept shape t.pass.part.events) a.shape ∙ ap (server_kept s.pass.part.shape) a.list
+      ∙ kept_still s.pass.part.shape s.pass.part.events (not (track_at tracks i).life.ended && is_found_shut (heard k i (track_at tracks i)) seen.looks),
+)
+
+module _ (s t : Listed) (shape : t.shape ≡ s.shape) (same : kept t ≡ kept s) where
+  pub known_still : known_by t ≡ known_by s
+  known_still = ap (λ (x : Shape). heard_with (min 9223372036854775807 (kept t).consumed) (flushes_by x.wrap (kept t).noticed) (is_some (kept t).shut) no_counts) shape
+      ∙ ap (λ (k : ServerKept). heard_with (min 9223372036854775807 k.consumed) (flushes_by s.shape.wrap k.noticed) (is_some k.shut) no_counts) same
+
+  pub looks_still : (asked : ℕ) (slot : SlotEntry) (front : ℕ) → LooksBy asked t slot front → LooksBy asked s slot front
+  looks_still asked slot front looks = subst (λ (k : ServerKept). MatchOption k.shut
+      (slot.seen ≡ look_at s.shape k.flush asked slot.flush slot.rear front)
+      (λ words. (slot.seen ≡ seen.Shut words.0 words.1) × (slot.flush ≡ k.flush) × (slot.rear ≡ words.1))) same
+      (subst (λ (x : Shape). MatchOption (kept t).shut
+      (slot.seen ≡ look_at x (kept t).flush asked slot.flush slot.rear front)
+      (λ words. (slot.seen ≡ seen.Shut words.0 words.1) × (slot.flush ≡ (kept t).flush) × (slot.rear ≡ words.1))) shape looks)
+
+  pub events_still : (asked : ℕ) (slot : SlotEntry) (front : ℕ) → cycle_events asked t slot front ≡ cycle_events asked s slot front
+  events_still asked slot front = ap (λ (k : ServerKept). server.SawGain slot.gains ∷ (if is_some k.shut then [] else look_events slot.seen slot.flush slot.rear front) ++ after_look asked (is_some k.shut) slot.seen) same

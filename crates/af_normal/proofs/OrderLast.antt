@@ -1,0 +1,138 @@
+-- A whole turn keeps the order.
+use Rattle.std.proofs.Common.{◌≡◌, ℕ, zero, suc, ◌+◌, ◌*◌, ◌<◌, ◌≤◌, ◌&&◌, Bool, true, false, true≢false, inl, inr, sym, refl, ap, subst, ◌∙◌, List, [], ◌∷◌, length, Option, Some, None, arith}
+use Rattle.std.specs.Prelude.{slice_get}
+use Rattle.std.proofs.lemmas.Bool.{cases_lt}
+use Rattle.std.proofs.lemmas.Option.{slice_get_within}
+use Rattle.af_base.specs.declared.report.Report.{Report}
+use Rattle.af_base.specs.declared.state.Push.{Push}
+use Rattle.af_base.specs.declared.state.Push.TheVariants.{Pushed, Clean, Busy}
+use Rattle.af_base.specs.Turn.{Turn, TrackSeen, turn_of, ended_turn}
+use Rattle.af_cblk.specs.Sides.{HandSide, hand_made}
+use Rattle.af_server.specs.Order.{ServerState}
+use Rattle.af_stateq.specs.Answers.{WasPushed, SeesIt, shows}
+use Rattle.af_stateq.specs.Mutates.{Mutates}
+use Rattle.af_link.specs.Names.{IsStreamOf}
+use Rattle.af_link.specs.declared.links.Links.{Links}
+use Rattle.af_link.specs.declared.names.StreamNames.{StreamNames}
+use Rattle.af_life.specs.declared.kept.TrackKept.{TrackKept}
+use Rattle.af_life.specs.Kept.{Setup, asked, NormalKept, Learnt, seen_at}
+use Rattle.af_life.specs.Heard.{learnt}
+use Rattle.af_life.specs.Edits.{is_exit}
+use Rattle.af_life.specs.Serves.{served_to}
+use Rattle.af_life.specs.Small.{IsSmall, IsSmallTurn, most_tracks}
+use Rattle.af_life.specs.Turn.{turn_after}
+use Rattle.af_life.proofs.SmallTurns.{turn_small}
+use Rattle.af_normal.specs.AllMixed.{HasTakes}
+use Rattle.af_normal.specs.Mixing.{stream_at}
+use Rattle.af_normal.specs.Mutating.{Pushes, EditsAll}
+use Rattle.af_normal.specs.Order.{HaveHands, HasTurns, IsTied, IsGoing, IsInOrder}
+use Rattle.af_normal.specs.State.{NormalState, setup_of, kept_of}
+use Rattle.af_normal.specs.TurnMade.{mixing_of}
+use Rattle.af_normal.proofs.LegalMade.{IsMade, PlaysBy, going_l, done, mix, told, tells, outside, c, k, turns, p_tied, setup_of_p, setup_of_l, p_same, z_same, turn_kept}
+use Rattle.af_normal.proofs.LegalGrows.{y_same, q_same, home_same}
+use Rattle.af_normal.proofs.OrderDone.{tied_played}
+use Rattle.af_normal.proofs.OrderServed.{long as served_long}
+use Rattle.af_normal.proofs.OrderTurn.{few_looks, seen_past}
+
+-- a push edits nothing
+push_idle : (push : Push) (x y : NormalState) → Pushes push x y → y.mutator.editing ≡ x.mutator.editing
+push_idle push x y w = by_answer push w.pushed
+  where
+    by_number : (n : ℕ) → x.mutator.past.number ≡ n
+        → (x.mutator.past.number ≡ 0 → (y.mutator ≡ shows x.mutator) × (w.after ≡ w.before + 1))
+        → (0 < x.mutator.past.number → (v : Mutates ServerState StreamNames) × SeesIt x.mutator v × (y.mutator ≡ shows v) × (w.after ≡ w.before + 2))
+        → y.mutator.editing ≡ x.mutator.editing
+    by_number zero is first later = ap (λ (m : Mutates ServerState StreamNames). m.editing) (first is).0
+    by_number (suc n) is first later = let l = later (omega arith) in ap (λ (m : Mutates ServerState StreamNames). m.editing) l.2 ∙ ap (λ (m : Mutates ServerState StreamNames). m.editing) l.1.1
+
+    by_answer : (p : Push) → WasPushed x.mutator p y.mutator w.before w.after → y.mutator.editing ≡ x.mutator.editing
+    by_answer Clean d = ap (λ (m : Mutates ServerState StreamNames). m.editing) d.1
+    by_answer (Pushed number) d = by_number x.mutator.past.number refl d.2 d.3
+    by_answer (Busy seen expected) d = ap (λ (m : Mutates ServerState StreamNames). m.editing) d.3.2.2
+
+module _ (links : Links) (t : ℕ) (x : NormalState) (ack : Bool) (report : Report) (room : ℕ) (push : Push) (y : NormalState) (made : IsMade links t x ack report room push y) where
+  abbrev l : NormalState
+  l = made.goes_on.rest.learnt
+
+  abbrev s : NormalState
+  s = made.goes_on.rest.served
+
+  abbrev z : NormalState
+  z = made.goes_on.rest.edited
+
+  abbrev p : NormalState
+  p = made.goes_on.rest.pushed
+
+  abbrev q : NormalState
+  q = made.goes_on.rest.played
+
+  abbrev cs : Setup
+  cs = c links t x ack report room push y made
+
+  abbrev ks : Learnt
+  ks = k links t x ack report room push y made
+
+  abbrev ts : List TrackSeen
+  ts = turns links t x ack report room push y made
+
+  few_told : IsSmallTurn (told links t x ack report room push y made)
+  few_told = record {
+    looks = (λ i. elim (cases_lt i (length l.tracks)) as (λ d. length (seen_at ts i).looks ≤ 64) [
+      | inl lt ↦ few_looks cs ks (seen_at ts i) (served_to cs ks ts l.tracks i) i ((done links t x ack report room push y made).parts i lt).legal
+      | inr le ↦ let n : length (seen_at ts i).looks ≡ 0 = ap (λ (seen : TrackSeen). length seen.looks) (seen_past ts i (let m = (done links t x ack report room push y made).count in omega arith)) in omega arith
+    ]);
+    mixes = (let f = (mix links t x ack report room push y made).1.few in let n = (p_tied links t x ack report room push y made).sizes.few in omega arith);
+  }
+
+  setup_of_y : setup_of y ≡ setup_of x
+  setup_of_y = ap setup_of (y_same links t x ack report room push y made) ∙ ap setup_of (q_same links t x ack report room push y made) ∙ setup_of_p links t x ack report room push y made ∙ setup_of_l links t x ack report room push y made
+
+  tracks_y : y.tracks ≡ q.tracks
+  tracks_y = ap (λ (w : NormalState). w.tracks) (y_same links t x ack report room push y made)
+
+  -- the numbers are small after one turn more
+  pub small_done : x.ended ≡ false → (is_exit x.mutator.past.last && ack) ≡ false → IsSmall (t + 1) (setup_of y) (kept_of y)
+  small_done lives no_exit = subst (λ (d : Setup × NormalKept). IsSmall (t + 1) d.0 d.1) (λ i. (sym setup_of_y i, sym (turn_kept links t x ack report room push y made lives no_exit) i))
+      (turn_small (setup_of x) t (learnt (outside links t x ack report room push y made)) (turn_of y.entry) (kept_of x) made.going.small (subst IsSmallTurn (sym (tells links t x ack report room push y made)) few_told))
+
+  turns_y : y.turns ≡ t + 1
+  turns_y = ap (λ (w : NormalState). w.turns) (y_same links t x ack report room push y made) ∙ ap (λ (w : NormalState). w.turns) (q_same links t x ack report room push y made)
+      ∙ ap (λ (w : NormalState). w.turns) (p_same links t x ack report room push y made) ∙ ap (λ (w : NormalState). w.turns) (z_same links t x ack report room push y made)
+      ∙ ap (λ (w : NormalState). w.turns) made.goes_on.rest.serves.same ∙ ap (λ (w : NormalState). w.turns) made.goes_on.rest.learns.same ∙ ap (λ (w : NormalState). w.turns) (home_same links t x ack report room push y made) ∙ made.going.next
+
+  hands_y : y.hands ≡ s.hands
+  hands_y = ap (λ (w : NormalState). w.hands) (y_same links t x ack report room push y made) ∙ ap (λ (w : NormalState). w.hands) (q_same links t x ack report room push y made)
+      ∙ ap (λ (w : NormalState). w.hands) (p_same links t x ack report room push y made) ∙ ap (λ (w : NormalState). w.hands) (z_same links t x ack report room push y made)
+
+  idle_y : y.mutator.editing ≡ false
+  idle_y = ap (λ (w : NormalState). w.mutator.editing) (y_same links t x ack report room push y made) ∙ ap (λ (w : NormalState). w.mutator.editing) (q_same links t x ack report room push y made)
+      ∙ push_idle push z p made.goes_on.rest.pushes ∙ ap (λ (w : NormalState). w.mutator.editing) made.goes_on.rest.edits.leaves
+
+  -- each track still has its hand
+  hands_done : HaveHands links.streams.now (length s.tracks) s.hands
+  hands_done = let n : length s.tracks ≡ length l.tracks = served_long links report l s (going_l links t x ack report room push y made).tied made.goes_on.rest.serves (done links t x ack report room push y made) made.own in record {
+    whole = (done links t x ack report room push y made).long.2 ∙ (going_l links t x ack report room push y made).hands.whole ∙ sym n;
+    flags_of = (λ i flag is. (made.own i (let w = slice_get_within s.hands i flag is in let h = (done links t x ack report room push y made).long.2 in let g = (going_l links t x ack report room push y made).hands.whole in omega arith)).flag_is flag is);
+  }
+
+  -- The turn keeps the order: the entry and the spare lists have their room, and the stream proxies are of their blocks
+  pub order_done : x.ended ≡ false → (is_exit x.mutator.past.last && ack) ≡ false
+      → ((j : ℕ) (r : ServerState) → stream_at q.streams j ≡ Some r → IsStreamOf links.streams.now j r)
+      → HasTurns (length y.tracks) y.entry.tracks y.spare_turns → HasTakes (asked (setup_of y)) (length y.tracks) y.entry.mixes y.spare_takes → IsInOrder links y
+  order_done lives no_exit of turns_room takes_room = record {
+    tied = subst (IsTied links) (sym (y_same links t x ack report room push y made)) (let w : IsTied links q = tied_played links t x ack report room push y made of in record { sound = w.sound; sizes = w.sizes; proxies = w.proxies; out = w.out; linked = w.linked });
+    small = subst (λ (n : ℕ). IsSmall n (setup_of y) (kept_of y)) (sym turns_y) (small_done lives no_exit);
+    none_yet = (λ e. absurd (omega (arith, turns_y)));
+    hands = (λ h. subst (λ (hs : List HandSide). HaveHands links.streams.now (length y.tracks) hs) (sym hands_y) (subst (λ (n : ℕ). HaveHands links.streams.now n s.hands) tracks_long hands_done));
+    turns = turns_room;
+    takes = takes_room;
+    idle = idle_y;
+  }
+    where
+      tracks_long : length s.tracks ≡ length y.tracks
+      tracks_long =
+          let a : length s.tracks ≡ length l.tracks = served_long links report l s (going_l links t x ack report room push y made).tied made.goes_on.rest.serves (done links t x ack report room push y made) made.own in
+          let b : length l.settings ≡ length l.tracks = (going_l links t x ack report room push y made).tied.sizes.settings in
+          let d : length q.settings ≡ length q.tracks = (tied_played links t x ack report room push y made of).sizes.settings in
+          let f : length q.settings ≡ length l.settings = ap (λ (w : NormalState). length w.settings) (q_same links t x ack report room push y made) ∙ ap (λ (d : Setup). length d.settings) (setup_of_p links t x ack report room push y made) in
+          let g : length y.tracks ≡ length q.tracks = ap (λ (ts : List TrackKept). length ts) tracks_y in omega arith

@@ -1,0 +1,190 @@
+//! How a normal mixer is made.
+ghost use Rattle.std.specs.Prelude.{◌≡◌, false, ◌+◌, ◌*◌, ◌<◌, ◌≤◌, ◌++◌, ◌∷◌, [], length, map, replicate, All, IfOk, IfErr, Some};
+ghost use Rattle.af_base.specs.Turn.{take_seen, track_seen};
+ghost use Rattle.af_life.specs.Edits.{is_exit};
+ghost use Rattle.af_normal.specs.AllMixed.{HasFrames};
+ghost use Rattle.af_link.specs.declared.links.Links.{Links};
+ghost use Rattle.af_normal.specs.Making.{AreNew, IsMade, with_track};
+ghost use Rattle.af_normal.specs.Order.{IsInOrder};
+ghost use Rattle.af_normal.specs.Ready.{HaveRoom};
+
+use crate::commands::MOST_LOOKS;
+use crate::mixer::NormalMixer;
+use af_base::{
+    CommandLooks, Frame, FrameList, Memory, NormalTake, NormalTakes, Seen, SlotEntry, TrackTurn,
+    TrackTurns, TurnEntry,
+};
+use af_gain::Sum;
+use af_life::{Setting, new_track};
+use af_link::{PipeIn, ReportReader, StreamNames};
+use af_server::Server;
+use af_stateq::Mutator;
+use std::alloc::Global;
+use std::marker::Model;
+
+/// What a track is made of: whether it may have a slot, how it is mixed, and the proxies of its two blocks.
+#[derive(Drop)]
+pub struct TrackSetup {
+    pub fast: bool,
+    pub mono: bool,
+    /// A 4.12 scale of its gains, at most 0x1000.
+    pub scale: u16,
+    pub stream: Server,
+    pub command: Server,
+}
+
+/// The tracks of a mixer, in order. Contracts see what each is, its stream proxy, which is there, and its command proxy.
+#[derive(Drop)]
+pub struct Tracks {
+    settings: Vec<Setting>,
+    streams: Vec<Option<Server>>,
+    commands: Vec<Server>,
+}
+
+impl Model for Tracks {
+    ghost use Rattle.std.specs.Prelude.{◌≡◌, length, is_some, All, true};
+    ghost use Rattle.af_normal.specs.Making.{TrackList};
+
+    ghost Value = { TrackList };
+
+    ghost view = { λ t. record { settings = t.settings.items; streams = t.streams.items; commands = t.commands.items } };
+
+    ghost invariant = { λ t. (length t.streams.items ≡ length t.settings.items) × (length t.commands.items ≡ length t.settings.items) × All (λ stream. is_some stream ≡ true) t.streams.items };
+}
+
+impl Tracks {
+    /// No tracks.
+    pub fn empty(alloc: Global) -> Tracks
+        ensures { result ≡ record { settings = []; streams = []; commands = [] } }
+    {
+        Tracks {
+            settings: Vec::new(alloc),
+            streams: Vec::new(alloc),
+            commands: Vec::new(alloc),
+        }
+    }
+
+    /// Adds a track behind the others. Memory is its only refusal, and leaves the lists as they were.
+    pub fn push(&mut self, track: TrackSetup) -> Result<(), Memory>
+        ensures added { IfOk result (λ _. self.new ≡ with_track track self.old) }
+        ensures same { IfErr result (λ _. self.new ≡ self.old) }
+    {
+        self.settings.reserve(1)?;
+        self.streams.reserve(1)?;
+        self.commands.reserve(1)?;
+        let TrackSetup {
+            fast,
+            mono,
+            scale,
+            stream,
+            command,
+        } = track;
+        self.settings.push_reserved(Setting { fast, mono, scale });
+        self.streams.push_reserved(Some(stream));
+        self.commands.push_reserved(command);
+        Ok(())
+    }
+}
+
+// So many records of tracks, each with room for the looks of a turn.
+fn spare_turns(alloc: Global, count: usize) -> Result<TrackTurns, Memory>
+    ensures { IfOk result (λ l. (length l.items ≡ count) × (l.room ≡ count) × HaveRoom l.items) }
+{
+    let mut turns = TrackTurns::with_room(alloc, count)?;
+    for _made in 0..count {
+        turns.push(TrackTurn {
+            looks: CommandLooks::with_room(alloc, MOST_LOOKS)?,
+            status: None,
+            disabled: false,
+        });
+    }
+    Ok(turns)
+}
+
+// So many takes, each with room for the frames of a buffer.
+fn spare_takes(alloc: Global, count: usize, asked: usize) -> Result<NormalTakes, Memory>
+    ensures { IfOk result (λ l. (length l.items ≡ count) × (l.room ≡ count) × All (HasFrames asked) l.items) }
+{
+    let mut takes = NormalTakes::with_room(alloc, count)?;
+    for _made in 0..count {
+        takes.push(NormalTake {
+            track: 0,
+            slot: SlotEntry {
+                gains: 0,
+                flush: 0,
+                rear: 0,
+                seen: Seen::Absent,
+                first: 0,
+            },
+            frames: FrameList::with_room(alloc, asked)?,
+        });
+    }
+    Ok(takes)
+}
+
+// So many sums of 0.
+fn no_sums(alloc: Global, asked: usize) -> Result<Vec<Sum>, Memory>
+    ensures { IfOk result (λ v. length v.items ≡ asked) }
+{
+    let mut sums = Vec::with_capacity(alloc, asked)?;
+    sums.resize(asked, Sum { left: 0, right: 0 })?;
+    Ok(sums)
+}
+
+// So many frames of silence.
+fn silence(alloc: Global, asked: usize) -> Result<Vec<Frame>, Memory>
+    ensures { IfOk result (λ v. length v.items ≡ asked) }
+{
+    let mut buffer = Vec::with_capacity(alloc, asked)?;
+    buffer.resize(asked, Frame { left: 0, right: 0 })?;
+    Ok(buffer)
+}
+
+impl NormalMixer {
+    /// A mixer of these tracks over its three ends, for `frames` frames a fast cycle, from 1 to 1,024, and `normal` cycles a normal buffer, from 1 to 16. No state was pushed yet.
+    ///
+    /// It reserves the hands, the sums and frames of one normal buffer, and the greatest entry of a turn. No other call takes memory. Memory is its only refusal.
+    pub fn make(
+        alloc: Global,
+        frames: u32,
+        normal: u32,
+        tracks: Tracks,
+        mutator: Mutator<Server, StreamNames>,
+        reader: ReportReader,
+        pipe: PipeIn,
+    ) -> Result<NormalMixer, Memory>
+        requires count { (1 ≤ length tracks.settings) × (length tracks.settings ≤ 32) }
+        requires scales { All (λ setting. setting.scale ≤ 4096) tracks.settings }
+        requires sizes { (1 ≤ frames) × (frames ≤ 1024) × (1 ≤ normal) × (normal ≤ 16) }
+        requires none { is_exit mutator.past.last ≡ false }
+        ensures made { IfOk result (IsMade frames normal tracks mutator reader pipe) }
+        ensures order { (links : Links) → AreNew links frames normal tracks mutator reader pipe → IfOk result (IsInOrder links) }
+    {
+        let Tracks {
+            settings,
+            streams,
+            commands,
+        } = tracks;
+        let count = settings.len();
+        let asked = (normal * frames) as usize;
+        Ok(NormalMixer {
+            frames,
+            normal,
+            settings,
+            tracks: vec![in alloc; new_track(); count]?,
+            streams,
+            commands,
+            hands: Vec::with_capacity(alloc, count)?,
+            mutator,
+            ends: (reader, pipe),
+            entry: TurnEntry::with_room(alloc, count, count)?,
+            spare_turns: spare_turns(alloc, count)?,
+            spare_takes: spare_takes(alloc, count, asked)?,
+            ended: false,
+            exits: false,
+            turns: 0,
+            sums: no_sums(alloc, asked)?,
+            buffer: silence(alloc, asked)?,
+        })
+    }
+}
