@@ -49,7 +49,7 @@ none_out zero k = refl
 none_out (suc n) zero = refl
 none_out (suc n) (suc k) = none_out n k
 
-new_sound : (n frames : ℕ) (draft : FastState) → draft ≡ initial frames → IsSound (replicate n new_track) draft
+pub new_sound : (n frames : ℕ) (draft : FastState) → draft ≡ initial frames → IsSound (replicate n new_track) draft
 new_sound n frames draft e = record {
   slotted = (λ i. subst IsSlotted (sym (at_new n i)) (record { slot = no; unopened = (λ h. refl); homely = (λ h. refl) }));
   drafted = (λ i. subst (IsDrafted draft i) (sym (at_new n i)) (record { lent = no; returning = no; own = (λ h. absurd (true≢false h)) }));

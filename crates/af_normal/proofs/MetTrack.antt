@@ -54,9 +54,9 @@ module _ (links : Links) (i : ℕ) (streams : List (Option ServerState)) (comman
     pub own_after : (hands' : List HandSide) → ((h : HandSide) → slice_get hands' i ≡ Some h → hand_made h ≡ slice_index_or links.streams.now i sb) → AreOf links i (slice_set streams i stream') (slice_set commands i command') hands'
     own_after hands' flags = record {
       command_is = (λ s e. let is : command' ≡ s = one_of command' s (sym (get_set_same commands i command' long) ∙ e) in
-      subst (IsStreamOf links.commands.now i) is (record { made = slice_get-get_or links.commands.now i cb command_within ∙ ap (λ (m : Made). Some m) (sym commands_are.1.0); in_order = commands_are.1.1 }));
+          subst (IsStreamOf links.commands.now i) is (record { made = slice_get-get_or links.commands.now i cb command_within ∙ ap (λ (m : Made). Some m) (sym commands_are.1.0); in_order = commands_are.1.1 }));
       stream_is = (λ s e. let of : IsServerOf (slice_index_or links.streams.now i sb) s = stream_is s (sym (get_or-set_same streams i stream' None wide) ∙ e) in
-      record { made = slice_get-get_or links.streams.now i sb stream_within ∙ ap (λ (m : Made). Some m) (sym of.0); in_order = of.1 });
+          record { made = slice_get-get_or links.streams.now i sb stream_within ∙ ap (λ (m : Made). Some m) (sym of.0); in_order = of.1 });
       flag_is = (λ h e. slice_get-get_or links.streams.now i sb stream_within ∙ ap (λ (m : Made). Some m) (sym (flags h e)));
     }
 

@@ -147,7 +147,7 @@ tied_learnt links report room x y tied l = subst (IsTied links) (sym l.same) (re
 -- ## The mutation
 
 -- a draft with another command carries the same tracks
-sound_ordered : (tracks : List TrackKept) (draft : FastState) (command : Command) → IsSound tracks draft → IsSound tracks (with_command command draft)
+pub sound_ordered : (tracks : List TrackKept) (draft : FastState) (command : Command) → IsSound tracks draft → IsSound tracks (with_command command draft)
 sound_ordered tracks draft command h = record {
   slotted = h.slotted;
   drafted = (λ i. record { lent = (h.drafted i).lent; returning = (h.drafted i).returning; own = (h.drafted i).own });
