@@ -1,5 +1,5 @@
 -- A mixer whose ends or proxies met others is in order.
-use Rattle.std.proofs.Common.{◌≡◌, ◌≢◌, ℕ, zero, suc, ◌<◌, ◌≤◌, ◌⊎◌, inl, inr, true, true≢false, is_some, sym, refl, ap, subst, ◌∙◌, List, [], length, length-set, slice_get, Option, Some, None, ⊎_elim, get_or-set_other, arith}
+use Rattle.std.proofs.Common.{◌≡◌, ◌≢◌, ℕ, zero, suc, ◌<◌, ◌⊎◌, inl, inr, true, true≢false, is_some, sym, refl, ap, subst, ◌∙◌, List, length, length-set, slice_get, Option, Some, None, ⊎_elim, get_or-set_other, arith}
 use Rattle.std.proofs.lemmas.Bool.{cases_eq}
 use Rattle.std.proofs.lemmas.List.{nil_from_length}
 use Rattle.af_cblk.specs.Sides.{HandSide, Made, client_made, hand_made}

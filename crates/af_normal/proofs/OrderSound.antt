@@ -1,5 +1,5 @@
 -- A turn of the plain mixer keeps what holds of its slots and its draft, whatever it saw.
-use Rattle.std.proofs.Common.{◌≡◌, ℕ, zero, suc, ◌<◌, ◌≤◌, ◌&&◌, Bool, true, false, if◌then◌else◌, true≢false, sym, refl, ap, subst, ◌∙◌, List, [], ◌∷◌, length, map, replicate, All, arith}
+use Rattle.std.proofs.Common.{◌≡◌, ℕ, zero, suc, ◌≤◌, ◌&&◌, Bool, true, false, if◌then◌else◌, true≢false, sym, refl, ap, subst, ◌∙◌, List, [], ◌∷◌, length, map, All, arith}
 use Rattle.af_base.specs.declared.state.Command.{Command}
 use Rattle.af_base.specs.declared.state.FastState.{FastState}
 use Rattle.af_base.specs.declared.state.Push.{Push}
@@ -10,7 +10,7 @@ use Rattle.af_life.specs.declared.kept.Setting.{Setting}
 use Rattle.af_life.specs.declared.kept.TrackKept.{TrackKept}
 use Rattle.af_life.specs.Kept.{Setup, asked, NormalKept, Learnt, track_at, new_normal, is_home, is_returning}
 use Rattle.af_life.specs.Obeys.{holds}
-use Rattle.af_life.specs.Edits.{comes_home, welcomed, after_ack, must_leave, must_enter, let_go, lend, edited, edited_to, next_command, ordered, commanded_by, mutated, after_push}
+use Rattle.af_life.specs.Edits.{comes_home, welcomed, after_ack, must_leave, must_enter, let_go, lend, edited, edited_to, ordered, mutated, after_push}
 use Rattle.af_life.specs.Plays.{after_takes}
 use Rattle.af_life.specs.Sound.{IsSlotted, IsDrafted, IsSound}
 use Rattle.af_life.specs.Turn.{after_tracks, after_edits, turn_after}
