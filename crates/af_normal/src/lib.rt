@@ -20,3 +20,6 @@ mod turn;
 pub use make::{TrackSetup, Tracks};
 pub use mixer::NormalMixer;
 pub use turn::Turn;
+
+#[cfg(test)]
+mod tests;
