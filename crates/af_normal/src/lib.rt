@@ -22,4 +22,6 @@ pub use mixer::NormalMixer;
 pub use turn::Turn;
 
 #[cfg(test)]
+mod random_tests;
+#[cfg(test)]
 mod tests;

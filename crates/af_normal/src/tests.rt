@@ -1,11 +1,11 @@
 //! The mixer by calls on real blocks, a queue and a pipe, with lists in place of a session: a table of steps, with what each of them tells. What the fast mixer reports is told by the table.
 use crate::{NormalMixer, TrackSetup, Tracks, Turn};
 use af_base::{
-    FastTrack, Frame, Memory, Push, Report, SLOTS, Seen, SlotReport, Steps, TurnEntry,
+    FastTrack, Frame, Memory, Push, Report, SLOTS, SlotReport, Steps, TurnEntry,
 };
 use af_cblk::Block;
 use af_client::{Client, Sent};
-use af_life::{FLUSH, OPEN, PAUSE, REMOVE, START, STOP};
+use af_life::{OPEN, PAUSE, REMOVE, START, STOP};
 use af_link::{
     Links, PipeOut, ReportCell, ReportWriter, StreamNames, first_report, no_slot, pipe, report,
     stream_names,
@@ -343,7 +343,7 @@ struct Lines {
     tracks: Tracks,
 }
 
-fn lines(alloc: Global, kinds: &[Kind]) -> Result<Lines, Memory> {
+fn make_lines(alloc: Global, kinds: &[Kind]) -> Result<Lines, Memory> {
     let mut streams = Vec::new(alloc);
     let mut commands = Vec::new(alloc);
     let mut clients = Vec::new(alloc);
@@ -380,7 +380,7 @@ pub(crate) fn begin(
     frames: u32,
     normal: u32,
 ) -> Result<(Shared, World), Memory> {
-    let lines = lines(alloc, kinds)?;
+    let lines = make_lines(alloc, kinds)?;
     let names = stream_names(&lines.streams);
     let (queue, mutator, observer) = queue::<Server, StreamNames>(alloc, frames, names)?;
     let (block, from, to) = pipe(alloc, 4 * frames * normal)?;
@@ -460,18 +460,34 @@ fn done(step: Step) -> Row {
     (step, Told::Done)
 }
 
-// A turn that puts no buffer, and stores this status.
-fn turns(track: usize, pushed: Push, status: Option<u32>) -> Row {
-    let turn = Turn::Turned {
-        mixed: false,
-        pushed,
-    };
+// A turn, and what it stores of a track.
+fn turned_to(track: usize, mixed: bool, pushed: Push, status: Option<u32>) -> Row {
     let told = Told::Turned {
-        turn,
+        turn: Turn::Turned { mixed, pushed },
         status,
         disabled: false,
     };
     (Step::Turn { track }, told)
+}
+
+// A turn that puts no buffer.
+fn turns(track: usize, pushed: Push, status: Option<u32>) -> Row {
+    turned_to(track, false, pushed, status)
+}
+
+// A turn that puts a buffer.
+fn mixes(track: usize, pushed: Push, status: Option<u32>) -> Row {
+    turned_to(track, true, pushed, status)
+}
+
+// The mixer has ended.
+fn ends() -> Row {
+    let told = Told::Turned {
+        turn: Turn::Ended,
+        status: None,
+        disabled: false,
+    };
+    (Step::Turn { track: 0 }, told)
 }
 
 // The fast mixer polls this state.
@@ -480,18 +496,76 @@ fn polls(number: u64) -> Row {
     (Step::Poll, Told::Polled { poll })
 }
 
-// The fast mixer reports of slot 1: the frames consumed, and the counts of full and of empty looks.
-fn reports(generation: u32, consumed: u64, fulls: u32, empties: u32) -> Row {
+// The fast mixer has this of a slot.
+fn has_slot(slot: usize, carried: bool, track: u32, generation: u32) -> Row {
+    let told = Told::Slot {
+        carried,
+        track,
+        generation,
+    };
+    (Step::Slot { slot }, told)
+}
+
+// The fast mixer reports of slot 1: the frames consumed, the flushes seen, and the counts of full and of empty looks.
+fn reports(generation: u32, consumed: u64, flush_seen: u32, looks: [u32; 2]) -> Row {
     let mut report = no_slot();
     report.generation = generation;
     report.consumed = consumed;
-    report.fulls = fulls;
-    report.empties = empties;
+    report.flush_seen = flush_seen;
+    [report.fulls, report.empties] = looks;
     done(Step::Report { slot: 1, report })
+}
+
+fn writes(track: usize, count: usize) -> Row {
+    done(Step::Write { track, count })
+}
+
+fn flushes() -> Row {
+    done(Step::Flush { track: 0 })
+}
+
+fn clears(word: u32) -> Row {
+    (Step::Clear { track: 0 }, Told::Word { word })
+}
+
+fn status_is(word: u32) -> Row {
+    (Step::Status { track: 0 }, Told::Word { word })
 }
 
 fn pushed(number: u64) -> Push {
     Push::Pushed { number }
+}
+
+// Four frames are heard, of which these are the samples of either side.
+fn hears(samples: [i16; 4]) -> Row {
+    let told = Told::Heard {
+        count: 4,
+        frames: samples.map(|side| Frame {
+            left: side,
+            right: side,
+        }),
+    };
+    (Step::Hear, told)
+}
+
+#[test]
+fn a_start_waits_until_its_flush_was_seen(rt: HostRuntime) {
+    let rows = [
+        sends(0, OPEN, 0),
+        writes(0, 3),
+        flushes(),
+        writes(0, 2),
+        flushes(),
+        sends(0, START, 2),
+        sends(0, PAUSE, 0),
+        turns(0, pushed(1), Some(258)),
+        polls(1),
+        reports(1, 3, 1, [0, 0]),
+        turns(0, Push::Clean, None),
+        reports(1, 5, 2, [0, 0]),
+        turns(0, Push::Clean, Some(772)),
+    ];
+    assert!(rt; plays(rt.alloc(), &[FAST], 2, 1, &rows) == Ok(true));
 }
 
 #[test]
@@ -501,15 +575,231 @@ fn a_stop_is_drained_once_all_was_mixed(rt: HostRuntime) {
         sends(0, START, 0),
         turns(0, pushed(1), Some(514)),
         polls(1),
-        reports(1, 0, 0, 1),
-        done(Step::Write { track: 0, count: 4 }),
+        reports(1, 0, 0, [0, 1]),
+        writes(0, 4),
         sends(0, STOP, 4),
         turns(0, Push::Clean, Some(774)),
-        reports(1, 2, 1, 1),
+        reports(1, 2, 0, [1, 1]),
         turns(0, Push::Clean, None),
-        reports(1, 4, 2, 1),
+        reports(1, 4, 0, [2, 1]),
         turns(0, Push::Clean, Some(791)),
         turns(0, pushed(2), Some(792)),
     ];
     assert!(rt; plays(rt.alloc(), &[FAST], 2, 1, &rows) == Ok(true));
+}
+
+// An Exit is pushed once the removed track's proxy is home, and the mixer ends once that is acknowledged.
+#[test]
+fn an_exit_waits_for_the_proxy(rt: HostRuntime) {
+    let rows = [
+        sends(0, OPEN, 0),
+        sends(0, START, 0),
+        turns(0, pushed(1), Some(514)),
+        polls(1),
+        has_slot(1, true, 0, 1),
+        reports(1, 0, 0, [0, 1]),
+        sends(0, STOP, 0),
+        turns(0, Push::Clean, Some(791)),
+        turns(0, pushed(2), Some(792)),
+        status_is(792),
+        sends(0, REMOVE, 0),
+        turns(0, Push::Clean, Some(1048)),
+        polls(2),
+        has_slot(1, false, 0, 1),
+        turns(0, pushed(3), None),
+        turns(0, Push::Clean, None),
+        polls(3),
+        ends(),
+        ends(),
+    ];
+    assert!(rt; plays(rt.alloc(), &[FAST], 2, 1, &rows) == Ok(true));
+}
+
+// The second track opens before the detach of the first one is acknowledged, and the third after it.
+#[test]
+fn a_slot_is_free_once_its_proxy_is_home(rt: HostRuntime) {
+    let busy = |seen, expected| Push::Busy { seen, expected };
+    let rows = [
+        sends(0, OPEN, 0),
+        sends(0, START, 0),
+        turns(0, pushed(1), Some(514)),
+        polls(1),
+        sends(0, REMOVE, 0),
+        turns(0, pushed(2), Some(770)),
+        sends(1, OPEN, 0),
+        sends(1, START, 0),
+        turns(1, busy(1, 2), Some(514)),
+        polls(2),
+        turns(1, pushed(3), None),
+        sends(2, OPEN, 0),
+        sends(2, START, 0),
+        turns(2, busy(2, 3), Some(514)),
+        polls(3),
+        has_slot(1, false, 0, 1),
+        has_slot(2, true, 1, 1),
+        turns(2, pushed(4), None),
+        polls(4),
+        has_slot(1, true, 2, 2),
+    ];
+    assert!(rt; plays(rt.alloc(), &[FAST; 3], 1, 1, &rows) == Ok(true));
+}
+
+#[test]
+fn a_pause_sends_the_proxy_home_and_a_start_out_again(rt: HostRuntime) {
+    let rows = [
+        sends(0, OPEN, 0),
+        sends(0, START, 0),
+        turns(0, pushed(1), Some(514)),
+        writes(0, 4),
+        sends(0, PAUSE, 0),
+        turns(0, Push::Clean, Some(772)),
+        polls(1),
+        reports(1, 2, 0, [1, 0]),
+        turns(0, pushed(2), None),
+        polls(2),
+        reports(1, 2, 0, [1, 0]),
+        sends(0, START, 0),
+        turns(0, pushed(3), Some(1026)),
+        polls(3),
+        has_slot(1, true, 0, 2),
+    ];
+    assert!(rt; plays(rt.alloc(), &[FAST], 2, 1, &rows) == Ok(true));
+}
+
+// What is told of a track that underran for the fiftieth time in a row.
+fn disabled() -> Told {
+    let turn = Turn::Turned {
+        mixed: false,
+        pushed: pushed(2),
+    };
+    Told::Turned {
+        turn,
+        status: None,
+        disabled: true,
+    }
+}
+
+#[test]
+fn fifty_underruns_disable_once(rt: HostRuntime) {
+    let mut rows = vec![in rt.alloc(); sends(0, OPEN, 0), sends(0, START, 0), turns(0, pushed(1), Some(514)), polls(1)]
+        .unwrap();
+    for empties in 1..50 {
+        rows.push(reports(1, 0, 0, [0, empties])).unwrap();
+        rows.push(turns(0, Push::Clean, None)).unwrap();
+    }
+    let last = [
+        reports(1, 0, 0, [0, 50]),
+        (Step::Turn { track: 0 }, disabled()),
+        reports(1, 0, 0, [0, 51]),
+        turns(0, Push::Clean, None),
+        clears(8),
+        polls(2),
+        sends(0, START, 0),
+        turns(0, pushed(3), Some(770)),
+    ];
+    for row in last {
+        rows.push(row).unwrap();
+    }
+    assert!(rt; plays(rt.alloc(), &[FAST], 1, 1, &rows) == Ok(true));
+}
+
+// A normal track is mixed by whole buffers, each where the pipe has room for it.
+#[test]
+fn a_normal_track_is_mixed_here(rt: HostRuntime) {
+    let normal = Kind {
+        fast: false,
+        mono: true,
+        ..FAST
+    };
+    let rows = [
+        sends(0, OPEN, 0),
+        sends(0, START, 0),
+        mixes(0, pushed(1), Some(514)),
+        clears(1),
+        writes(0, 5),
+        mixes(0, Push::Clean, None),
+        hears([0, 0, 0, 0]),
+        hears([1, 2, 3, 4]),
+        mixes(0, Push::Clean, None),
+        hears([5, 0, 0, 0]),
+    ];
+    assert!(rt; plays(rt.alloc(), &[normal], 2, 2, &rows) == Ok(true));
+    let (none, some) = (turns(0, Push::Clean, None), mixes(0, Push::Clean, None));
+    let rows = [
+        sends(0, OPEN, 0),
+        sends(0, START, 0),
+        mixes(0, pushed(1), Some(514)),
+        some,
+        some,
+        some,
+        none,
+        hears([0; 4]),
+        none,
+        hears([0; 4]),
+        some,
+        none,
+    ];
+    assert!(rt; plays(rt.alloc(), &[normal], 3, 2, &rows) == Ok(true));
+}
+
+// A block that was shut ends its track: a normal track's stream, by the look of the mix before, and a command block.
+#[test]
+fn a_shut_block_ends_its_track(rt: HostRuntime) {
+    let normal = Kind {
+        fast: false,
+        ..FAST
+    };
+    let poke = |command| {
+        done(Step::Poke {
+            track: 0,
+            command,
+            rear: 1000,
+        })
+    };
+    let rows = [
+        sends(0, OPEN, 0),
+        sends(0, START, 0),
+        mixes(0, pushed(1), Some(514)),
+        poke(false),
+        mixes(0, Push::Clean, None),
+        turns(0, Push::Clean, Some(527)),
+        clears(5),
+        turns(0, Push::Clean, None),
+        hears([0; 4]),
+        hears([0; 4]),
+        polls(1),
+        turns(0, pushed(2), None),
+    ];
+    assert!(rt; plays(rt.alloc(), &[normal], 2, 2, &rows) == Ok(true));
+    let rows = [
+        sends(0, OPEN, 0),
+        turns(0, Push::Clean, Some(257)),
+        poke(true),
+        turns(0, pushed(1), Some(271)),
+        clears(4),
+        polls(1),
+        ends(),
+    ];
+    assert!(rt; plays(rt.alloc(), &[FAST], 2, 2, &rows) == Ok(true));
+}
+
+// All slots are taken, so the last fast track is mixed here.
+#[test]
+fn a_fast_track_without_a_slot_is_mixed_here(rt: HostRuntime) {
+    let mut rows = Vec::new(rt.alloc());
+    for track in 0..32 {
+        rows.push(sends(track, OPEN, 0)).unwrap();
+        rows.push(sends(track, START, 0)).unwrap();
+    }
+    let last = [
+        writes(31, 5),
+        mixes(31, pushed(1), Some(514)),
+        polls(1),
+        has_slot(31, true, 30, 1),
+        hears([1, 2, 3, 4]),
+    ];
+    for row in last {
+        rows.push(row).unwrap();
+    }
+    assert!(rt; plays(rt.alloc(), &[FAST; 32], 4, 1, &rows) == Ok(true));
 }
