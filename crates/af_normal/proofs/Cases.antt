@@ -1,5 +1,6 @@
 -- Cases of what a test or an option decides.
-use Rattle.std.proofs.Common.{◌≡◌, ◌≢◌, ◌==◌, length, true≢false, ℕ, suc, zero, Bool, true, false, MatchBool, Option, Some, None, MatchOption, List, [], ◌∷◌, slice_get, slice_set, refl, ap, sym, subst}
+use Rattle.std.proofs.Common.{◌≡◌, ◌≢◌, ◌==◌, length, true≢false, ℕ, suc, zero, Bool, true, false, MatchBool, Option, Some, None, MatchOption, List, [], ◌∷◌, slice_get, slice_set, refl, ap, sym, ◌∙◌, ◌≤◌, subst, arith}
+use Rattle.std.proofs.lemmas.Bool.{eqb-true, eq-eqb}
 
 pub by_test : (b : Bool) (P Q R : Type 0) → (P → R) → (Q → R) → MatchBool b P Q → R
 by_test true P Q R f g m = f m
@@ -29,4 +30,8 @@ where_true false P R Q f m = m
 
 pub none_of_zero : {A : Type 0} (xs : List A) → (length xs == 0) ≡ true → xs ≡ []
 none_of_zero [] e = refl
-none_of_zero (x ∷ xs) e = absurd (true≢false (sym e))
+none_of_zero (x ∷ xs) e = absurd (omega (arith, eqb-true (length (x ∷ xs)) 0 e))
+
+pub some_of_other : {A : Type 0} (xs : List A) → (length xs == 0) ≡ false → 1 ≤ length xs
+some_of_other [] e = absurd (true≢false (sym (eq-eqb 0 0 refl) ∙ e))
+some_of_other (x ∷ xs) e = omega arith

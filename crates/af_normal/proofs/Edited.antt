@@ -1,5 +1,8 @@
 -- What the edit of one track leaves.
-use Rattle.std.proofs.Common.{◌≡◌, ℕ, zero, suc, List, Option, length, refl, sym, ap, ◌∙◌, length-set}
+use Rattle.std.proofs.Common.{Bool, true, false, if◌then◌else◌, ◌==◌, ◌≡◌, ℕ, zero, suc, List, Option, length, refl, sym, ap, ◌∙◌, length-set}
+use Rattle.af_base.specs.declared.state.Command.{Command}
+use Rattle.af_base.specs.Command.{code_of}
+use Rattle.af_model.specs.Draft.{commanded as with_command}
 use Rattle.af_server.specs.Order.{ServerState}
 use Rattle.af_stateq.specs.Mutates.{Mutates}
 use Rattle.af_link.specs.declared.names.StreamNames.{StreamNames}
@@ -38,6 +41,25 @@ edits_only (suc n) x y e = edit_only n e.0 y e.2 ∙ ap (λ (z : NormalState). r
 pub all_only : (room : ℕ) (x y : NormalState) → EditsAll room x y → OnlyEdits x y
 all_only room x y e =
     let inner : OnlyEdits (record x { mutator = begun x.mutator }) e.edited = edits_only (length x.tracks) (record x { mutator = begun x.mutator }) e.edited e.tracks in
-    let then : y ≡ record x { tracks = e.edited.tracks; streams = e.edited.streams; mutator = finished (commands (due_command room e.edited) e.edited.mutator) } =
+    let after : y ≡ record x { tracks = e.edited.tracks; streams = e.edited.streams; mutator = finished (commands (due_command room e.edited) e.edited.mutator) } =
     e.leaves ∙ ap (λ (z : NormalState). record z { mutator = finished (commands (due_command room e.edited) e.edited.mutator) }) inner in
-    then ∙ sym (ap (λ (z : NormalState). record x { tracks = z.tracks; streams = z.streams; mutator = z.mutator }) then)
+    after ∙ sym (ap (λ (z : NormalState). record x { tracks = z.tracks; streams = z.streams; mutator = z.mutator }) after)
+
+-- no change to cold idle is counted
+pub edit_colds : (i : ℕ) (x y : NormalState) → EditsTrack i x y → y.mutator.draft.cold_gen ≡ x.mutator.draft.cold_gen
+edit_colds i x y e = by_test (must_leave (track_at x.tracks i)) (LetsGo i x y) _ (y.mutator.draft.cold_gen ≡ x.mutator.draft.cold_gen)
+    (λ l. ap (λ (z : NormalState). z.mutator.draft.cold_gen) l)
+    (λ m. by_test (must_enter (track_at x.tracks i)) (Lends i x y) (y ≡ x) (y.mutator.draft.cold_gen ≡ x.mutator.draft.cold_gen)
+    (λ l. ap (λ (z : NormalState). z.mutator.draft.cold_gen) l.2) (λ l. ap (λ (z : NormalState). z.mutator.draft.cold_gen) l) m) e
+
+pub edits_colds : (n : ℕ) (x y : NormalState) → EditsTo n x y → y.mutator.draft.cold_gen ≡ x.mutator.draft.cold_gen
+edits_colds zero x y e = ap (λ (z : NormalState). z.mutator.draft.cold_gen) e
+edits_colds (suc n) x y e = edit_colds n e.0 y e.2 ∙ edits_colds n x e.0 e.1
+
+-- a command goes on with the mutation
+pub commands_editing : (command : Command) (m : Mutates ServerState StreamNames) → (commands command m).editing ≡ m.editing
+commands_editing command m = by_code (code_of command == code_of m.draft.command)
+  where
+    by_code : (b : Bool) → (if b then m else record m { draft = with_command command m.draft; edited = true }).editing ≡ m.editing
+    by_code true = refl
+    by_code false = refl

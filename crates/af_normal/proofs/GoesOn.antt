@@ -1,6 +1,5 @@
 -- What each step of a turn that goes on asks for, by the steps before it.
-use Rattle.std.proofs.Common.{⊥, ◌≡◌, ℕ, zero, suc, ◌∷◌, None, ◌+◌, ◌*◌, ◌^◌, ◌<◌, ◌≤◌, All, false, List, [], length, Option, Some, refl, sym, ap, subst, ◌∙◌, arith}
-use Rattle.std.proofs.lemmas.Nat.{mul-le-mul_left}
+use Rattle.std.proofs.Common.{◌≡◌, ℕ, zero, suc, ◌∷◌, None, ◌+◌, ◌*◌, ◌^◌, ◌<◌, ◌≤◌, All, false, List, [], length, Option, Some, refl, sym, ap, subst, ◌∙◌, arith}
 use Rattle.af_base.specs.declared.report.Report.{Report}
 use Rattle.af_base.specs.declared.state.Push.{Push}
 use Rattle.af_cblk.specs.Sides.{Made}

@@ -1,5 +1,5 @@
 -- What a turn does before it looks at the acknowledgement changes neither what is kept nor a list.
-use Rattle.std.proofs.Common.{◌≡◌, ℕ, zero, suc, ◌+◌, ◌<◌, ◌≤◌, ◌==◌, Bool, true, false, true≢false, MatchBool, sym, refl, ap, subst, ◌∙◌, List, [], ◌∷◌, ◌++◌, length, Option, Some, None, arith}
+use Rattle.std.proofs.Common.{◌≡◌, ℕ, zero, suc, ◌+◌, ◌<◌, ◌≤◌, ◌==◌, ◌&&◌, Bool, true, false, if◌then◌else◌, true≢false, MatchBool, sym, refl, ap, subst, ◌∙◌, List, [], ◌∷◌, ◌++◌, length, Option, Some, None, arith}
 use Rattle.std.specs.Prelude.{slice_get, slice_set, map, ◌⊎◌}
 use Rattle.af_base.specs.declared.event.ClientEvent.TheVariants as client
 use Rattle.af_base.specs.declared.event.HandEvent.{HandEvent}
@@ -13,11 +13,11 @@ use Rattle.af_server.specs.Order.{ServerState}
 use Rattle.af_server.specs.Slot.{listed}
 use Rattle.af_link.specs.declared.links.Links.{Links}
 use Rattle.af_life.specs.Heard.{learnt}
-use Rattle.af_life.specs.Kept.{Setup, pipe_size, NormalKept, Outside}
+use Rattle.af_life.specs.Kept.{Setup, pipe_size, NormalKept, Outside, track_at, slot_number, is_returning}
 use Rattle.af_life.specs.Plays.{put_by}
 use Rattle.af_life.specs.TurnEvents.{going, hand_list, mutator_list}
 use Rattle.af_life.specs.Turn.{turn_after, LegalTurn}
-use Rattle.af_normal.specs.LegalTurned.{hand_events, Grows, IsLegal}
+use Rattle.af_normal.specs.LegalTurned.{hand_events, in_hand, Grows, IsLegal}
 use Rattle.af_normal.specs.Mixing.{stream_at}
 use Rattle.af_normal.specs.State.{NormalState, setup_of, kept_of}
 use Rattle.af_normal.specs.TurnMade.{Stops, TurnsBy}
@@ -97,6 +97,11 @@ begun_by x b y begins has = by_hands (length b.hands == 0) refl has
     }
 
 module _ (x y z : NormalState) (o : Outside) (b : BegunBy x y) where
+  -- what was in hand, and what was home, is as it was
+  same_home : (d : Bool) (i k : ℕ) (back : List (Option ServerState)) → listed_at (if d then in_hand back y.mutator.returned k else stream_at y.streams i) ≡ listed_at (if d then in_hand back x.mutator.returned k else stream_at x.streams i)
+  same_home true i k back = ap (λ (w : NormalState). listed_at (in_hand back w.mutator.returned k)) b.same
+  same_home false i k back = b.lists i
+
   begun_grows : (c : Setup) (m : NormalKept) (e : Turn) → Grows c m o e y z → Grows c m o e x z
   begun_grows c m e g = record {
     commands = (λ i s is. g.commands i s (ap (λ (w : NormalState). slice_get w.commands i) b.same ∙ is));
@@ -109,7 +114,12 @@ module _ (x y z : NormalState) (o : Outside) (b : BegunBy x y) where
       subst (λ (w : NormalState). (e.room ≡ room_by (pipe_size c) (length w.pipe.pass.part.frames) g.pipe.0) ⊎ (e.ended ≡ true)) b.same g.pipe.2,
       g.pipe.3 ∙ ap (λ (w : NormalState). w.pipe.pass.part.frames ++ map packed_word (put_by c e.mixes)) b.same,
     );
-    mutator = (g.mutator.0, g.mutator.1, g.mutator.2, g.mutator.3 ∙ ap (λ (w : NormalState). w.mutator.past.events ++ mutator_list c (learnt o) m e g.mutator.0 g.mutator.1 g.mutator.2) b.same);
+    back = g.back;
+    again = g.again;
+    sent = g.sent;
+    mutator = g.mutator ∙ ap (λ (w : NormalState). w.mutator.past.events ++ mutator_list c (learnt o) m e g.back g.again g.sent) b.same;
+    home = (λ f i. g.home f i ∙ same_home (e.ack && is_returning (track_at m.tracks i).holder) i (slot_number (track_at m.tracks i)) g.back);
+    lent = g.lent;
   }
 
   -- so a turn that is legal from there on is legal from the beginning

@@ -1,6 +1,7 @@
 -- The lists of the report's reader, of the pipe and of the mutator grow by what the entry of a turn says, and all is joined.
-use Rattle.std.proofs.Common.{◌≡◌, ◌≢◌, ℕ, zero, suc, ◌+◌, ◌-◌, ◌<◌, ◌≤◌, ◌==◌, ◌&&◌, Bool, true, false, if◌then◌else◌, true≢false, inl, inr, sym, refl, ap, subst, ◌∙◌, List, [], ◌∷◌, ◌++◌, append_assoc, append-nil, length, map, Option, Some, None, eq-eqb, ne_eqb, arith}
+use Rattle.std.proofs.Common.{◌≡◌, ◌≢◌, ℕ, zero, suc, ◌+◌, ◌-◌, ◌<◌, ◌≤◌, ◌*◌, ◌==◌, ◌&&◌, not, Bool, true, false, if◌then◌else◌, true≢false, is_some, inl, inr, sym, refl, ap, subst, ◌∙◌, List, [], ◌∷◌, ◌++◌, append_assoc, append-nil, length, map, Option, Some, None, eq-eqb, ne_eqb, arith}
 use Rattle.std.specs.Prelude.{slice_get}
+use Rattle.std.specs.List.{flat_map}
 use Rattle.af_base.specs.declared.event.ClientEvent.{ClientEvent}
 use Rattle.af_base.specs.declared.event.ClientEvent.TheVariants as client
 use Rattle.af_base.specs.declared.report.Report.{Report}
@@ -8,7 +9,12 @@ use Rattle.af_base.specs.declared.state.Push.{Push}
 use Rattle.af_base.specs.declared.state.Push.TheVariants.{Pushed, Clean, Busy}
 use Rattle.af_base.specs.declared.frame.Frame.{Frame}
 use Rattle.af_base.specs.Sample.{packed_word}
-use Rattle.af_base.specs.Turn.{Turn, turn_of}
+use Rattle.af_base.specs.declared.event.ServerEvent.{ServerEvent}
+use Rattle.af_base.specs.Command.{code_of}
+use Rattle.af_base.specs.Log.{slots}
+use Rattle.af_base.specs.Turn.{Turn, TakeSeen, turn_of}
+use Rattle.af_model.specs.Cycles.{cycle_events}
+use Rattle.af_model.specs.Draft.{commanded as with_command}
 use Rattle.af_cblk.specs.declared.view.ClientPart.{ClientPart}
 use Rattle.af_cblk.specs.Sides.{Made}
 use Rattle.af_model.specs.PipeHistory.{room_by, releases_of}
@@ -18,28 +24,35 @@ use Rattle.af_model.specs.declared.states.MutatorEvent.{MutatorEvent}
 use Rattle.af_model.specs.declared.states.MutatorEvent.TheVariants as mutator
 use Rattle.af_server.specs.Order.{ServerState}
 use Rattle.af_server.specs.Slot.{listed}
-use Rattle.af_stateq.specs.Answers.{WasPushed, SeesIt, shows}
+use Rattle.af_stateq.specs.Answers.{WasAcked, WasPushed, SeesIt, shows}
 use Rattle.af_stateq.specs.Ends.{Pushes as Past, saw}
-use Rattle.af_stateq.specs.Mutates.{Mutates}
+use Rattle.af_stateq.specs.Mutates.{Mutates, at}
 use Rattle.af_link.specs.PipeEnds.{InSide}
 use Rattle.af_link.specs.declared.links.Links.{Links}
 use Rattle.af_link.specs.declared.names.StreamNames.{StreamNames}
-use Rattle.af_life.specs.Kept.{Setup, pipe_size, NormalKept, Learnt}
+use Rattle.af_life.specs.Kept.{Setup, asked, pipe_size, NormalKept, Learnt, track_at, slot_number, is_home, nothing_heard}
+use Rattle.af_life.specs.declared.kept.TrackKept.{TrackKept}
+use Rattle.af_life.specs.Serves.{served_to}
+use Rattle.af_life.specs.Small.{most_tracks}
 use Rattle.af_life.specs.Heard.{learnt}
 use Rattle.af_life.specs.Plays.{put_by}
-use Rattle.af_life.specs.Edits.{is_exit}
+use Rattle.af_life.specs.Edits.{is_exit, must_enter}
 use Rattle.af_life.specs.Turn.{after_edits}
-use Rattle.af_life.specs.TurnEvents.{number_seen, push_list, mutator_list}
-use Rattle.af_normal.specs.LegalTurned.{Grows, IsLegal}
+use Rattle.af_life.specs.TurnEvents.{tracks_at, takes_from, stream_list, number_seen, push_list, mutator_list}
+use Rattle.af_normal.specs.LegalTurned.{in_queue, home_stream, served_tracks, GoesOnFrom, Grows, IsLegal}
 use Rattle.af_normal.specs.Mixing.{stream_at}
-use Rattle.af_normal.specs.Mutating.{Pushes}
+use Rattle.af_normal.specs.Mutating.{Pushes, begun, finished, due_command}
+use Rattle.af_normal.specs.Order.{IsTied}
 use Rattle.af_normal.specs.State.{NormalState, setup_of, kept_of}
 use Rattle.af_normal.specs.TurnMade.{mixing_of}
 use Rattle.af_normal.specs.Turning.{listed_at}
-use Rattle.af_normal.proofs.LegalGrows.{commands_grow, hands_grow, streams_grow, commands_l, home_same, y_same, q_same}
-use Rattle.af_normal.proofs.LegalMade.{IsMade, going_l, mix, told, tells, outside, c, k, setup_of_p, setup_of_l, p_same, z_same, kept_z, turn_legal, turn_kept}
-use Rattle.af_normal.proofs.OrderStages.{acked_list}
-use Rattle.af_normal.proofs.OrderTurn.{edited_mutated, served_mutator}
+use Rattle.af_normal.proofs.LegalGrows.{Invalid, served_grow, commands_grow, hands_grow, streams_grow, commands_l, home_same, y_same, q_same}
+use Rattle.af_normal.proofs.LegalMade.{IsMade, going_l, done, mix, told, tells, outside, c, k, turns, p_tied, setup_of_p, setup_of_l, p_same, z_same, kept_l, kept_z, turn_legal, turn_kept}
+use Rattle.af_normal.proofs.OrderStages.{Added, acked_list}
+use Rattle.af_normal.proofs.OrderTurn.{edited_mutated, served_mutator, served_tied, served_open}
+use Rattle.af_normal.proofs.LegalLent.{Lent, all_lent}
+use Rattle.af_normal.proofs.OrderEdits.{comer_inside, comer_home}
+use Rattle.af_normal.proofs.OrderSlots.{slot_of_away}
 
 -- ## The push
 
@@ -51,7 +64,7 @@ module _ (push : Push) (x y : NormalState) (w : Pushes push x y) where
   Items = List (Option ServerState)
 
   abbrev Grew : Push → Type 0
-  Grew p = (again : Items) × (sent : Items) × (y.mutator.past.events ≡ x.mutator.past.events ++ push_list (kept_of x) p again sent)
+  Grew p = (again : Items) × (sent : Items) × (y.mutator.past.events ≡ x.mutator.past.events ++ push_list (kept_of x) p again sent) × (in_queue p sent y.mutator.pending ≡ x.mutator.pending)
 
   shown : (number n : ℕ) → number ≡ x.mutator.past.number + 1 → x.mutator.past.number ≡ n
       → (x.mutator.past.number ≡ 0 → (y.mutator ≡ shows x.mutator) × (w.after ≡ w.before + 1))
@@ -63,6 +76,7 @@ module _ (push : Push) (x y : NormalState) (w : Pushes push x y) where
     ap (λ (m : Mutates ServerState StreamNames). m.past.events) (begins first).0
         ∙ ap (λ (n : ℕ). x.mutator.past.events ++ mutator.Push n x.mutator.draft x.mutator.pending ∷ []) (sym is)
         ∙ ap (λ (b : Bool). x.mutator.past.events ++ ((if b then [] else mutator.SawAck x.mutator.past.number [] ∷ []) ++ mutator.Push number x.mutator.draft x.mutator.pending ∷ [])) (sym (eq-eqb x.mutator.past.number 0 first)),
+    refl,
   )
   shown number (suc n) is more begins later = let l = later (omega arith) in (
     l.1.0,
@@ -72,15 +86,17 @@ module _ (push : Push) (x y : NormalState) (w : Pushes push x y) where
         ∙ append_assoc x.mutator.past.events (mutator.SawAck x.mutator.past.number l.1.0 ∷ []) (mutator.Push (x.mutator.past.number + 1) x.mutator.draft x.mutator.pending ∷ [])
         ∙ ap (λ (m : ℕ). x.mutator.past.events ++ (mutator.SawAck x.mutator.past.number l.1.0 ∷ mutator.Push m x.mutator.draft x.mutator.pending ∷ [])) (sym is)
         ∙ ap (λ (b : Bool). x.mutator.past.events ++ ((if b then [] else mutator.SawAck x.mutator.past.number l.1.0 ∷ []) ++ mutator.Push number x.mutator.draft x.mutator.pending ∷ [])) (sym (ne_eqb x.mutator.past.number 0 (λ e. omega arith))),
+    refl,
   )
 
   by_answer : (p : Push) → WasPushed x.mutator p y.mutator w.before w.after → Grew p
-  by_answer Clean d = ([], [], ap (λ (m : Mutates ServerState StreamNames). m.past.events) d.1 ∙ sym (append-nil x.mutator.past.events))
+  by_answer Clean d = ([], [], ap (λ (m : Mutates ServerState StreamNames). m.past.events) d.1 ∙ sym (append-nil x.mutator.past.events), ap (λ (m : Mutates ServerState StreamNames). m.pending) d.1)
   by_answer (Pushed number) d = shown number x.mutator.past.number d.1 refl d.2 d.3
   by_answer (Busy seen expected) d = (
     [],
     [],
     ap (λ (m : Mutates ServerState StreamNames). m.past.events) d.3.2.2 ∙ ap (λ (n : ℕ). x.mutator.past.events ++ mutator.SawAck n [] ∷ []) (let a : d.3.0 + 1 ≡ x.mutator.past.number = d.3.2.1 in omega arith),
+    ap (λ (m : Mutates ServerState StreamNames). m.pending) d.3.2.2,
   )
 
   pub push_grows : Grew push
@@ -128,20 +144,86 @@ module _ (links : Links) (t : ℕ) (x : NormalState) (ack : Bool) (report : Repo
   going_is true events f = absurd (true≢false f)
   going_is false events f = refl
 
-  mutator_grows : x.ended ≡ false → (back : List (Option ServerState)) × (again : List (Option ServerState)) × (sent : List (Option ServerState)) × (y.mutator.past.events ≡ x.mutator.past.events ++ mutator_list cs ks (kept_of x) e back again sent)
+  -- what the look at the acknowledgement and the push brought and took
+  acks : Added links ack x home made.going.tied made.goes_on.sees ack
+  acks = acked_list links ack x home made.going.tied made.goes_on.sees
+
+  pushed : Grew push z p made.goes_on.rest.pushes push
+  pushed = push_grows push z p made.goes_on.rest.pushes
+
+  mutator_grows : x.ended ≡ false → y.mutator.past.events ≡ x.mutator.past.events ++ mutator_list cs ks (kept_of x) e acks.0 pushed.0 pushed.1
   mutator_grows lives =
-      let a = acked_list links ack x home made.going.tied made.goes_on.sees in
-      let g = push_grows push z p made.goes_on.rest.pushes in
-      let looks : MutatorEvent ServerState = mutator.SawAck (number_seen (kept_of x) ack) a.0 in (
-        a.0,
-        g.0,
-        g.1,
-        ap (λ (m : Mutates ServerState StreamNames). m.past.events) mutator_y ∙ g.2
-            ∙ ap (λ (past : Past ServerState StreamNames). past.events ++ push_list (kept_of z) push g.0 g.1) past_z
-            ∙ ap (λ (es : List (MutatorEvent ServerState)). es ++ push_list (kept_of z) push g.0 g.1) a.1
-            ∙ append_assoc x.mutator.past.events (looks ∷ []) (push_list (kept_of z) push g.0 g.1)
-            ∙ ap (λ (m : NormalKept). x.mutator.past.events ++ looks ∷ push_list m push g.0 g.1) (kept_z links t x ack report room push y made)
-            ∙ ap (λ (es : List (MutatorEvent ServerState)). x.mutator.past.events ++ es) (going_is x.ended (looks ∷ push_list (after_edits cs ks e (kept_of x)) push g.0 g.1) lives),
+      let looks : MutatorEvent ServerState = mutator.SawAck (number_seen (kept_of x) ack) acks.0 in
+      ap (λ (m : Mutates ServerState StreamNames). m.past.events) mutator_y ∙ pushed.2
+      ∙ ap (λ (past : Past ServerState StreamNames). past.events ++ push_list (kept_of z) push pushed.0 pushed.1) past_z
+      ∙ ap (λ (es : List (MutatorEvent ServerState)). es ++ push_list (kept_of z) push pushed.0 pushed.1) acks.1
+      ∙ append_assoc x.mutator.past.events (looks ∷ []) (push_list (kept_of z) push pushed.0 pushed.1)
+      ∙ ap (λ (m : NormalKept). x.mutator.past.events ++ looks ∷ push_list m push pushed.0 pushed.1) (kept_z links t x ack report room push y made)
+      ∙ ap (λ (es : List (MutatorEvent ServerState)). x.mutator.past.events ++ es) (going_is x.ended (looks ∷ push_list (after_edits cs ks e (kept_of x)) push pushed.0 pushed.1) lives)
+
+  -- ## The stream proxies that were home, and those that were lent
+
+  home_is : (i : ℕ) → listed_at (stream_at l.streams i) ≡ listed_at (home_stream ack (kept_of x) acks.0 x i)
+  home_is i = ap (λ (w : NormalState). listed_at (stream_at w.streams i)) made.goes_on.rest.learns.same ∙ ap listed_at (acks.3 i)
+
+  pending_seen : (b : Bool) (m m' : Mutates ServerState StreamNames) → WasAcked m b m' → m'.pending ≡ m.pending
+  pending_seen true m m' w = ap (λ (n : Mutates ServerState StreamNames). n.pending) w.1
+  pending_seen false m m' w = ap (λ (n : Mutates ServerState StreamNames). n.pending) w.1.2
+
+  -- there is a place for each slot
+  wide : length s.mutator.pending ≡ slots
+  wide = ap (λ (m : Mutates ServerState StreamNames). length m.pending) (served_mutator links t l (going_l links t x ack report room push y made) report s made.goes_on.rest.serves)
+      ∙ ap (λ (w : NormalState). length w.mutator.pending) made.goes_on.rest.learns.same ∙ ap (λ (items : List (Option ServerState)). length items) acks.4
+      ∙ sym (ap (λ (items : List (Option ServerState)). length items) (pending_seen ack x.mutator made.goes_on.sees.mutator made.goes_on.sees.acked)) ∙ made.goes_on.sees.held.lengths.0
+
+  abbrev ed : NormalState
+  ed = made.goes_on.rest.edits.edited
+
+  waiting : Lent links (most_tracks * t) (record s { mutator = begun s.mutator }) (served_open links t l (going_l links t x ack report room push y made) report s made.goes_on.rest.serves made.own) wide (length s.tracks) made.goes_on.rest.edits.edited
+  waiting = all_lent links (most_tracks * t) (record s { mutator = begun s.mutator }) (served_open links t l (going_l links t x ack report room push y made) report s made.goes_on.rest.serves made.own) wide (length s.tracks) made.goes_on.rest.edits.edited made.goes_on.rest.edits.tracks
+
+  -- neither the command nor the end of the mutation moves an item
+  pending_z : z.mutator.pending ≡ made.goes_on.rest.edits.edited.mutator.pending
+  pending_z = ap (λ (w : NormalState). w.mutator.pending) made.goes_on.rest.edits.leaves ∙ by_same (code_of (due_command room ed) == code_of ed.mutator.draft.command)
+    where
+      by_same : (b : Bool) → (finished (if b then made.goes_on.rest.edits.edited.mutator else record made.goes_on.rest.edits.edited.mutator { draft = with_command (due_command room made.goes_on.rest.edits.edited) made.goes_on.rest.edits.edited.mutator.draft; edited = true })).pending ≡ made.goes_on.rest.edits.edited.mutator.pending
+      by_same true = refl
+      by_same false = refl
+
+  tracks_p : p.tracks ≡ made.goes_on.rest.edits.edited.tracks
+  tracks_p = ap (λ (w : NormalState). w.tracks) (p_same links t x ack report room push y made) ∙ ap (λ (w : NormalState). w.tracks) made.goes_on.rest.edits.leaves
+
+  tracks_s : s.tracks ≡ served_tracks cs ks (kept_of x) e
+  tracks_s = (done links t x ack report room push y made).tracks ∙ ap (λ (m : NormalKept). served_to cs ks (turns links t x ack report room push y made) m.tracks (length m.tracks)) (kept_l links t x ack report room push y made)
+
+  some_of : (f : Option ServerState) → is_some f ≡ true → (r : ServerState) × (f ≡ Some r)
+  some_of None e = absurd (true≢false (sym e))
+  some_of (Some r) e = (r, refl)
+
+  not_mixed : (b d : Bool) → b ≡ true → (not b && d) ≡ false
+  not_mixed true d e = refl
+  not_mixed false d e = absurd (true≢false (sym e))
+
+  lent_grow : (i : ℕ) → must_enter (track_at (served_tracks cs ks (kept_of x) e) i) ≡ true
+      → (v : ServerState) × (at (in_queue push pushed.1 y.mutator.pending) (slot_number (track_at (served_tracks cs ks (kept_of x) e) i)) ≡ Some v) × GoesOnFrom (listed_at (stream_at l.streams i)) (stream_list cs (outside links t x ack report room push y made) e (tracks_at cs ks (kept_of x) e i) i) v
+  lent_grow i due =
+      let enters : must_enter (track_at s.tracks i) ≡ true = ap (λ (ts : List TrackKept). must_enter (track_at ts i)) tracks_s ∙ due in
+      let tied : IsTied links s = served_tied links t l (going_l links t x ack report room push y made) report s made.goes_on.rest.serves made.own in
+      let lt : i < length s.tracks = comer_inside (kept_of s) tied.sound (setup_of s) i nothing_heard enters in
+      let there = some_of (stream_at s.streams i) (tied.proxies.there i lt ∙ comer_home (kept_of s) tied.sound (setup_of s) i nothing_heard enters) in
+      let away = waiting.away i lt enters in
+      let p_is : IsTied links p = p_tied links t x ack report room push y made in
+      let away_p : is_home (track_at p.tracks i).holder ≡ false = ap (λ (ts : List TrackKept). is_home (track_at ts i).holder) tracks_p ∙ away.1 in
+      let none : takes_from (mixing_of q).takes i ≡ [] = (mix links t x ack report room push y made).1.unmixed i (not_mixed (is_some (track_at p.tracks i).slot) _ (slot_of_away (track_at p.tracks i) (p_is.sound.slotted i) away_p)) in
+      let before = served_grow links t x ack report room push y made i there.0 there.1 in (
+        there.0,
+        ap (λ (k : ℕ). at (in_queue push pushed.1 y.mutator.pending) k) (ap (λ (ts : List TrackKept). slot_number (track_at ts i)) (sym tracks_s))
+            ∙ ap (λ (m : Mutates ServerState StreamNames). at (in_queue push pushed.1 m.pending) (slot_number (track_at s.tracks i))) mutator_y
+            ∙ ap (λ (items : List (Option ServerState)). at items (slot_number (track_at s.tracks i))) (pushed.3 ∙ pending_z)
+            ∙ waiting.waits i lt enters ∙ there.1,
+        (before.0 ∙ ap (λ (es : List ServerEvent). (listed_at (stream_at l.streams i)).events ++ es)
+            (sym (append-nil (Invalid links t x ack report room push y made i)) ∙ ap (λ (takes : List TakeSeen). Invalid links t x ack report room push y made i ++ flat_map (λ take. cycle_events (asked cs) (listed_at (stream_at l.streams i)) take.slot ((mix links t x ack report room push y made).0 i)) takes) (sym none)),
+        before.1),
       )
 
   -- ## The report and the pipe
@@ -204,7 +286,12 @@ module _ (links : Links) (t : ℕ) (x : NormalState) (ack : Bool) (report : Repo
     streams = streams_grow links t x ack report room push y made;
     reader = reader_grows;
     pipe = (l.pipe.pass.part.front, pipe_events, inl pipe_room, pipe_frames);
+    back = acks.0;
+    again = pushed.0;
+    sent = pushed.1;
     mutator = mutator_grows lives;
+    home = (λ f. home_is);
+    lent = (λ f. lent_grow);
   }
 
   -- the turn was legal, left what the definition says, and the lists grew by it

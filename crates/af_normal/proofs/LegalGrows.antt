@@ -34,7 +34,7 @@ use Rattle.af_life.specs.Serves.{served_to}
 use Rattle.af_life.specs.Edits.{after_ack}
 use Rattle.af_life.specs.Turn.{after_edits}
 use Rattle.af_life.specs.TurnEvents.{tracks_at, invalid, status_events, command_list, hand_list, stream_list, mix_events, takes_from, number_seen, push_list, mutator_list}
-use Rattle.af_normal.specs.LegalTurned.{hand_events, Grows}
+use Rattle.af_normal.specs.LegalTurned.{hand_events, GoesOnFrom, Grows}
 use Rattle.af_normal.specs.Mixing.{stream_at}
 use Rattle.af_normal.specs.Ready.{serving_of}
 use Rattle.af_normal.specs.Serving.{Adds, StreamAdds, disabled_events}
@@ -153,71 +153,77 @@ module _ (links : Links) (t : ℕ) (x : NormalState) (ack : Bool) (report : Repo
 
   -- ## The streams
 
-  abbrev Grew : ℕ → ServerState → Type 0
-  Grew i v = (v.pass.part.events ≡ (o.streams i).events ++ stream_list cs o e (tracks_at cs ks (kept_of x) e i) i) × (v.pass.part.shape ≡ (o.streams i).shape)
+  -- INVALID in the list of a proxy that is home, where its track was found shut
+  abbrev pub Invalid : ℕ → List ServerEvent
+  Invalid i = if is_home (track_at (tracks_at cs ks (kept_of x) e i) i).holder then invalid ks (seen_at ts i) (tracks_at cs ks (kept_of x) e i) i else []
 
   -- the events of the mix by the list that the serving left
   abbrev Mixes : ℕ → List ServerEvent
   Mixes i = mix_of (asked (setup_of p)) (mixing_of p) (mix links t x ack report room push y made).0 (mixing_of q).takes i
 
-  pub streams_grow : (i : ℕ) (v : ServerState) → stream_at y.streams i ≡ Some v
-      → (v.pass.part.events ≡ (o.streams i).events ++ stream_list cs o e (tracks_at cs ks (kept_of x) e i) i) × (v.pass.part.shape ≡ (o.streams i).shape)
+  taken_if : (b : Bool) (es : List ServerEvent) → b ≡ true → es ≡ (if b then es else [])
+  taken_if true es e = refl
+  taken_if false es e = absurd (true≢false (sym e))
+
+  -- a track whose proxy is there is one of the list
+  some_inside : (streams : List (Option ServerState)) (n i : ℕ) (r : ServerState) → length streams ≡ n → stream_at streams i ≡ Some r → i < n
+  some_inside streams n i r long is = elim (cases_lt i n) as (λ d. i < n) [
+    | inl lt ↦ lt
+    | inr le ↦ absurd (true≢false (sym (ap is_some is) ∙ ap is_some (beyond streams i (omega arith))))
+  ]
+
+  -- what serving a track did to its stream proxy
+  pub served_grow : (i : ℕ) (r : ServerState) → stream_at s.streams i ≡ Some r → GoesOnFrom (o.streams i) (Invalid i) r
+  served_grow i r served = by_learnt (stream_at l.streams i) refl
+      (subst (StreamAdds (stream_at l.streams i) (invalid ks (seen_at ts i) (served_to cs ks ts l.tracks i) i)) served ((done links t x ack report room push y made).parts i inside).streamed)
+    where
+      inside : i < length l.tracks
+      inside = some_inside s.streams (length l.tracks) i r ((done links t x ack report room push y made).long.0 ∙ (going_l links t x ack report room push y made).tied.sizes.streams_are) served
+
+      -- before its part the proxy of the track was home
+      home_is : is_some (stream_at l.streams i) ≡ true → is_home (track_at (tracks_at cs ks (kept_of x) e i) i).holder ≡ true
+      home_is some = ap (λ (tracks : List TrackKept). is_home (track_at tracks i).holder) (sym (at_is i))
+          ∙ ap is_home (stay_put cs ks ts l.mutator.draft l.tracks (going_l links t x ack report room push y made).tied.sound i i).0
+          ∙ sym ((going_l links t x ack report room push y made).tied.proxies.there i inside) ∙ some
+
+      by_learnt : (f : Option ServerState) → stream_at l.streams i ≡ f → StreamAdds f (invalid ks (seen_at ts i) (served_to cs ks ts l.tracks i) i) (Some r) → GoesOnFrom (listed_at (stream_at l.streams i)) (Invalid i) r
+      by_learnt None e a = absurd (true≢false (ap is_some a))
+      by_learnt (Some r0) was (r1, a, is_r) = let same : r1 ≡ r = same_proxy r1 r (sym is_r) in (
+        ap (λ (w : ServerState). w.pass.part.events) (sym same) ∙ a.list
+            ∙ ap (λ (tracks : List TrackKept). r0.pass.part.events ++ invalid ks (seen_at ts i) tracks i) (at_is i)
+            ∙ ap (λ (es : List ServerEvent). r0.pass.part.events ++ es) (taken_if (is_home (track_at (tracks_at cs ks (kept_of x) e i) i).holder) (invalid ks (seen_at ts i) (tracks_at cs ks (kept_of x) e i) i) (home_is (ap is_some was)))
+            ∙ ap (λ (f : Option ServerState). (listed_at f).events ++ Invalid i) (sym was),
+        ap (λ (w : ServerState). w.pass.part.shape) (sym same) ∙ a.shape ∙ ap (λ (f : Option ServerState). (listed_at f).shape) (sym was),
+      )
+
+  -- and what the mix did to it
+  mixes_are : (i : ℕ) (r : ServerState) → stream_at s.streams i ≡ Some r → stream_at p.streams i ≡ Some r → Mixes i ≡ mix_events cs o (mixing_of q).takes i
+  mixes_are i r served pushed = flat_same
+      (λ (take : TakeSeen). cycle_events (asked (setup_of p)) (listed_at (stream_at p.streams i)) take.slot ((mix links t x ack report room push y made).0 i))
+      (λ (take : TakeSeen). cycle_events (asked cs) (listed_at (stream_at l.streams i)) take.slot ((mix links t x ack report room push y made).0 i))
+      (λ take. ap (λ (f : Option ServerState). cycle_events (asked (setup_of p)) (listed_at f) take.slot ((mix links t x ack report room push y made).0 i)) pushed
+      ∙ events_still (listed_at (stream_at l.streams i)) (listed r) told_is.0 told_is.1 (asked (setup_of p)) take.slot ((mix links t x ack report room push y made).0 i)
+      ∙ ap (λ (d : Setup). cycle_events (asked d) (listed_at (stream_at l.streams i)) take.slot ((mix links t x ack report room push y made).0 i)) (setup_of_p links t x ack report room push y made))
+      (takes_from (mixing_of q).takes i)
+    where
+      told_is : ((listed r).shape ≡ (listed_at (stream_at l.streams i)).shape) × (kept (listed r) ≡ kept (listed_at (stream_at l.streams i)))
+      told_is = told_served links t l (going_l links t x ack report room push y made) report s made.goes_on.rest.serves i r served
+
+  pub streams_grow : (i : ℕ) (v : ServerState) → stream_at y.streams i ≡ Some v → GoesOnFrom (o.streams i) (stream_list cs o e (tracks_at cs ks (kept_of x) e i) i) v
   streams_grow i v is = from_played (stream_at p.streams i) refl ((mix links t x ack report room push y made).1.streams i)
     where
       there : stream_at q.streams i ≡ Some v
       there = sym (ap (λ (w : NormalState). stream_at w.streams i) y_same) ∙ is
 
-      -- where the proxy was home when all was learnt
-      from_served : (r : ServerState) → stream_at s.streams i ≡ Some r → stream_at p.streams i ≡ Some r → Adds r (Mixes i) (words_of (takes_from (mixing_of q).takes i)) v → (Grew i v)
-      from_served r served pushed adds = elim (cases_lt i (length l.tracks)) as (λ d. (Grew i v)) [
-        | inl lt ↦ by_learnt (stream_at l.streams i) refl (subst (StreamAdds (stream_at l.streams i) (invalid ks (seen_at ts i) (served_to cs ks ts l.tracks i) i)) served ((done links t x ack report room push y made).parts i lt).streamed)
-        | inr le ↦ past le
-      ]
-        where
-          told_is : ((listed r).shape ≡ (listed_at (stream_at l.streams i)).shape) × (kept (listed r) ≡ kept (listed_at (stream_at l.streams i)))
-          told_is = told_served links t l (going_l links t x ack report room push y made) report s made.goes_on.rest.serves i r served
+      from_served : (r : ServerState) → stream_at s.streams i ≡ Some r → stream_at p.streams i ≡ Some r → Adds r (Mixes i) (words_of (takes_from (mixing_of q).takes i)) v → GoesOnFrom (o.streams i) (stream_list cs o e (tracks_at cs ks (kept_of x) e i) i) v
+      from_served r served pushed adds = let before = served_grow i r served in (
+        adds.list ∙ ap (λ (es : List ServerEvent). r.pass.part.events ++ es) (mixes_are i r served pushed)
+            ∙ ap (λ (es : List ServerEvent). es ++ mix_events cs o (mixing_of q).takes i) before.0
+            ∙ append_assoc (o.streams i).events (Invalid i) (mix_events cs o (mixing_of q).takes i),
+        adds.shape ∙ before.1,
+      )
 
-          mixes_are : (Mixes i) ≡ mix_events cs o (mixing_of q).takes i
-          mixes_are = flat_same
-              (λ (take : TakeSeen). cycle_events (asked (setup_of p)) (listed_at (stream_at p.streams i)) take.slot ((mix links t x ack report room push y made).0 i))
-              (λ (take : TakeSeen). cycle_events (asked cs) (listed_at (stream_at l.streams i)) take.slot ((mix links t x ack report room push y made).0 i))
-              (λ take. ap (λ (f : Option ServerState). cycle_events (asked (setup_of p)) (listed_at f) take.slot ((mix links t x ack report room push y made).0 i)) pushed
-              ∙ events_still (listed_at (stream_at l.streams i)) (listed r) told_is.0 told_is.1 (asked (setup_of p)) take.slot ((mix links t x ack report room push y made).0 i)
-              ∙ ap (λ (d : Setup). cycle_events (asked d) (listed_at (stream_at l.streams i)) take.slot ((mix links t x ack report room push y made).0 i)) (setup_of_p links t x ack report room push y made))
-              (takes_from (mixing_of q).takes i)
-
-          -- before its part the proxy of the track was home
-          home_is : is_some (stream_at l.streams i) ≡ true → i < length l.tracks → is_home (track_at (served_to cs ks ts l.tracks i) i).holder ≡ true
-          home_is some lt = ap is_home (stay_put cs ks ts l.mutator.draft l.tracks (going_l links t x ack report room push y made).tied.sound i i).0
-              ∙ sym ((going_l links t x ack report room push y made).tied.proxies.there i lt) ∙ some
-
-          listing : (b : Bool) (es : List ServerEvent) (before inv : List ServerEvent) → b ≡ true → es ≡ before ++ inv → es ++ mix_events cs o (mixing_of q).takes i ≡ before ++ ((if b then inv else []) ++ mix_events cs o (mixing_of q).takes i)
-          listing true es before inv f g = ap (λ (a : List ServerEvent). a ++ mix_events cs o (mixing_of q).takes i) g ∙ append_assoc before inv (mix_events cs o (mixing_of q).takes i)
-          listing false es before inv f g = absurd (true≢false (sym f))
-
-          by_learnt : (f : Option ServerState) → stream_at l.streams i ≡ f → StreamAdds f (invalid ks (seen_at ts i) (served_to cs ks ts l.tracks i) i) (Some r) → (Grew i v)
-          by_learnt None e a = absurd (true≢false (ap is_some a))
-          by_learnt (Some r0) learnt (r1, a, is_r) =
-              let same : r1 ≡ r = same_proxy r1 r (sym is_r) in
-              let lt : i < length l.tracks = some_inside in
-              let was : r.pass.part.events ≡ r0.pass.part.events ++ invalid ks (seen_at ts i) (served_to cs ks ts l.tracks i) i = ap (λ (w : ServerState). w.pass.part.events) (sym same) ∙ a.list in (
-                adds.list ∙ ap (λ (es : List ServerEvent). r.pass.part.events ++ es) mixes_are
-                    ∙ listing (is_home (track_at (served_to cs ks ts l.tracks i) i).holder) r.pass.part.events r0.pass.part.events (invalid ks (seen_at ts i) (served_to cs ks ts l.tracks i) i) (home_is (ap is_some learnt) lt) was
-                    ∙ ap (λ (tracks : List TrackKept). r0.pass.part.events ++ ((if is_home (track_at tracks i).holder then invalid ks (seen_at ts i) tracks i else []) ++ mix_events cs o (mixing_of q).takes i)) (at_is i)
-                    ∙ ap (λ (f : Option ServerState). (listed_at f).events ++ stream_list cs o e (tracks_at cs ks (kept_of x) e i) i) (sym learnt),
-                adds.shape ∙ ap (λ (w : ServerState). w.pass.part.shape) (sym same) ∙ a.shape ∙ ap (λ (f : Option ServerState). (listed_at f).shape) (sym learnt),
-              )
-            where
-              some_inside : i < length l.tracks
-              some_inside = elim (cases_lt i (length l.tracks)) as (λ d. i < length l.tracks) [
-                | inl lt ↦ lt
-                | inr le ↦ absurd (true≢false (sym (ap is_some learnt) ∙ ap is_some (beyond l.streams i (let n = (going_l links t x ack report room push y made).tied.sizes.streams_are in omega arith))))
-              ]
-
-          past : length l.tracks ≤ i → (Grew i v)
-          past le = absurd (true≢false (sym (ap is_some served) ∙ ap is_some (beyond s.streams i (let n = (going_l links t x ack report room push y made).tied.sizes.streams_are in let w = (done links t x ack report room push y made).long.0 in omega arith))))
-
-      from_played : (f : Option ServerState) → stream_at p.streams i ≡ f → StreamTakes f (Mixes i) (words_of (takes_from (mixing_of q).takes i)) (stream_at q.streams i) → (Grew i v)
+      from_played : (f : Option ServerState) → stream_at p.streams i ≡ f → StreamTakes f (Mixes i) (words_of (takes_from (mixing_of q).takes i)) (stream_at q.streams i) → GoesOnFrom (o.streams i) (stream_list cs o e (tracks_at cs ks (kept_of x) e i) i) v
       from_played None e a = absurd (true≢false (ap is_some (sym there ∙ a)))
       from_played (Some r) pushed (w, adds, is_w) =
           let same : w ≡ v = same_proxy w v (sym is_w ∙ there) in

@@ -48,6 +48,7 @@ module _ (room : ℕ) (x y : NormalState) (plays : PlaysAll room x y) where
     pub due : map (λ (t : TakeSeen). t.track) (mixing_of y).takes ≡ tracks_due (setup_of x) room x.tracks
     pub legal : AllByRecursion (LegalBy (asked (setup_of x)) (mixing_of x) fronts) (mixing_of y).takes
     pub streams : (j : ℕ) → StreamTakes (stream_at x.streams j) (mix_of (asked (setup_of x)) (mixing_of x) fronts (mixing_of y).takes j) (words_of (takes_from (mixing_of y).takes j)) (stream_at y.streams j)
+    pub unmixed : (j : ℕ) → is_mixed_here (track_at x.tracks j) ≡ false → takes_from (mixing_of y).takes j ≡ []
     pub few : length (mixing_of y).takes ≤ length x.tracks
     pub long : (length y.streams ≡ length x.streams)
 
@@ -63,7 +64,7 @@ module _ (room : ℕ) (x y : NormalState) (plays : PlaysAll room x y) where
       by_room : (b : Bool) → nat_le (asked (setup_of x)) room ≡ b → MatchBool b (MixesTo (asked (setup_of x)) (length x.tracks) (mixing_of x) (mixing_of y)) (mixing_of y ≡ mixing_of x) → (fronts : ℕ → ℕ) × PlaysBy fronts
       by_room true e m = let all : PlayedTo (asked (setup_of x)) (mixing_of x) (mixing_of y) (length x.tracks) = played_all (asked (setup_of x)) (mixing_of x) takes_none (length x.tracks) wide (mixing_of y) m in (
         all.fronts,
-        record { tracks = all.tracks; due = all.due ∙ sym (due_is true e); legal = all.legal; streams = all.streams; few = all.few; long = all.long },
+        record { tracks = all.tracks; due = all.due ∙ sym (due_is true e); legal = all.legal; streams = all.streams; unmixed = all.unmixed; few = all.few; long = all.long },
       )
       by_room false e same = let none_here : (mixing_of y).takes ≡ [] = ap (λ (w : Mixing). w.takes) same ∙ takes_none in (
         (λ j. 0),
@@ -73,6 +74,7 @@ module _ (room : ℕ) (x y : NormalState) (plays : PlaysAll room x y) where
           legal = subst (AllByRecursion (LegalBy (asked (setup_of x)) (mixing_of x) (λ j. 0))) (sym none_here) tt;
           streams = (λ j. subst (StreamTakes (stream_at x.streams j) (mix_of (asked (setup_of x)) (mixing_of x) (λ i. 0) (mixing_of y).takes j) (words_of (takes_from (mixing_of y).takes j))) (sym (ap (λ (w : Mixing). stream_at w.streams j) same))
               (stays (asked (setup_of x)) (mixing_of x) (stream_at x.streams j) _ _ (ap (λ (ts : List TakeSeen). mix_of (asked (setup_of x)) (mixing_of x) (λ i. 0) ts j) none_here) (ap (λ (ts : List TakeSeen). words_of (takes_from ts j)) none_here)));
+          unmixed = (λ j off. ap (λ (ts : List TakeSeen). takes_from ts j) none_here);
           few = (let l : length (mixing_of y).takes ≡ 0 = ap (λ (ts : List TakeSeen). length ts) none_here in omega arith);
           long = ap (λ (w : Mixing). length w.streams) same;
         },

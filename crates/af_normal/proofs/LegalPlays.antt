@@ -61,6 +61,7 @@ module _ (asked : ℕ) (x : Mixing) where
     pub same_track : (j : ℕ) → i ≤ j → track_at z.tracks j ≡ track_at x.tracks j
     pub same_stream : (j : ℕ) → i ≤ j → stream_at z.streams j ≡ stream_at x.streams j
     pub none : (j : ℕ) → i ≤ j → takes_from z.takes j ≡ []
+    pub unmixed : (j : ℕ) → is_mixed_here (track_at x.tracks j) ≡ false → takes_from z.takes j ≡ []
     pub long : length z.streams ≡ length x.streams
     pub few : length z.takes ≤ i
 
@@ -89,6 +90,7 @@ module _ (asked : ℕ) (x : Mixing) where
       same_track = (λ j le. b.same_track j (omega arith));
       same_stream = (λ j le. b.same_stream j (omega arith));
       none = (λ j le. b.none j (omega arith));
+      unmixed = b.unmixed;
       long = b.long;
       few = (let f = b.few in omega arith);
     }
@@ -170,6 +172,7 @@ module _ (asked : ℕ) (x : Mixing) where
         same_track = (λ j le. get_or-set_other z.tracks t.take.track j _ new_track (λ is. let a = t.takes.track in omega arith) ∙ b.same_track j (omega arith));
         same_stream = (λ j le. get_or-set_other z.streams i j (Some t.after) None (λ is. omega arith) ∙ b.same_stream j (omega arith));
         none = (λ j le. from_other j (λ is. omega arith) ∙ b.none j (omega arith));
+        unmixed = (λ j off. from_other j (λ is. true≢false (sym (sym (ap is_mixed_here (b.same_track i (omega arith))) ∙ e) ∙ ap (λ (n : ℕ). is_mixed_here (track_at x.tracks n)) (sym is) ∙ off)) ∙ b.unmixed j off);
         long = length-set z.streams i (Some t.after) ∙ b.long;
         few = (let f = b.few in let l : length (z.takes ++ t.take ∷ []) ≡ length z.takes + length (t.take ∷ []) = length-append z.takes (t.take ∷ []) in omega arith);
       }
@@ -193,6 +196,7 @@ module _ (asked : ℕ) (x : Mixing) where
     same_track = (λ j le. refl);
     same_stream = (λ j le. refl);
     none = (λ j le. ap (λ (ts : List TakeSeen). takes_from ts j) none);
+    unmixed = (λ j off. ap (λ (ts : List TakeSeen). takes_from ts j) none);
     long = refl;
     few = (let l : length x.takes ≡ 0 = ap length none in omega arith);
   }

@@ -81,12 +81,12 @@ module _ (x y : NormalState) (stops : Stops x y) where
   some_same : (s t : ServerState) → Some s ≡ Some t → s ≡ t
   some_same s t e = cc
 
-  mutator_stops : (back : List (Option ServerState)) × (again : List (Option ServerState)) × (sent : List (Option ServerState)) × (y.mutator.past.events ≡ x.mutator.past.events ++ mutator_list (setup_of x) (learnt seen) (kept_of x) ended_turn back again sent)
+  mutator_stops : (back : List (Option ServerState)) × (y.mutator.past.events ≡ x.mutator.past.events ++ mutator_list (setup_of x) (learnt seen) (kept_of x) ended_turn back [] [])
   mutator_stops = by_ended x.ended stops.looks
     where
-      by_ended : (b : Bool) → Looks b → (back : List (Option ServerState)) × (again : List (Option ServerState)) × (sent : List (Option ServerState)) × (y.mutator.past.events ≡ x.mutator.past.events ++ (if b then [] else mutator.SawAck x.mutator.past.number back ∷ []))
-      by_ended true l = ([], [], [], ap (λ (w : NormalState). w.mutator.past.events) stops.leaves ∙ ap (λ (m : Mutates ServerState StreamNames). m.past.events) l ∙ sym (append-nil x.mutator.past.events))
-      by_ended false l = (l.0.0, [], [], ap (λ (w : NormalState). w.mutator.past.events) stops.leaves ∙ ap (λ (m : Mutates ServerState StreamNames). m.past.events) l.0.1)
+      by_ended : (b : Bool) → Looks b → (back : List (Option ServerState)) × (y.mutator.past.events ≡ x.mutator.past.events ++ (if b then [] else mutator.SawAck x.mutator.past.number back ∷ []))
+      by_ended true l = ([], ap (λ (w : NormalState). w.mutator.past.events) stops.leaves ∙ ap (λ (m : Mutates ServerState StreamNames). m.past.events) l ∙ sym (append-nil x.mutator.past.events))
+      by_ended false l = (l.0.0, ap (λ (w : NormalState). w.mutator.past.events) stops.leaves ∙ ap (λ (m : Mutates ServerState StreamNames). m.past.events) l.0.1)
 
   grows_ended : Grows (setup_of x) (kept_of x) seen ended_turn x y
   grows_ended = record {
@@ -107,7 +107,12 @@ module _ (x y : NormalState) (stops : Stops x y) where
       inr refl,
       ap (λ (w : NormalState). w.pipe.pass.part.frames) stops.leaves ∙ sym (append-nil x.pipe.pass.part.frames),
     );
-    mutator = mutator_stops;
+    back = mutator_stops.0;
+    again = [];
+    sent = [];
+    mutator = mutator_stops.1;
+    home = (λ f. absurd (true≢false f));
+    lent = (λ f. absurd (true≢false f));
   }
 
   -- the turn was legal, left what the definition says, and the lists grew by it

@@ -14,22 +14,25 @@ use Rattle.af_model.specs.StateQueue.{slot_of, word}
 use Rattle.af_server.specs.Order.{ServerState}
 use Rattle.af_stateq.specs.Answers.{WasAcked, WasPushed, SeesIt, shows}
 use Rattle.af_stateq.specs.Ends.{Pushes as Past, saw, pushes}
-use Rattle.af_stateq.specs.Mutates.{Mutates, InDraft}
+use Rattle.af_stateq.specs.Mutates.{Mutates, InDraft, IsJoined}
 use Rattle.af_stateq.specs.Shelved.{nothing}
 use Rattle.af_link.specs.Names.{IsStreamOf}
 use Rattle.af_link.specs.declared.links.Links.{Links}
 use Rattle.af_link.specs.declared.names.StreamNames.{StreamNames}
 use Rattle.af_life.specs.declared.kept.TrackKept.{TrackKept}
-use Rattle.af_life.specs.Kept.{track_at}
+use Rattle.af_life.specs.Kept.{track_at, slot_number, is_returning}
 use Rattle.af_life.specs.Edits.{after_ack}
 use Rattle.af_life.specs.Sound.{IsSound}
 use Rattle.af_life.specs.TurnEvents.{number_seen}
 use Rattle.af_normal.specs.Coming.{WelcomesTo}
 use Rattle.af_normal.specs.Mutating.{EditsTo, EditsAll, Pushes, begun, commands, finished, due_command}
+use Rattle.af_normal.specs.LegalTurned.{in_hand, home_stream}
+use Rattle.af_normal.specs.Mixing.{stream_at}
 use Rattle.af_normal.specs.Order.{IsTied, IsOpen}
 use Rattle.af_normal.specs.State.{NormalState, setup_of, kept_of}
 use Rattle.af_normal.specs.Turning.{SeesAck, Learns, with_mutator}
-use Rattle.af_normal.proofs.OrderAcks.{welcomed_kept, welcomed_tied, welcomed_same}
+use Rattle.af_normal.proofs.OrderAcks.{welcomed_kept, welcomed_tied, welcomed_same, Brings, welcomed_brings}
+use Rattle.af_normal.proofs.OrderEdits.{away_slot, returning_away}
 use Rattle.af_normal.proofs.OrderOpen.{edit_keeps}
 
 -- ## The acknowledgement
@@ -82,8 +85,18 @@ module _ (links : Links) (ack : Bool) (x y : NormalState) (tied : IsTied links x
           )
 
   -- one look is added to the list
-  abbrev Added : Bool → Type 0
+  abbrev pub Added : Bool → Type 0
   Added b = (items : List (Option ServerState)) × (y.mutator.past.events ≡ x.mutator.past.events ++ mutator.SawAck (number_seen (kept_of x) b) items ∷ []) × (y.mutator.past.number ≡ x.mutator.past.number)
+      × ((j : ℕ) → stream_at y.streams j ≡ home_stream b (kept_of x) items x j) × (y.mutator.pending ≡ x.mutator.pending)
+
+  -- each stream proxy is where it was, or was in hand
+  by_holder : {there : IsTied links (with_mutator sees.mutator x)} {clear : sees.mutator.past.clear ≡ true} (items : List (Option ServerState)) → IsJoined items x.mutator.returned sees.mutator.returned
+      → Brings links (with_mutator sees.mutator x) there sees.held clear y → (j : ℕ) → stream_at y.streams j ≡ home_stream true (kept_of x) items x j
+  by_holder items joined b j = choose (is_returning (track_at x.tracks j).holder) refl
+    where
+      choose : (d : Bool) → is_returning (track_at x.tracks j).holder ≡ d → stream_at y.streams j ≡ (if d then in_hand items x.mutator.returned (slot_number (track_at x.tracks j)) else stream_at x.streams j)
+      choose true e = b.brought j e ∙ joined (slot_number (track_at x.tracks j)) (away_slot (kept_of x) tied.sound j (returning_away (track_at x.tracks j).holder e)).1
+      choose false e = b.same j e
 
   pub acked_list : Added ack
   acked_list = list_by ack sees.acked sees.comes
@@ -97,6 +110,8 @@ module _ (links : Links) (ack : Bool) (x y : NormalState) (tied : IsTied links x
             seen.0,
             ap (λ (past : Past ServerState StreamNames). past.events) w.2 ∙ ap (λ (m : Mutates ServerState StreamNames). m.past.events) is,
             ap (λ (past : Past ServerState StreamNames). past.number) w.2 ∙ ap (λ (m : Mutates ServerState StreamNames). m.past.number) is,
+            by_holder seen.0 seen.2 (welcomed_brings links (with_mutator sees.mutator x) there sees.held clear y comes),
+            (welcomed_brings links (with_mutator sees.mutator x) there sees.held clear y comes).pending ∙ ap (λ (m : Mutates ServerState StreamNames). m.pending) is,
           )
       list_by false seen comes =
           let is : sees.mutator ≡ record x.mutator { past = saw seen.0 [] x.mutator.past } = seen.1.2 in (
@@ -104,6 +119,8 @@ module _ (links : Links) (ack : Bool) (x y : NormalState) (tied : IsTied links x
             ap (λ (z : NormalState). z.mutator.past.events) comes ∙ ap (λ (m : Mutates ServerState StreamNames). m.past.events) is
                 ∙ ap (λ (n : ℕ). x.mutator.past.events ++ mutator.SawAck n [] ∷ []) (let a : seen.0 + 1 ≡ x.mutator.past.number = seen.1.1 in omega arith),
             ap (λ (z : NormalState). z.mutator.past.number) comes ∙ ap (λ (m : Mutates ServerState StreamNames). m.past.number) is,
+            (λ j. ap (λ (z : NormalState). stream_at z.streams j) comes),
+            ap (λ (z : NormalState). z.mutator.pending) comes ∙ ap (λ (m : Mutates ServerState StreamNames). m.pending) is,
           )
 
 -- ## The report and the room

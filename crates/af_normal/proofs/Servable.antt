@@ -1,5 +1,5 @@
 -- What a turn that has begun in order may do next.
-use Rattle.std.proofs.Common.{⊥, ◌++◌, reverse, ⊎_elim, get_or-set_same, ◌≡◌, ◌≢◌, ℕ, zero, suc, ◌+◌, ◌-◌, ◌*◌, ◌^◌, ◌<◌, ◌≤◌, ◌==◌, Bool, true, false, true≢false, is_some, MatchBool, List, [], length, slice_get, Option, Some, None, refl, sym, ap, subst, ◌∙◌, arith}
+use Rattle.std.proofs.Common.{◌++◌, reverse, ⊎_elim, get_or-set_same, ◌≡◌, ◌≢◌, ℕ, zero, suc, ◌+◌, ◌-◌, ◌*◌, ◌^◌, ◌<◌, ◌≤◌, ◌==◌, Bool, true, false, true≢false, is_some, MatchBool, List, [], length, slice_get, Option, Some, None, refl, sym, ap, subst, ◌∙◌, arith}
 use Rattle.af_base.specs.declared.report.Report.{Report}
 use Rattle.std.proofs.lemmas.Bool.{cases_eq}
 use Rattle.af_base.specs.Log.{slots}
@@ -18,8 +18,8 @@ use Rattle.af_normal.specs.Ready.{AreOwn}
 use Rattle.af_normal.specs.State.{NormalState, kept_of, setup_of}
 use Rattle.af_normal.specs.TurnMade.{IsServable}
 use Rattle.af_normal.specs.Turning.{Begins, HandsTo, Hands, HasHands, HasWhole, Learns, without_hand}
-use Rattle.af_normal.proofs.Beginning.{HandsOf, hand_more, hands_long, hands_other, takes_back, turns_back}
-use Rattle.af_normal.proofs.Cases.{by_test}
+use Rattle.af_normal.proofs.Beginning.{HandsOf, hand_more, hands_same, hands_long, hands_other, takes_back, turns_back}
+use Rattle.af_normal.proofs.Cases.{none_of_zero, some_of_other}
 use Rattle.af_normal.proofs.OrderEdits.{returning_away}
 use Rattle.af_normal.proofs.OrderSlots.{slot_of_away}
 
@@ -94,7 +94,7 @@ module _ (links : Links) (x : NormalState) (tied : IsTied links x) (none : x.han
       let is : w.stream ≡ one.stream = one_of w.stream one.stream (sym w.is_home ∙ one.is_home) in
       let here : stream_at y.streams n ≡ Some (without_hand one.stream) = ap (λ (m : NormalState). stream_at m.streams n) one.leaves ∙ get_or-set_same z.streams n (Some (without_hand one.stream)) None lt in
       record {
-        same = one.leaves ∙ ap (λ (m : NormalState). record m { streams = y.streams; hands = y.hands }) before.same;
+        same = hands_same n z y one ∙ ap (λ (m : NormalState). record m { streams = y.streams; hands = y.hands }) before.same;
         streams = long.1 ∙ before.streams;
         count = (let c = before.count in let l = long.2 in omega arith);
         hands = hand_more links.streams.now n z y before.count w before.hands one;
@@ -161,7 +161,7 @@ module _ (links : Links) (x b : NormalState) (order : IsInOrder links x) (begins
       by_turns (suc n) e =
           let whole : length x.hands ≡ length x.tracks = (order.hands (omega arith)).whole in
           let empty : x.hands ≡ [] = sym (ap (λ (z : NormalState). z.hands) same) ∙ none in
-          let zero_long = ap length empty in
+          let zero_long : length x.hands ≡ 0 = ap length empty in
           absurd (omega arith)
 
   -- the lists of the entry are empty, and what they had is spare
@@ -200,14 +200,6 @@ module _ (links : Links) (x b : NormalState) (order : IsInOrder links x) (begins
         next = ap (λ (z : NormalState). z.turns) same ∙ ap (λ (z : NormalState). z.turns) b_is;
       }
 
-  empty_of : {A : Type 0} (xs : List A) → (length xs == 0) ≡ true → xs ≡ []
-  empty_of [] e = refl
-  empty_of (a ∷ xs) e = absurd (true≢false (sym e))
-
-  some_of : {A : Type 0} (xs : List A) → (length xs == 0) ≡ false → 1 ≤ length xs
-  some_of [] e = absurd (true≢false e)
-  some_of (a ∷ xs) e = omega arith
-
   pub going_begun : Emptied → (y : NormalState) → HasHands b y → Goes y
   going_begun e y h = by_hands (length b.hands == 0) refl h
     where
@@ -217,6 +209,6 @@ module _ (links : Links) (x b : NormalState) (order : IsInOrder links x) (begins
           (let have = order.hands (omega arith) in record { whole = have.whole; flags_of = have.flags_of })
 
       by_hands : (t : Bool) → (length b.hands == 0) ≡ t → MatchBool t (HandsTo (length b.tracks) b y) (y ≡ b) → Goes y
-      by_hands true is m = let none = empty_of b.hands is in
+      by_hands true is m = let none = none_of_zero b.hands is in
           with_hands e y (handed_same links b begun_tied none (whole_begun none) y m) (handed_tied links b begun_tied none (whole_begun none) y m) (have_hands links b begun_tied none (whole_begun none) y m)
-      by_hands false is m = subst Goes (sym m) (with_hands e b refl begun_tied (by_turns x.turns refl (some_of b.hands is)))
+      by_hands false is m = subst Goes (sym m) (with_hands e b refl begun_tied (by_turns x.turns refl (some_of_other b.hands is)))

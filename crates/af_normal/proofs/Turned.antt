@@ -15,18 +15,20 @@ use Rattle.af_normal.specs.State.{NormalState}
 use Rattle.af_normal.specs.TurnMade.{Does, GoesOnBy, TurnsBy, WentOn, has_mixed}
 use Rattle.af_normal.specs.Turning.{SeesAck, stream_fits, with_mutator}
 use Rattle.af_normal.proofs.LegalMade.{IsMade}
+use Rattle.af_normal.proofs.Edited.{all_only}
 use Rattle.af_normal.proofs.OrderLast.{order_done}
+use Rattle.af_normal.proofs.OrderStages.{acked_same}
 
 module _ (links : Links) (t : ℕ) (x : NormalState) (going : IsGoing links t x) (ack : Bool) (m : Mutates ServerState StreamNames) (acked : WasAcked x.mutator ack m) (held : InDraft stream_fits m)
     (home : NormalState) (comes : MatchBool ack (WelcomesTo (length x.tracks) (with_mutator m x) home) (home ≡ with_mutator m x)) where
-  pub seen : SeesAck ack x home
+  abbrev pub seen : SeesAck ack x home
   seen = record { mutator = m; acked = acked; held = held; comes = comes }
 
   module _ (lives : x.ended ≡ false) (no_exit : (is_exit x.mutator.past.last && ack) ≡ false) (report : Report) (room : ℕ) (push : Push) (y : NormalState) (went : WentOn links ack report room push home y) where
-    by : GoesOnBy ack report room push x y
+    abbrev by : GoesOnBy ack report room push x y
     by = record { home = home; sees = seen; rest = went.goes }
 
-    pub made : IsMade links t x ack report room push y
+    abbrev pub made : IsMade links t x ack report room push y
     made = record { going = going; goes_on = by; own = went.own }
 
     pub in_order : IsInOrder links y
@@ -34,3 +36,9 @@ module _ (links : Links) (t : ℕ) (x : NormalState) (going : IsGoing links t x)
 
     pub turns_by : TurnsBy push x y
     turns_by = record { ack = ack; report = report; room = room; lives = (lives, no_exit); goes_on = by }
+
+    -- no turn more was counted
+    pub turns_same : y.turns ≡ x.turns
+    turns_same = let g = went.goes in ap (λ (w : NormalState). w.turns) g.leaves ∙ ap (λ (w : NormalState). w.turns) g.plays.same ∙ ap (λ (w : NormalState). w.turns) g.pushes.same
+        ∙ ap (λ (w : NormalState). w.turns) (all_only room g.served g.edited g.edits) ∙ ap (λ (w : NormalState). w.turns) g.serves.same ∙ ap (λ (w : NormalState). w.turns) g.learns.same
+        ∙ ap (λ (w : NormalState). w.turns) (acked_same links ack x home going.tied seen).0

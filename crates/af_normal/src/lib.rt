@@ -11,6 +11,7 @@ mod buffer;
 mod commands;
 mod edits;
 mod make;
+mod meetings;
 mod mixer;
 mod plays;
 mod serve;

@@ -3,7 +3,9 @@ ghost use Rattle.std.specs.Prelude.{◌≡◌, false, ◌+◌, ◌*◌, ◌<◌,
 ghost use Rattle.af_base.specs.Turn.{take_seen, track_seen};
 ghost use Rattle.af_life.specs.Edits.{is_exit};
 ghost use Rattle.af_normal.specs.AllMixed.{HasFrames};
-ghost use Rattle.af_normal.specs.Making.{IsMade, setting_of};
+ghost use Rattle.af_link.specs.declared.links.Links.{Links};
+ghost use Rattle.af_normal.specs.Making.{AreNew, IsMade, with_track};
+ghost use Rattle.af_normal.specs.Order.{IsInOrder};
 ghost use Rattle.af_normal.specs.Ready.{HaveRoom};
 
 use crate::commands::MOST_LOOKS;
@@ -31,58 +33,45 @@ pub struct TrackSetup {
     pub command: Server,
 }
 
-/// The tracks of a mixer, in order. Contracts see the list.
+/// The tracks of a mixer, in order. Contracts see what each is, its stream proxy, which is there, and its command proxy.
 #[derive(Drop)]
 pub struct Tracks {
-    list: Vec<TrackSetup>,
-}
-
-impl Model for Tracks {
-    ghost use Rattle.std.specs.Prelude.{List};
-    ghost use Rattle.af_normal.specs.declared.make.TrackSetup.{TrackSetup};
-
-    ghost Value = { List TrackSetup };
-
-    ghost view = { λ t. t.list.items };
-}
-
-impl Tracks {
-    /// No tracks.
-    pub fn empty(alloc: Global) -> Tracks
-        ensures { result ≡ [] }
-    {
-        Tracks {
-            list: Vec::new(alloc),
-        }
-    }
-
-    /// Adds a track behind the others. Memory is its only refusal, and leaves the list as it was.
-    pub fn push(&mut self, track: TrackSetup) -> Result<(), Memory>
-        ensures added { IfOk result (λ _. self.new ≡ self.old ++ track ∷ []) }
-        ensures same { IfErr result (λ _. self.new ≡ self.old) }
-    {
-        self.list.reserve(1)?;
-        self.list.push_reserved(track);
-        Ok(())
-    }
-}
-
-// The tracks by their parts.
-#[derive(Drop)]
-struct Parts {
     settings: Vec<Setting>,
     streams: Vec<Option<Server>>,
     commands: Vec<Server>,
 }
 
-fn parts_of(alloc: Global, tracks: Tracks) -> Result<Parts, Memory>
-    ensures { IfOk result (λ p. (p.settings.items ≡ map setting_of tracks) × (p.streams.items ≡ map (λ t. Some t.stream) tracks) × (p.commands.items ≡ map (λ t. t.command) tracks)) }
-{
-    let count = tracks.list.len();
-    let mut settings = Vec::with_capacity(alloc, count)?;
-    let mut streams = Vec::with_capacity(alloc, count)?;
-    let mut commands = Vec::with_capacity(alloc, count)?;
-    for track in tracks.list {
+impl Model for Tracks {
+    ghost use Rattle.std.specs.Prelude.{◌≡◌, length, is_some, All, true};
+    ghost use Rattle.af_normal.specs.Making.{TrackList};
+
+    ghost Value = { TrackList };
+
+    ghost view = { λ t. record { settings = t.settings.items; streams = t.streams.items; commands = t.commands.items } };
+
+    ghost invariant = { λ t. (length t.streams.items ≡ length t.settings.items) × (length t.commands.items ≡ length t.settings.items) × All (λ stream. is_some stream ≡ true) t.streams.items };
+}
+
+impl Tracks {
+    /// No tracks.
+    pub fn empty(alloc: Global) -> Tracks
+        ensures { result ≡ record { settings = []; streams = []; commands = [] } }
+    {
+        Tracks {
+            settings: Vec::new(alloc),
+            streams: Vec::new(alloc),
+            commands: Vec::new(alloc),
+        }
+    }
+
+    /// Adds a track behind the others. Memory is its only refusal, and leaves the lists as they were.
+    pub fn push(&mut self, track: TrackSetup) -> Result<(), Memory>
+        ensures added { IfOk result (λ _. self.new ≡ with_track track self.old) }
+        ensures same { IfErr result (λ _. self.new ≡ self.old) }
+    {
+        self.settings.reserve(1)?;
+        self.streams.reserve(1)?;
+        self.commands.reserve(1)?;
         let TrackSetup {
             fast,
             mono,
@@ -90,15 +79,11 @@ fn parts_of(alloc: Global, tracks: Tracks) -> Result<Parts, Memory>
             stream,
             command,
         } = track;
-        settings.push_reserved(Setting { fast, mono, scale });
-        streams.push_reserved(Some(stream));
-        commands.push_reserved(command);
+        self.settings.push_reserved(Setting { fast, mono, scale });
+        self.streams.push_reserved(Some(stream));
+        self.commands.push_reserved(command);
+        Ok(())
     }
-    Ok(Parts {
-        settings,
-        streams,
-        commands,
-    })
 }
 
 // So many records of tracks, each with room for the looks of a turn.
@@ -168,19 +153,20 @@ impl NormalMixer {
         reader: ReportReader,
         pipe: PipeIn,
     ) -> Result<NormalMixer, Memory>
-        requires count { (1 ≤ length tracks) × (length tracks ≤ 32) }
-        requires scales { All (λ t. t.scale ≤ 4096) tracks }
+        requires count { (1 ≤ length tracks.settings) × (length tracks.settings ≤ 32) }
+        requires scales { All (λ setting. setting.scale ≤ 4096) tracks.settings }
         requires sizes { (1 ≤ frames) × (frames ≤ 1024) × (1 ≤ normal) × (normal ≤ 16) }
         requires none { is_exit mutator.past.last ≡ false }
         ensures made { IfOk result (IsMade frames normal tracks mutator reader pipe) }
+        ensures order { (links : Links) → AreNew links frames normal tracks mutator reader pipe → IfOk result (IsInOrder links) }
     {
-        let count = tracks.list.len();
-        let asked = (normal * frames) as usize;
-        let Parts {
+        let Tracks {
             settings,
             streams,
             commands,
-        } = parts_of(alloc, tracks)?;
+        } = tracks;
+        let count = settings.len();
+        let asked = (normal * frames) as usize;
         Ok(NormalMixer {
             frames,
             normal,

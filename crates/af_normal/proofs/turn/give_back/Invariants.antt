@@ -1,8 +1,8 @@
 use Rattle.std.proofs.Common.{◌≡◌, ◌+◌, ◌++◌, length, reverse, take, drop}
 use Rattle.af_normal.proofs.turn.give_back.Given as goal
 
-abbrev pub invariant-loop-_moved : goal.invariant-loop-_moved
-invariant-loop-_moved g l = record {
+abbrev pub invariant-loop-moved : goal.invariant-loop-moved
+invariant-loop-moved g l = record {
   from : l.from ≡ record l.fn.from { items = l.from.items };
   to : l.to ≡ record l.fn.to { items = l.to.items };
   front : take (length l.fn.to.items) l.to.items ≡ l.fn.to.items;

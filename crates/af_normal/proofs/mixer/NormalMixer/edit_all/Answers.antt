@@ -1,4 +1,4 @@
-use Rattle.std.proofs.Common.{◌≡◌, ℕ, ◌+◌, ◌^◌, ◌<◌, ◌||◌, suc, length, refl, sym, ap, ◌∙◌, subst, arith}
+use Rattle.std.proofs.Common.{Bool, ◌≡◌, ℕ, ◌+◌, ◌^◌, ◌<◌, ◌||◌, suc, length, refl, sym, ap, ◌∙◌, subst, arith}
 use Rattle.af_normal.specs.Mutating.{EditsTo, EditsTrack}
 use Rattle.af_normal.specs.Order.{IsOpen}
 use Rattle.af_normal.specs.State.{NormalState}
@@ -43,5 +43,5 @@ loop-i-preserved c =
       edits = subst (λ (n : ℕ). EditsTo n c.args.self.now y) next (x, v.edits, one);
       may = (v.may.0 + 1, (let r = v.may.1 in omega arith), edit_keeps c.args.links.now v.may.0 i x v.may.2 y one);
       long = edited_long i x y one ∙ v.long;
-      edited = ?;
+      edited = ap (λ (b : Bool). b || c.edit-here.result) v.edited ∙ sym c.edit-here.ensures.edited;
     }

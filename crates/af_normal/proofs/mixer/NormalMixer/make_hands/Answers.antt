@@ -32,7 +32,7 @@ split_hand-requires g c =
     let on = c.loop-i-test.true in
     let v = c.loop-i.invariant in
     let lt : c.loop-i.i < length c.args.self.now.tracks = omega arith in
-    let w : HasWhole c.args.links.now.streams.now c.loop-i.i c.args.self.now.streams = c.requires.whole (none_of_zero c.args.self.now.hands (ap (λ (m : NormalState). length m.hands == 0) (sym c.self.view_is) ∙ sym (c.if-not-is_empty.ensures tt))) c.loop-i.i lt in
+    let w : HasWhole c.args.links.now.streams.now c.loop-i.i c.args.self.now.streams = c.requires.whole (none_of_zero c.args.self.now.hands (ap (λ (m : NormalState). length m.hands == 0) (sym c.self.view_is) ∙ sym c.if-not-is_empty.ensures)) c.loop-i.i lt in
     let tracks = v.tracks in
     let streams = v.streams in
     let sizes = c.requires.sizes in
@@ -51,6 +51,6 @@ returns g c =
     let all : c.loop-i.i ≡ length c.args.self.now.tracks = omega arith in
     record {
       hands = on_true (length c.args.self.now.hands == 0) (HandsTo (length c.args.self.now.tracks) c.args.self.now c.loop-i.self) (c.loop-i.self ≡ c.args.self.now)
-          (ap (λ (m : NormalState). length m.hands == 0) (sym c.self.view_is) ∙ sym (c.if-not-is_empty.ensures tt))
+          (ap (λ (m : NormalState). length m.hands == 0) (sym c.self.view_is) ∙ sym c.if-not-is_empty.ensures)
           (subst (λ (n : ℕ). HandsTo n c.args.self.now c.loop-i.self) all c.loop-i.invariant.made);
     }

@@ -1,0 +1,100 @@
+-- What the meetings of the mixer's ends and proxies come to.
+use Rattle.std.specs.Prelude.{◌≡◌, ℕ, ◌+◌, true, false, List, [], ◌∷◌, ◌++◌, length, slice_get, slice_set, MatchOption, Option, Some, None}
+use Rattle.af_base.specs.declared.event.HandEvent.{HandEvent}
+use Rattle.af_base.specs.declared.event.ServerEvent.TheVariants as takes
+use Rattle.af_model.specs.History.{is_lawful, HasHistory}
+use Rattle.af_model.specs.declared.newest.ReaderEvent.TheVariants as reads
+use Rattle.af_model.specs.declared.newest.WriterEvent.TheVariants as writes
+use Rattle.af_model.specs.declared.states.MutatorEvent.TheVariants as mutates
+use Rattle.af_model.specs.declared.states.ObserverEvent.TheVariants as observes
+use Rattle.af_cblk.specs.Parts.{client_met, server_did, hand_met}
+use Rattle.af_cblk.specs.Sides.{HandSide, client_made, hand_made, server_made}
+use Rattle.af_client.specs.Order.{ClientState, IsInOrder as IsClientInOrder}
+use Rattle.af_server.specs.Order.{ServerState}
+use Rattle.af_stateq.specs.Observes.{Observes}
+use Rattle.af_link.specs.PipeEnds.{InSide, OutSide}
+use Rattle.af_link.specs.Reports.{ReaderSide, WriterSide}
+use Rattle.af_link.specs.declared.links.Links.{Links}
+use Rattle.af_link.specs.declared.names.StreamNames.{StreamNames}
+use Rattle.af_normal.specs.Mixing.{stream_at}
+use Rattle.af_normal.specs.State.{NormalState}
+
+-- ## The ends
+
+-- the reader and the pipe's end learnt what the other ends have done so far
+abbrev pub ends_met : NormalState → WriterSide → OutSide → NormalState
+ends_met m w out = record m {
+  reader = record m.reader { events = m.reader.events ++ reads.Learn (length w.events) ∷ [] };
+  pipe = record m.pipe { pass = record m.pipe.pass { part = client_met m.pipe.pass.part out.pass.part.events } };
+}
+
+-- and those what the mixer's ends have done
+abbrev pub writer_met : NormalState → WriterSide → WriterSide
+writer_met m w = record w { events = w.events ++ writes.Learn (length m.reader.events) ∷ [] }
+
+abbrev pub out_met : NormalState → OutSide → OutSide
+out_met m out = record out { pass = record out.pass { part = server_did out.pass.part (takes.Learn (length m.pipe.pass.part.events)) } }
+
+-- the mutator learnt what an observer has done so far
+abbrev pub queue_met : NormalState → Observes ServerState StreamNames → NormalState
+queue_met m o = record m { mutator = record m.mutator { past = record m.mutator.past { events = m.mutator.past.events ++ mutates.Learn (length o.past.events) ∷ [] } } }
+
+-- and the observer what the mutator has done
+abbrev pub observer_met : NormalState → Observes ServerState StreamNames → Observes ServerState StreamNames
+observer_met m o = record o { past = record o.past { events = o.past.events ++ observes.Learn (length m.mutator.past.events) ∷ [] } }
+
+-- ## The proxies of a track
+
+-- the two clients of the track i are of its blocks, and in order
+pub record AreClientsOf (links : Links) (i : ℕ) (stream command : ClientState) : Type 0 where
+  pub stream_is : slice_get links.streams.now i ≡ Some (client_made stream.pass)
+  pub command_is : slice_get links.commands.now i ≡ Some (client_made command.pass)
+  pub in_order : IsClientInOrder stream × IsClientInOrder command
+
+-- a proxy that learnt what its client has done so far, and the client what the proxy has done
+abbrev pub server_knows : ServerState → ClientState → ServerState
+server_knows s c = record s { pass = record s.pass { part = server_did s.pass.part (takes.Learn (length c.pass.part.events)) } }
+
+abbrev pub client_knows : ClientState → ServerState → ClientState
+client_knows c s = record c { pass = record c.pass { part = client_met c.pass.part s.pass.part.events } }
+
+-- the same of a proxy whose hand is elsewhere
+abbrev pub server_alone : ServerState → ClientState → ServerState
+server_alone s c = record s { pass = record s.pass { part = server_did s.pass.part (takes.Learn (length c.pass.part.events)); has_hand = false } }
+
+-- Where the client has not poked, the lists of the two have a history, and the proxy wasn't shut
+pub record HaveHistory (s t : ServerState) (c d : ClientState) (hand : List HandEvent) : Type 0 where
+  pub history : HasHistory s.pass.part.shape d.pass.part.events d.pass.part.frames t.pass.part.events t.pass.part.frames hand
+  pub unshut : s.shut ≡ None
+
+-- the proxy s met its client, and is t then; where it still has its hand, that has done nothing
+pub record Meets (s t : ServerState) (c d : ClientState) : Type 0 where
+  pub server : t ≡ server_knows s c
+  pub client : d ≡ client_knows c s
+  pub history : is_lawful c.pass.part.events ≡ true → (hand : List HandEvent) × (s.pass.has_hand ≡ true → hand ≡ []) × HaveHistory s t c d hand
+
+-- the proxy met its client and its hand
+pub record MeetsAll (s t : ServerState) (c d : ClientState) (h g : HandSide) : Type 0 where
+  pub server : t ≡ server_alone s c
+  pub client : d ≡ client_knows c s
+  pub hand : g.part ≡ hand_met h.part (length c.pass.part.events + 1)
+  pub made : hand_made g ≡ hand_made h
+  pub history : is_lawful c.pass.part.events ≡ true → HaveHistory s t c d g.part.events
+
+-- a stream proxy that is there meets its client, and its hand where that was split off
+abbrev pub MeetsStream : Option ServerState → Option HandSide → ClientState → Option ServerState → Option HandSide → ClientState → Type 0
+MeetsStream None h c s' h' d = (s' ≡ None) × (h' ≡ h) × (d ≡ c)
+MeetsStream (Some s) None c s' h' d = (t : ServerState) × (s' ≡ Some t) × (h' ≡ None) × Meets s t c d
+MeetsStream (Some s) (Some h) c s' h' d = (t : ServerState) × (g : HandSide) × (s' ≡ Some t) × (h' ≡ Some g) × MeetsAll s t c d h g
+
+-- The proxies of the track i meet their clients, and nothing else changes
+pub record MeetsTrack (i : ℕ) (x y : NormalState) (stream command stream' command' : ClientState) : Type 0 where
+  pub server : ServerState
+  pub has_server : slice_get x.commands i ≡ Some server
+  pub server' : ServerState
+  pub commands : y.commands ≡ slice_set x.commands i server'
+  pub met : Meets server server' command command'
+  pub streamed : MeetsStream (stream_at x.streams i) (slice_get x.hands i) stream (stream_at y.streams i) (slice_get y.hands i) stream'
+  pub streams : y.streams ≡ slice_set x.streams i (stream_at y.streams i)
+  pub hands : (j : ℕ) → (j ≡ i → ⊥) → slice_get y.hands j ≡ slice_get x.hands j
+  pub same : y ≡ record x { commands = y.commands; streams = y.streams; hands = y.hands }
