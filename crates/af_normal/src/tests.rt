@@ -1,4 +1,13 @@
 //! The mixer by calls on real blocks, a queue and a pipe, with lists in place of a session: a table of steps, with what each of them tells. What the fast mixer reports is told by the table.
+ghost use Rattle.std.specs.Prelude.{◌≡◌, ◌+◌, ◌*◌, ◌<◌, ◌≤◌, length, All, IfOk};
+ghost use Rattle.af_client.specs.Order.{IsClientOf};
+ghost use Rattle.af_link.specs.PipeEnds.{out_made};
+ghost use Rattle.af_link.specs.Reports.{last_cycle};
+ghost use Rattle.af_link.specs.declared.links.Links.{Links as Linked};
+ghost use Rattle.af_normal.specs.Making.{AreNew};
+ghost use Rattle.af_normal.specs.Order.{IsInOrder};
+ghost use Rattle.af_normal.specs.Testing.{AreClients, AreLines, AreOthers, IsLine, IsWorld};
+
 use crate::{NormalMixer, TrackSetup, Tracks, Turn};
 use af_base::{
     FastTrack, Frame, Memory, Push, Report, SLOTS, SlotReport, Steps, TurnEntry,
@@ -7,12 +16,12 @@ use af_cblk::Block;
 use af_client::{Client, Sent};
 use af_life::{OPEN, PAUSE, REMOVE, START, STOP};
 use af_link::{
-    Links, PipeOut, ReportCell, ReportWriter, StreamNames, first_report, no_slot, pipe, report,
-    stream_names,
+    Links, PipeIn, PipeOut, ReportCell, ReportReader, ReportWriter, StreamNames, first_report,
+    no_slot, pipe, report, stream_names,
 };
 use af_model::{Poll, carries_item};
 use af_server::Server;
-use af_stateq::{Observer, Queue, queue};
+use af_stateq::{Mutator, Observer, Queue, queue};
 use std::alloc::Global;
 use std::marker::Brand;
 use std::sync::ledger::{Blank, Ledger};
@@ -45,7 +54,13 @@ pub(crate) struct Shared {
 
 impl Shared {
     /// The links of a test.
-    pub(crate) fn links(&self) -> Links<'_> {
+    pub(crate) fn links(&self) -> Links<'_>
+        ensures queue { result.queue.now ≡ self.now.queue }
+        ensures streams { result.streams.now ≡ self.now.streams.items }
+        ensures commands { result.commands.now ≡ self.now.commands.items }
+        ensures pipe { result.pipe.now ≡ self.now.pipe }
+        ensures report { result.report.now ≡ self.now.report }
+    {
         Links {
             queue: &self.queue,
             streams: &self.streams,
@@ -56,10 +71,19 @@ impl Shared {
     }
 }
 
-/// What a test moves: the mixer, the ends of the other mixer, the report that it stored last, and the clients.
+/// What a mixer and its world are made of.
 #[derive(Drop)]
-pub(crate) struct World {
-    pub mixer: NormalMixer,
+pub(crate) struct Parts {
+    tracks: Tracks,
+    mutator: Mutator<Server, StreamNames>,
+    reader: ReportReader,
+    from: PipeIn,
+    others: Others,
+}
+
+/// The ends of the other mixer, the report that it stored last, and the clients.
+#[derive(Drop)]
+pub(crate) struct Others {
     pub observer: Observer<Server, StreamNames>,
     pub writer: ReportWriter,
     pub pipe: PipeOut,
@@ -68,7 +92,14 @@ pub(crate) struct World {
     pub commands: Vec<Client>,
 }
 
-/// What a test does next. Frames are multiples of (1, 1), or as many mono ones.
+/// What a test moves.
+#[derive(Drop)]
+pub(crate) struct World {
+    pub mixer: NormalMixer,
+    pub others: Others,
+}
+
+/// What a test does next. Frames are the first multiples of (1, 1).
 #[derive(Clone, Copy)]
 pub(crate) enum Step {
     Send {
@@ -167,7 +198,10 @@ fn client_does<L: Ledger>(
     block: &Block,
     step: Step,
     steps: &mut Steps<L>,
-) -> Told {
+) -> Told
+    requires { IsClientOf block.now client.old }
+    ensures { IsClientOf block.now client.new }
+{
     let _wrap = block.wrap();
     match step {
         Step::Write { count, .. } if count >= 1 && client.released() < 100_000 => {
@@ -205,7 +239,10 @@ fn track_does<L: Ledger>(
     track: usize,
     step: Step,
     steps: &mut Steps<L>,
-) -> Told {
+) -> Told
+    requires { AreClients blocks.now clients.old }
+    ensures { AreClients blocks.now clients.new }
+{
     if track >= blocks.len() {
         return Told::Done;
     }
@@ -246,66 +283,76 @@ fn slot_of(observer: &Observer<Server, StreamNames>, slot: usize) -> Told {
     }
 }
 
-impl World {
-    // Stores the report with this of a slot.
-    fn reports<L: Ledger>(
-        &mut self,
-        links: &Links<'_>,
-        slot: usize,
-        report: SlotReport,
-        steps: &mut Steps<L>,
-    ) {
-        if slot >= SLOTS || self.report.cycle > 100_000 {
-            return;
-        }
-        self.report.cycle += 1;
-        self.report.slots[slot] = report;
-        self.writer.store(links.report, &self.report, steps);
+// Takes up to four frames out of the pipe.
+fn hears<L: Ledger>(pipe: &mut PipeOut, links: &Links<'_>, steps: &mut Steps<L>) -> Told
+    requires { out_made pipe.old ≡ links.now.pipe.now }
+    ensures { out_made pipe.new ≡ links.now.pipe.now }
+{
+    let mut frames = [NO_FRAME; 4];
+    let count = pipe.look(links.pipe, 4, steps);
+    if count >= 1 {
+        pipe.take(links.pipe, &mut frames[..count as usize], steps);
     }
+    Told::Heard { count, frames }
+}
 
-    // Takes up to four frames out of the pipe.
-    fn hears<L: Ledger>(&mut self, links: &Links<'_>, steps: &mut Steps<L>) -> Told {
-        let mut frames = [NO_FRAME; 4];
-        let count = self.pipe.look(links.pipe, 4, steps);
-        if count >= 1 {
-            self.pipe
-                .take(links.pipe, &mut frames[..count as usize], steps);
-        }
-        Told::Heard { count, frames }
+// Stores the report with this of a slot.
+fn reports_slot<L: Ledger>(
+    writer: &mut ReportWriter,
+    last: &mut Report,
+    links: &Links<'_>,
+    slot: usize,
+    report: SlotReport,
+    steps: &mut Steps<L>,
+)
+    requires { (writer.old.cell ≡ links.now.report.now) × (last_cycle writer.old.events ≡ last.old.cycle) }
+    ensures { (writer.new.cell ≡ links.now.report.now) × (last_cycle writer.new.events ≡ last.new.cycle) }
+{
+    if slot >= SLOTS || last.cycle > 100_000 {
+        return;
     }
+    last.cycle += 1;
+    last.slots[slot] = report;
+    writer.store(links.report, last, steps);
+}
 
-    // What the fast mixer and the mixer do.
-    fn mixers_do<L: Ledger>(
+impl Others {
+    // What the fast mixer does.
+    fn fast_does<L: Ledger>(
         &mut self,
         links: &Links<'_>,
         step: Step,
         steps: &mut Steps<L>,
-    ) -> Told {
+    ) -> Told
+        requires { AreOthers links.now self.old.observer self.old.writer self.old.pipe self.old.report self.old.streams.items self.old.commands.items }
+        ensures { AreOthers links.now self.new.observer self.new.writer self.new.pipe self.new.report self.new.streams.items self.new.commands.items }
+    {
         match step {
             Step::Poll if self.observer.number() < 100_000 => Told::Polled {
                 poll: self.observer.poll(links.queue, steps),
             },
-            Step::Turn { track } if self.mixer.turns() < 100_000 => {
-                let turn = self.mixer.turn(links, steps);
-                turned(self.mixer.last(), track, turn)
-            }
             Step::Report { slot, report } => {
-                self.reports(links, slot, report, steps);
+                reports_slot(
+                    &mut self.writer,
+                    &mut self.report,
+                    links,
+                    slot,
+                    report,
+                    steps,
+                );
                 Told::Done
             }
-            Step::Hear => self.hears(links, steps),
+            Step::Hear => hears(&mut self.pipe, links, steps),
             Step::Slot { slot } => slot_of(&self.observer, slot),
             _ => Told::Done,
         }
     }
 
-    /// Makes a step.
-    pub(crate) fn does<L: Ledger>(
-        &mut self,
-        links: &Links<'_>,
-        step: Step,
-        steps: &mut Steps<L>,
-    ) -> Told {
+    // Makes a step that is none of the mixer's.
+    fn does<L: Ledger>(&mut self, links: &Links<'_>, step: Step, steps: &mut Steps<L>) -> Told
+        requires { AreOthers links.now self.old.observer self.old.writer self.old.pipe self.old.report self.old.streams.items self.old.commands.items }
+        ensures { AreOthers links.now self.new.observer self.new.writer self.new.pipe self.new.report self.new.streams.items self.new.commands.items }
+    {
         match step {
             Step::Send { track, .. }
             | Step::Status { track }
@@ -320,13 +367,36 @@ impl World {
             | Step::Clear { track } => {
                 track_does(&mut self.streams, links.streams, track, step, steps)
             }
-            _ => self.mixers_do(links, step, steps),
+            _ => self.fast_does(links, step, steps),
+        }
+    }
+}
+
+impl World {
+    /// Makes a step.
+    pub(crate) fn does<L: Ledger>(
+        &mut self,
+        links: &Links<'_>,
+        step: Step,
+        steps: &mut Steps<L>,
+    ) -> Told
+        requires { IsWorld links.now self.old.mixer self.old.others.observer self.old.others.writer self.old.others.pipe self.old.others.report self.old.others.streams.items self.old.others.commands.items }
+        ensures { IsWorld links.now self.new.mixer self.new.others.observer self.new.others.writer self.new.others.pipe self.new.others.report self.new.others.streams.items self.new.others.commands.items }
+    {
+        match step {
+            Step::Turn { track } if self.mixer.turns() < 100_000 => {
+                let turn = self.mixer.turn(links, steps);
+                turned(self.mixer.last(), track, turn)
+            }
+            _ => self.others.does(links, step, steps),
         }
     }
 }
 
 // A block of some frames with its proxies.
-fn line(alloc: Global, frames: u32) -> Result<(Block, Client, Server), Memory> {
+fn line(alloc: Global, frames: u32) -> Result<(Block, Client, Server), Memory>
+    ensures { IfOk result (λ l. IsLine l.0 l.1 l.2) }
+{
     let (block, client, server) = Block::make(alloc, frames.max(1).min(65536), 0)?;
     let client = Client::with(client, &block);
     let server = Server::with(server, &block);
@@ -343,58 +413,72 @@ struct Lines {
     tracks: Tracks,
 }
 
-fn make_lines(alloc: Global, kinds: &[Kind]) -> Result<Lines, Memory> {
-    let mut streams = Vec::new(alloc);
-    let mut commands = Vec::new(alloc);
-    let mut clients = Vec::new(alloc);
-    let mut senders = Vec::new(alloc);
-    let mut tracks = Tracks::empty(alloc);
-    for kind in kinds {
+impl Lines {
+    // A track more.
+    fn add(&mut self, alloc: Global, kind: Kind) -> Result<(), Memory>
+        requires { AreLines (length self.old.streams.items) self.old.streams.items self.old.commands.items self.old.clients.items self.old.senders.items self.old.tracks }
+        ensures { IfOk result (λ _. (length self.new.streams.items ≡ length self.old.streams.items + 1) × AreLines (length self.new.streams.items) self.new.streams.items self.new.commands.items self.new.clients.items self.new.senders.items self.new.tracks) }
+    {
         let (block, client, stream) = line(alloc, kind.frames)?;
         let (control, sender, command) = line(alloc, 128)?;
-        streams.push(block)?;
-        commands.push(control)?;
-        clients.push(client)?;
-        senders.push(sender)?;
-        tracks.push(TrackSetup {
+        self.streams.push(block)?;
+        self.commands.push(control)?;
+        self.clients.push(client)?;
+        self.senders.push(sender)?;
+        self.tracks.push(TrackSetup {
             fast: kind.fast,
             mono: kind.mono,
             scale: 0x1000,
             stream,
             command,
-        })?;
+        })
     }
-    Ok(Lines {
-        streams,
-        commands,
-        clients,
-        senders,
-        tracks,
-    })
 }
 
-/// A mixer of one to 32 tracks, on `frames` frames a fast cycle and `normal` cycles a buffer, with all that it works on.
+fn make_lines(alloc: Global, kinds: &[Kind]) -> Result<Lines, Memory>
+    ensures { IfOk result (λ l. AreLines (length kinds.now) l.streams.items l.commands.items l.clients.items l.senders.items l.tracks) }
+{
+    let mut lines = Lines {
+        streams: Vec::new(alloc),
+        commands: Vec::new(alloc),
+        clients: Vec::new(alloc),
+        senders: Vec::new(alloc),
+        tracks: Tracks::empty(alloc),
+    };
+    for kind in kinds {
+        lines.add(alloc, *kind)?;
+    }
+    Ok(lines)
+}
+
+/// The parts of a mixer of one to 32 tracks, on `frames` frames a fast cycle and `normal` cycles a buffer, with all that it works on.
 pub(crate) fn begin(
     alloc: Global,
     kinds: &[Kind],
     frames: u32,
     normal: u32,
-) -> Result<(Shared, World), Memory> {
+) -> Result<(Shared, Parts), Memory>
+    requires sizes { (1 ≤ frames) × (frames ≤ 1024) × (1 ≤ normal) × (normal ≤ 16) }
+    ensures {
+        (links : Linked) → IfOk result (λ r. links.queue.now ≡ r.0.queue → links.streams.now ≡ r.0.streams.items → links.commands.now ≡ r.0.commands.items → links.pipe.now ≡ r.0.pipe → links.report.now ≡ r.0.report
+            → AreNew links frames normal r.1.tracks r.1.mutator r.1.reader r.1.from
+            × (length r.1.tracks.settings ≡ length kinds.now) × All (λ setting. setting.scale ≤ 4096) r.1.tracks.settings
+            × AreOthers links r.1.others.observer r.1.others.writer r.1.others.pipe r.1.others.report r.1.others.streams.items r.1.others.commands.items)
+    }
+{
     let lines = make_lines(alloc, kinds)?;
     let names = stream_names(&lines.streams);
     let (queue, mutator, observer) = queue::<Server, StreamNames>(alloc, frames, names)?;
-    let (block, from, to) = pipe(alloc, 4 * frames * normal)?;
+    let (pipe, from, to) = pipe(alloc, 4 * (normal * frames))?;
     let (report, writer, reader) = report(alloc)?;
-    let mixer = NormalMixer::make(alloc, frames, normal, lines.tracks, mutator, reader, from)?;
     let shared = Shared {
         queue,
-        pipe: block,
+        pipe,
         report,
         streams: lines.streams,
         commands: lines.commands,
     };
-    let world = World {
-        mixer,
+    let others = Others {
         observer,
         writer,
         pipe: to,
@@ -402,22 +486,60 @@ pub(crate) fn begin(
         streams: lines.clients,
         commands: lines.senders,
     };
-    Ok((shared, world))
+    let parts = Parts {
+        tracks: lines.tracks,
+        mutator,
+        reader,
+        from,
+        others,
+    };
+    Ok((shared, parts))
 }
 
-// Makes the steps of a table, and answers how many told what they should.
+impl Parts {
+    /// The mixer, with the others.
+    pub(crate) fn join(
+        self,
+        alloc: Global,
+        links: &Links<'_>,
+        frames: u32,
+        normal: u32,
+    ) -> Result<World, Memory>
+        requires sizes { (1 ≤ frames) × (frames ≤ 1024) × (1 ≤ normal) × (normal ≤ 16) }
+        requires count { (1 ≤ length self.tracks.settings) × (length self.tracks.settings ≤ 32) }
+        requires scales { All (λ setting. setting.scale ≤ 4096) self.tracks.settings }
+        requires new { AreNew links.now frames normal self.tracks self.mutator self.reader self.from }
+        requires others { AreOthers links.now self.others.observer self.others.writer self.others.pipe self.others.report self.others.streams.items self.others.commands.items }
+        ensures { IfOk result (λ w. IsWorld links.now w.mixer w.others.observer w.others.writer w.others.pipe w.others.report w.others.streams.items w.others.commands.items) }
+    {
+        let Parts {
+            tracks,
+            mutator,
+            reader,
+            from,
+            others,
+        } = self;
+        let mixer = NormalMixer::make(alloc, frames, normal, tracks, mutator, reader, from)?;
+        Ok(World { mixer, others })
+    }
+}
+
+// Whether each step of a table tells what it should.
 fn play_all<L: Ledger>(
     mut world: World,
     links: &Links<'_>,
     rows: &[Row],
     steps: &mut Steps<L>,
-) -> usize {
-    let mut right = 0;
+) -> bool
+    requires { IsWorld links.now world.mixer world.others.observer world.others.writer world.others.pipe world.others.report world.others.streams.items world.others.commands.items }
+{
     for (step, wanted) in rows {
         let told = world.does(links, *step, steps);
-        right += usize::from(told == *wanted);
+        if told != *wanted {
+            return false;
+        }
     }
-    right
+    true
 }
 
 fn plays_in<L: Ledger>(
@@ -427,13 +549,20 @@ fn plays_in<L: Ledger>(
     frames: u32,
     normal: u32,
     rows: &[Row],
-) -> Result<usize, Memory> {
+) -> Result<bool, Memory>
+    requires name { blank.name ≡ L.name }
+    requires parts { (blank.parts ≡ L.parts) × (0 < blank.parts) }
+    requires sizes { (1 ≤ frames) × (frames ≤ 1024) × (1 ≤ normal) × (normal ≤ 16) }
+    requires count { (1 ≤ length kinds.now) × (length kinds.now ≤ 32) }
+{
     let mut steps = Steps::<L>::start(blank);
-    let (shared, world) = begin(alloc, kinds, frames, normal)?;
-    Ok(play_all(world, &shared.links(), rows, &mut steps))
+    let (shared, parts) = begin(alloc, kinds, frames, normal)?;
+    let links = shared.links();
+    let world = parts.join(alloc, &links, frames, normal)?;
+    Ok(play_all(world, &links, rows, &mut steps))
 }
 
-// Whether each step of a table over new blocks told what it should.
+// Whether each step of a table over new blocks tells what it should, for one to 32 tracks and up to 1,024 frames a cycle and 16 cycles a buffer.
 fn plays(
     alloc: Global,
     kinds: &[Kind],
@@ -441,11 +570,12 @@ fn plays(
     normal: u32,
     rows: &[Row],
 ) -> Result<bool, Memory> {
-    let right = plays_in::<Brand>(alloc, Blank::new(1), kinds, frames, normal, rows)?;
-    Ok(right == rows.len())
+    if kinds.is_empty() || kinds.len() > 32 {
+        return Ok(false);
+    }
+    let (frames, normal) = (frames.max(1).min(1024), normal.max(1).min(16));
+    plays_in::<Brand>(alloc, Blank::new(1), kinds, frames, normal, rows)
 }
-
-// ## Rows
 
 fn sends(track: usize, code: u32, argument: u32) -> Row {
     let step = Step::Send {
@@ -536,14 +666,36 @@ fn pushed(number: u64) -> Push {
     Push::Pushed { number }
 }
 
+// The push after the state of this number isn't acknowledged, which is seen as the last one.
+fn busy(seen: u32) -> Push {
+    Push::Busy {
+        seen,
+        expected: seen.wrapping_add(1),
+    }
+}
+
+// A rear is stored out of turn.
+fn pokes(command: bool) -> Row {
+    done(Step::Poke {
+        track: 0,
+        command,
+        rear: 1000,
+    })
+}
+
+fn both(side: i16) -> Frame {
+    Frame {
+        left: side,
+        right: side,
+    }
+}
+
 // Four frames are heard, of which these are the samples of either side.
-fn hears(samples: [i16; 4]) -> Row {
+fn heard(samples: [i16; 4]) -> Row {
+    let [a, b, c, d] = samples;
     let told = Told::Heard {
         count: 4,
-        frames: samples.map(|side| Frame {
-            left: side,
-            right: side,
-        }),
+        frames: [both(a), both(b), both(c), both(d)],
     };
     (Step::Hear, told)
 }
@@ -618,7 +770,6 @@ fn an_exit_waits_for_the_proxy(rt: HostRuntime) {
 // The second track opens before the detach of the first one is acknowledged, and the third after it.
 #[test]
 fn a_slot_is_free_once_its_proxy_is_home(rt: HostRuntime) {
-    let busy = |seen, expected| Push::Busy { seen, expected };
     let rows = [
         sends(0, OPEN, 0),
         sends(0, START, 0),
@@ -628,12 +779,12 @@ fn a_slot_is_free_once_its_proxy_is_home(rt: HostRuntime) {
         turns(0, pushed(2), Some(770)),
         sends(1, OPEN, 0),
         sends(1, START, 0),
-        turns(1, busy(1, 2), Some(514)),
+        turns(1, busy(1), Some(514)),
         polls(2),
         turns(1, pushed(3), None),
         sends(2, OPEN, 0),
         sends(2, START, 0),
-        turns(2, busy(2, 3), Some(514)),
+        turns(2, busy(2), Some(514)),
         polls(3),
         has_slot(1, false, 0, 1),
         has_slot(2, true, 1, 1),
@@ -679,13 +830,12 @@ fn disabled() -> Told {
     }
 }
 
-#[test]
-fn fifty_underruns_disable_once(rt: HostRuntime) {
-    let mut rows = vec![in rt.alloc(); sends(0, OPEN, 0), sends(0, START, 0), turns(0, pushed(1), Some(514)), polls(1)]
-        .unwrap();
-    for empties in 1..50 {
-        rows.push(reports(1, 0, 0, [0, empties])).unwrap();
-        rows.push(turns(0, Push::Clean, None)).unwrap();
+// Whether fifty underruns in a row disable the track, once.
+fn fifty_underruns(alloc: Global) -> Result<bool, Memory> {
+    let mut rows = vec![in alloc; sends(0, OPEN, 0), sends(0, START, 0), turns(0, pushed(1), Some(514)), polls(1)]?;
+    for empties in 1..50u32 {
+        rows.push(reports(1, 0, 0, [0, empties]))?;
+        rows.push(turns(0, Push::Clean, None))?;
     }
     let last = [
         reports(1, 0, 0, [0, 50]),
@@ -698,9 +848,14 @@ fn fifty_underruns_disable_once(rt: HostRuntime) {
         turns(0, pushed(3), Some(770)),
     ];
     for row in last {
-        rows.push(row).unwrap();
+        rows.push(row)?;
     }
-    assert!(rt; plays(rt.alloc(), &[FAST], 1, 1, &rows) == Ok(true));
+    plays(alloc, &[FAST], 1, 1, &rows)
+}
+
+#[test]
+fn fifty_underruns_disable_once(rt: HostRuntime) {
+    assert!(rt; fifty_underruns(rt.alloc()) == Ok(true));
 }
 
 // A normal track is mixed by whole buffers, each where the pipe has room for it.
@@ -718,10 +873,10 @@ fn a_normal_track_is_mixed_here(rt: HostRuntime) {
         clears(1),
         writes(0, 5),
         mixes(0, Push::Clean, None),
-        hears([0, 0, 0, 0]),
-        hears([1, 2, 3, 4]),
+        heard([0, 0, 0, 0]),
+        heard([1, 2, 3, 4]),
         mixes(0, Push::Clean, None),
-        hears([5, 0, 0, 0]),
+        heard([5, 0, 0, 0]),
     ];
     assert!(rt; plays(rt.alloc(), &[normal], 2, 2, &rows) == Ok(true));
     let (none, some) = (turns(0, Push::Clean, None), mixes(0, Push::Clean, None));
@@ -733,9 +888,9 @@ fn a_normal_track_is_mixed_here(rt: HostRuntime) {
         some,
         some,
         none,
-        hears([0; 4]),
+        heard([0; 4]),
         none,
-        hears([0; 4]),
+        heard([0; 4]),
         some,
         none,
     ];
@@ -749,24 +904,17 @@ fn a_shut_block_ends_its_track(rt: HostRuntime) {
         fast: false,
         ..FAST
     };
-    let poke = |command| {
-        done(Step::Poke {
-            track: 0,
-            command,
-            rear: 1000,
-        })
-    };
     let rows = [
         sends(0, OPEN, 0),
         sends(0, START, 0),
         mixes(0, pushed(1), Some(514)),
-        poke(false),
+        pokes(false),
         mixes(0, Push::Clean, None),
         turns(0, Push::Clean, Some(527)),
         clears(5),
         turns(0, Push::Clean, None),
-        hears([0; 4]),
-        hears([0; 4]),
+        heard([0; 4]),
+        heard([0; 4]),
         polls(1),
         turns(0, pushed(2), None),
     ];
@@ -774,7 +922,7 @@ fn a_shut_block_ends_its_track(rt: HostRuntime) {
     let rows = [
         sends(0, OPEN, 0),
         turns(0, Push::Clean, Some(257)),
-        poke(true),
+        pokes(true),
         turns(0, pushed(1), Some(271)),
         clears(4),
         polls(1),
@@ -783,23 +931,27 @@ fn a_shut_block_ends_its_track(rt: HostRuntime) {
     assert!(rt; plays(rt.alloc(), &[FAST], 2, 2, &rows) == Ok(true));
 }
 
-// All slots are taken, so the last fast track is mixed here.
-#[test]
-fn a_fast_track_without_a_slot_is_mixed_here(rt: HostRuntime) {
-    let mut rows = Vec::new(rt.alloc());
-    for track in 0..32 {
-        rows.push(sends(track, OPEN, 0)).unwrap();
-        rows.push(sends(track, START, 0)).unwrap();
+// Whether the last of 32 fast tracks, for which no slot is left, is mixed here.
+fn full_house(alloc: Global) -> Result<bool, Memory> {
+    let mut rows = Vec::new(alloc);
+    for track in 0..32usize {
+        rows.push(sends(track, OPEN, 0))?;
+        rows.push(sends(track, START, 0))?;
     }
     let last = [
         writes(31, 5),
         mixes(31, pushed(1), Some(514)),
         polls(1),
         has_slot(31, true, 30, 1),
-        hears([1, 2, 3, 4]),
+        heard([1, 2, 3, 4]),
     ];
     for row in last {
-        rows.push(row).unwrap();
+        rows.push(row)?;
     }
-    assert!(rt; plays(rt.alloc(), &[FAST; 32], 4, 1, &rows) == Ok(true));
+    plays(alloc, &[FAST; 32], 4, 1, &rows)
+}
+
+#[test]
+fn a_fast_track_without_a_slot_is_mixed_here(rt: HostRuntime) {
+    assert!(rt; full_house(rt.alloc()) == Ok(true));
 }
