@@ -1,5 +1,5 @@
 -- A turn begins in order: the last entry's lists are empty again, and the hands are there.
-use Rattle.std.proofs.Common.{◌≡◌, ◌≢◌, All, ℕ, zero, suc, ◌+◌, ◌-◌, ◌*◌, ◌<◌, ◌≤◌, ◌==◌, Bool, true, false, true≢false, MatchBool, List, [], ◌∷◌, ◌++◌, length, reverse, take, drop, append_assoc, slice_get, slice_set, Option, Some, None, refl, sym, ap, subst, ◌∙◌, get_or-set_other, length-append, length-set, arith, ⊎_elim}
+use Rattle.std.proofs.Common.{◌≡◌, ◌≢◌, All, ℕ, zero, suc, ◌+◌, ◌*◌, ◌<◌, ◌≤◌, ◌==◌, Bool, true, false, true≢false, MatchBool, List, [], ◌∷◌, ◌++◌, length, reverse, take, drop, append_assoc, slice_get, slice_set, Option, Some, None, refl, sym, ap, subst, ◌∙◌, get_or-set_other, length-append, length-set, arith, ⊎_elim}
 use Rattle.std.proofs.lemmas.List.{length-reverse, reverse-append, reverse-reverse, take-append-drop}
 use Rattle.std.proofs.lemmas.List.Elements.{All-append, All-nil, All-head, All-tail, All-push, All-from_get_or, All-get_or}
 use Rattle.std.proofs.lemmas.Grind.{common_steps, moves}
@@ -56,6 +56,9 @@ module _ (i : ℕ) (x y : NormalState) (h : Hands i x y) where
     ap (λ (z : NormalState). length z.hands) h.leaves ∙ length-append x.hands (hand_of h.stream ∷ []),
   )
 
+  pub hands_same : y ≡ record x { streams = y.streams; hands = y.hands }
+  hands_same = h.leaves ∙ sym (ap (λ (z : NormalState). record x { streams = z.streams; hands = z.hands }) h.leaves)
+
   pub hands_other : (k : ℕ) → k ≢ i → stream_at y.streams k ≡ stream_at x.streams k
   hands_other k ne = ap (λ (z : NormalState). stream_at z.streams k) h.leaves ∙ get_or-set_other x.streams i k _ None ne
 
@@ -86,12 +89,12 @@ hand_more blocks i x y count whole of h = λ k flag at.
     let inside : k < length (x.hands ++ hand_of h.stream ∷ []) = slice_get_within (x.hands ++ hand_of h.stream ∷ []) k flag here in
     ⊎_elim
     (λ (e : k ≡ i).
-        let is : flag ≡ hand_of h.stream = one_of flag (hand_of h.stream) (sym here ∙ ap (λ (n : ℕ). slice_get (x.hands ++ hand_of h.stream ∷ []) n) e ∙ get_last x.hands (hand_of h.stream) i count) in
-        let same : whole.stream ≡ h.stream = one_of whole.stream h.stream (sym whole.is_home ∙ h.is_home) in
-        ap (λ (n : ℕ). slice_get blocks n) e ∙ whole.fits.made ∙ ap (λ (s : ServerState). Some (hand_made (hand_of s))) same ∙ ap (λ (f : HandSide). Some (hand_made f)) (sym is))
+    let is : flag ≡ hand_of h.stream = one_of flag (hand_of h.stream) (sym here ∙ ap (λ (n : ℕ). slice_get (x.hands ++ hand_of h.stream ∷ []) n) e ∙ get_last x.hands (hand_of h.stream) i count) in
+    let same : whole.stream ≡ h.stream = one_of whole.stream h.stream (sym whole.is_home ∙ h.is_home) in
+    ap (λ (n : ℕ). slice_get blocks n) e ∙ whole.fits.made ∙ ap (λ (s : ServerState). Some (hand_made (hand_of s))) same ∙ ap (λ (f : HandSide). Some (hand_made f)) (sym is))
     (λ (ne : k ≢ i).
-        let lt : k < length x.hands = omega (arith, inside, length-append x.hands (hand_of h.stream ∷ []), count) in
-        of k flag (sym (get_before x.hands (hand_of h.stream) k lt) ∙ here))
+    let lt : k < length x.hands = omega (arith, inside, length-append x.hands (hand_of h.stream ∷ []), count) in
+    of k flag (sym (get_before x.hands (hand_of h.stream) k lt) ∙ here))
     (cases_eq k i)
 
 -- one item more went back

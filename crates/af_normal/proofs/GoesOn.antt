@@ -112,6 +112,9 @@ module _ (links : Links) (t : ℕ) (x : NormalState) (going : IsGoing links t x)
       pub same_tracks : length p.tracks ≡ length y.tracks
       same_tracks = sym tied_p.sizes.settings ∙ ap (λ (c : Setup). length c.settings) still.setup ∙ after.tied.sizes.settings
 
+      pub play_blocks : length p.tracks ≤ length links.streams.now
+      play_blocks = tied_p.sizes.blocks.0
+
       pub play_ready : AreServersOf links.streams.now p.streams
       play_ready = servers_of links.streams.now p.streams (let e = tied_p.sizes.streams_are in let b = tied_p.sizes.blocks.0 in omega arith) (λ i lt. tied_p.proxies.streams_of i)
 

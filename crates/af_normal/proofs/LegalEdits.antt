@@ -224,6 +224,7 @@ module _ (push : Push) (x y : NormalState) (e : Pushes push x y) where
       by_answer : (p : Push) → WasPushed x.mutator p y.mutator e.before e.after → LegalPush (kept_of x) p × (kept_of y ≡ after_push p (kept_of x))
       by_answer Clean w = (w.0, kept_with x.mutator w.1)
       by_answer (Pushed number) w = ((w.0, w.1), shown w.0 number x.mutator.past.number refl w.2 w.3)
-      by_answer (Busy seen expected) w = let older = w.3 in
-          ((w.0, older.2.0, w.1, older.1 ∙ ap word (let a : older.0 + 1 ≡ x.mutator.past.number = older.2.1 in omega arith)),
-          kept_with (record x.mutator { past = saw older.0 [] x.mutator.past }) older.2.2)
+      by_answer (Busy seen expected) w = let older = w.3 in (
+        (w.0, older.2.0, w.1, older.1 ∙ ap word (let a : older.0 + 1 ≡ x.mutator.past.number = older.2.1 in omega arith)),
+        kept_with (record x.mutator { past = saw older.0 [] x.mutator.past }) older.2.2,
+      )

@@ -221,9 +221,11 @@ module _ (links : Links) (t : ℕ) (x : NormalState) (ack : Bool) (report : Repo
             ∙ ap (λ (m : Mutates ServerState StreamNames). at (in_queue push pushed.1 m.pending) (slot_number (track_at s.tracks i))) mutator_y
             ∙ ap (λ (items : List (Option ServerState)). at items (slot_number (track_at s.tracks i))) (pushed.3 ∙ pending_z)
             ∙ waiting.waits i lt enters ∙ there.1,
-        (before.0 ∙ ap (λ (es : List ServerEvent). (listed_at (stream_at l.streams i)).events ++ es)
-            (sym (append-nil (Invalid links t x ack report room push y made i)) ∙ ap (λ (takes : List TakeSeen). Invalid links t x ack report room push y made i ++ flat_map (λ take. cycle_events (asked cs) (listed_at (stream_at l.streams i)) take.slot ((mix links t x ack report room push y made).0 i)) takes) (sym none)),
-        before.1),
+        (
+          before.0 ∙ ap (λ (es : List ServerEvent). (listed_at (stream_at l.streams i)).events ++ es)
+              (sym (append-nil (Invalid links t x ack report room push y made i)) ∙ ap (λ (takes : List TakeSeen). Invalid links t x ack report room push y made i ++ flat_map (λ take. cycle_events (asked cs) (listed_at (stream_at l.streams i)) take.slot ((mix links t x ack report room push y made).0 i)) takes) (sym none)),
+          before.1,
+        ),
       )
 
   -- ## The report and the pipe

@@ -185,22 +185,22 @@ pub made_is : (frames normal : ℕ) (tracks : TrackList) (mutator : Mutates Serv
     → (length turns.items ≡ length tracks.settings) × (turns.room ≡ length tracks.settings) × HaveRoom turns.items
     → (length takes.items ≡ length tracks.settings) × (takes.room ≡ length tracks.settings) × All (HasFrames (normal * frames)) takes.items
     → IsMade frames normal tracks mutator reader pipe record {
-  frames = frames;
-  normal = normal;
-  settings = settings;
-  tracks = kept;
-  streams = streams;
-  commands = commands;
-  hands = hands;
-  mutator = mutates;
-  reader = reader;
-  pipe = pipe;
-  entry = entry;
-  spare_turns = turns;
-  spare_takes = takes;
-  ended = false;
-  turns = 0;
-}
+      frames = frames;
+      normal = normal;
+      settings = settings;
+      tracks = kept;
+      streams = streams;
+      commands = commands;
+      hands = hands;
+      mutator = mutates;
+      reader = reader;
+      pipe = pipe;
+      entry = entry;
+      spare_turns = turns;
+      spare_takes = takes;
+      ended = false;
+      turns = 0;
+    }
 made_is frames normal tracks mutator reader pipe entry turns takes settings streams commands kept hands mutates a b d e f g ended rooms t u = record {
   is = λ i. record {
     frames = frames;

@@ -29,9 +29,9 @@ more asked n takes h = record {
 
 one_more : (asked n : ℕ) (x y : Mixing) → AreTaken asked n x.takes → TakesOf asked n x y → AreTaken asked (suc n) y.takes
 one_more asked n x y h t = subst (AreTaken asked (suc n)) (sym (ap (λ (z : Mixing). z.takes) t.then)) (record {
-      few = (let f = h.few in let l = length-append x.takes (t.take ∷ []) in omega arith);
-      fit = All-push (FitsSeen asked (suc n)) x.takes t.take (more asked n x.takes h).fit (record { track = (let e = t.takes.track in omega arith); short = t.takes.within });
-    })
+  few = (let f = h.few in let l = length-append x.takes (t.take ∷ []) in omega arith);
+  fit = All-push (FitsSeen asked (suc n)) x.takes t.take (more asked n x.takes h).fit (record { track = (let e = t.takes.track in omega arith); short = t.takes.within });
+})
 
 pub mixed_fit : (asked n : ℕ) (x y : Mixing) → x.takes ≡ [] → MixesTo asked n x y → AreTaken asked n y.takes
 mixed_fit asked zero x y none m = subst (AreTaken asked 0) (sym (ap (λ (z : Mixing). z.takes) m ∙ none)) (record { few = omega arith; fit = All-nil (FitsSeen asked 0) })

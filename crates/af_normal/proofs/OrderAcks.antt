@@ -208,12 +208,12 @@ module _ (links : Links) (x : NormalState) (tied : IsTied links x) (held : InDra
       rests : at returned (slot_number (track_at tracks i)) ≡ None → Came (suc i) tracks streams (slice_set returned (slot_number (track_at tracks i)) None) (slice_set out (slot_number (track_at tracks i)) off)
       rests none = stays (slice_set returned k None) (slice_set out k off)
           (record {
-        sound = c.tied_is.sound;
-        sizes = c.tied_is.sizes;
-        proxies = c.tied_is.proxies;
-        out = out_same tracks out k off high (on_still (is_out out k) (is_some (at returned k)) (ap is_some none)) c.tied_is.out;
-        linked = c.tied_is.linked;
-      })
+            sound = c.tied_is.sound;
+            sizes = c.tied_is.sizes;
+            proxies = c.tied_is.proxies;
+            out = out_same tracks out k off high (on_still (is_out out k) (is_some (at returned k)) (ap is_some none)) c.tied_is.out;
+            linked = c.tied_is.linked;
+          })
           (both_false (is_returning (track_at x.tracks i).holder) (not (carries last (slot_at i))) (sym some_is ∙ ap is_some none))
           (others None)
           (λ back. sym item_is ∙ none)
@@ -309,15 +309,22 @@ module _ (links : Links) (x : NormalState) (tied : IsTied links x) (held : InDra
 
   -- so do all
   all_come : (n : ℕ) (y : NormalState) → WelcomesTo n x y → Coming n y
-  all_come zero y w = (x.tracks, x.streams, x.mutator.returned, x.mutator.out, w, record {
-    tied_is = tied;
-    long = refl;
-    done = (λ j lt. absurd (omega arith));
-    left = (λ j le. refl);
-    hand = (λ j le a. refl);
-    same = (λ j h. refl);
-    brought = (λ j lt back. absurd (omega arith));
-  })
+  all_come zero y w = (
+    x.tracks,
+    x.streams,
+    x.mutator.returned,
+    x.mutator.out,
+    w,
+    record {
+      tied_is = tied;
+      long = refl;
+      done = (λ j lt. absurd (omega arith));
+      left = (λ j le. refl);
+      hand = (λ j le a. refl);
+      same = (λ j h. refl);
+      brought = (λ j lt back. absurd (omega arith));
+    },
+  )
   all_come (suc n) y w = let before : Coming n w.0 = all_come n w.0 w.1 in
       one_more n before.0 before.1 before.2 before.3 before.5 y (subst (λ (z : NormalState). Welcomes n z y) before.4 w.2)
 

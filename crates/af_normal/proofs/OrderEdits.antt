@@ -175,10 +175,10 @@ module _ (m : NormalKept) (sound : IsSound m.tracks m.draft) where
           (record { slot = (sound.slotted i).slot; unopened = (sound.slotted i).unopened; homely = (λ none. absurd (true≢false (sym (both _ _ (both _ _ enters).1).0 ∙ none))) }) sound.slotted;
       drafted = each_set (IsDrafted more) m.tracks i (lent_by more own (track_at m.tracks i)) comer_inside
           (record {
-        lent = (λ h. attached_here k mono scale i m.draft comer_slot.0 comer_slot.1 sound.state);
-        returning = no;
-        own = (λ h. (ap (λ (t : FastTrack). t.track) (slot_here k mono scale i m.draft comer_slot.0 comer_slot.1 sound.state), refl));
-      })
+            lent = (λ h. attached_here k mono scale i m.draft comer_slot.0 comer_slot.1 sound.state);
+            returning = no;
+            own = (λ h. (ap (λ (t : FastTrack). t.track) (slot_here k mono scale i m.draft comer_slot.0 comer_slot.1 sound.state), refl));
+          })
           (λ (j : ℕ) (ne : j ≢ i). still_drafted more j (λ away. let other = apart i j ne comer_holds away in (
             attached_else k mono scale i m.draft comer_slot.0 comer_slot.1 sound.state (slot_number (track_at m.tracks j)) other,
             slot_else k mono scale i m.draft comer_slot.0 comer_slot.1 sound.state (slot_number (track_at m.tracks j)) other,

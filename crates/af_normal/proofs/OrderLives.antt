@@ -49,29 +49,61 @@ by_case (r ∷ cases) known l all = either (r.applies known l) l (r.effect known
 pub grew_command : (code argument : ℕ) (l : Life) → Grew l (by_command code argument l)
 unfolding by_command
 grew_command code argument l = either l.ended l l (command_effect commands code argument l) (same l) (by_row commands code argument l (
+  record { ended = (λ h. h); absent = no },
+  (
     record { ended = (λ h. h); absent = no },
-    (record { ended = (λ h. h); absent = no },
-    (record { ended = (λ h. h); absent = no },
-    (record { ended = (λ h. h); absent = no },
-    (record { ended = (λ h. h); absent = no },
-    (record { ended = (λ h. h); absent = no },
-    (record { ended = (λ h. h); absent = no },
-    (record { ended = (λ h. refl); absent = (λ h. h) }, tt)))))))))
+    (
+      record { ended = (λ h. h); absent = no },
+      (
+        record { ended = (λ h. h); absent = no },
+        (
+          record { ended = (λ h. h); absent = no },
+          (
+            record { ended = (λ h. h); absent = no },
+            (
+              record { ended = (λ h. h); absent = no },
+              (record { ended = (λ h. refl); absent = (λ h. h) }, tt),
+            ),
+          ),
+        ),
+      ),
+    ),
+  ),
+))
 
 pub grew_report : (known : Known) (l : Life) → Grew l (by_report known l)
 unfolding by_report
 grew_report known l = by_case reports known l (
-    record { ended = (λ h. refl); absent = (λ h. h) },
-    (record { ended = (λ h. h); absent = (λ h. h) },
-    (record { ended = (λ h. h); absent = no },
-    (same l,
-    (record { ended = (λ h. h); absent = no },
-    (record { ended = (λ h. h); absent = no },
-    (record { ended = (λ h. h); absent = no },
-    (record { ended = (λ h. h); absent = (λ h. h) },
-    (same l,
-    (record { ended = (λ h. h); absent = (λ h. h) },
-    (same l, tt)))))))))))
+  record { ended = (λ h. refl); absent = (λ h. h) },
+  (
+    record { ended = (λ h. h); absent = (λ h. h) },
+    (
+      record { ended = (λ h. h); absent = no },
+      (
+        same l,
+        (
+          record { ended = (λ h. h); absent = no },
+          (
+            record { ended = (λ h. h); absent = no },
+            (
+              record { ended = (λ h. h); absent = no },
+              (
+                record { ended = (λ h. h); absent = (λ h. h) },
+                (
+                  same l,
+                  (
+                    record { ended = (λ h. h); absent = (λ h. h) },
+                    (same l, tt),
+                  ),
+                ),
+              ),
+            ),
+          ),
+        ),
+      ),
+    ),
+  ),
+)
 
 all_three : (b c d : Bool) → (b && (not c && d)) ≡ true → (b ≡ true) × (c ≡ false) × (d ≡ true)
 all_three true false true e = (refl, refl, refl)
@@ -183,7 +215,7 @@ module _ (given : Option ℕ) where
       let r : SlotReport = slot_reported k s in
       let t : TrackKept = noted r s in
       let one : Goes given s t = either_goes (is_home s.holder) s _ _ (record { holder = refl; generation = refl; life = same s.life; slot = inl refl })
-          (either_goes (is_reported r s) s _ _ (record { holder = refl; generation = refl; life = same s.life; slot = inl refl }) (goes_same s)) in
+      (either_goes (is_reported r s) s _ _ (record { holder = refl; generation = refl; life = same s.life; slot = inl refl }) (goes_same s)) in
       goes_then s t _ one (either_goes (is_reached (heard k i s).flush_seen t.awaits) t _ _ (record { holder = refl; generation = refl; life = same t.life; slot = inl refl }) (goes_same t))
 
 -- the track i, once those before it were served

@@ -199,6 +199,6 @@ module _ (links : Links) (edits i : ℕ) (x : NormalState) (mutating : IsOpen li
             is_home = stream.1;
             in_order = of.in_order;
             fits = (λ other key. let same : names.0 ≡ other = (let a : Some names.0 ≡ Some other = sym names.1 ∙ key in cc) in
-            subst (λ (bs : List Made). IsStreamOf bs i stream.0) (sym names.2 ∙ ap (λ (n : StreamNames). n.blocks) same) of);
+                subst (λ (bs : List Made). IsStreamOf bs i stream.0) (sym names.2 ∙ ap (λ (n : StreamNames). n.blocks) same) of);
             room = (let g : (slot_of x.mutator.draft (slot_number (track_at x.tracks i))).generation ≤ edits = mutating.generations (slot_number (track_at x.tracks i)) in omega arith);
           }

@@ -46,10 +46,10 @@ module _ (c : Setup) (k : Learnt) (seen : List TrackSeen) (draft : FastState) (t
   here n before = (
     (goes n).holder ∙ before.0,
     λ away. let was : is_home (track_at (served_to c k seen tracks n) n).holder ≡ false = ap is_home before.0 ∙ away in
-    elim (goes n).slot as (λ p. (now n).slot ≡ (track_at tracks n).slot) [
-      | inl e ↦ e ∙ before.1 away
-      | inr g ↦ absurd (true≢false (sym (((sound_served c k seen draft tracks n sound).slotted n).homely g.0) ∙ was))
-    ],
+        elim (goes n).slot as (λ p. (now n).slot ≡ (track_at tracks n).slot) [
+          | inl e ↦ e ∙ before.1 away
+          | inr g ↦ absurd (true≢false (sym (((sound_served c k seen draft tracks n sound).slotted n).homely g.0) ∙ was))
+        ],
   )
 
   pub stay_put : (n j : ℕ) → StaysPut (track_at tracks j) (track_at (served_to c k seen tracks n) j)

@@ -187,7 +187,7 @@ module _ (c : Setup) (tracks : List TrackKept) (i : ℕ) (s t : TrackKept) (is :
     lent = (λ h. let was = ap is_lent (sym goes.holder) ∙ h in subst (λ (o : Option ℕ). carries draft (number_of o) ≡ true) (kept (lent_away s.holder was)) (d.lent was));
     returning = (λ h. let was = ap is_returning (sym goes.holder) ∙ h in subst (λ (o : Option ℕ). carries draft (number_of o) ≡ false) (kept (returning_away s.holder was)) (d.returning was));
     own = (λ away. let was = ap is_home (sym goes.holder) ∙ away in
-    subst (λ (o : Option ℕ). ((slot_of draft (number_of o)).track ≡ n) × ((slot_of draft (number_of o)).generation ≡ t.generation)) (kept was) ((d.own was).0, (d.own was).1 ∙ sym goes.generation));
+        subst (λ (o : Option ℕ). ((slot_of draft (number_of o)).track ≡ n) × ((slot_of draft (number_of o)).generation ≡ t.generation)) (kept was) ((d.own was).0, (d.own was).1 ∙ sym goes.generation));
   }
     where
       lent_away : (h : Holder) → is_lent h ≡ true → is_home h ≡ false

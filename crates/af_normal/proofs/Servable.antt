@@ -40,10 +40,10 @@ module _ (links : Links) (t : ℕ) (x : NormalState) (going : IsGoing links t x)
       let same : y ≡ record x { reader = y.reader; pipe = y.pipe } = l.same in
       let tracks = ap (λ (z : NormalState). z.tracks) same in
       subst (IsServable links i) (sym same) (record {
-            slot = (going.small.tracks i).slot;
-            few = (let s = (going.small.tracks i).settled in omega arith);
-            own = own_of i (let e = ap length tracks in omega arith);
-          })
+        slot = (going.small.tracks i).slot;
+        few = (let s = (going.small.tracks i).settled in omega arith);
+        own = own_of i (let e = ap length tracks in omega arith);
+      })
 
   pub slots_there : HaveSlots x.tracks
   slots_there i back = (going.tied.sound.slotted i).slot (slot_of_away (track_at x.tracks i) (going.tied.sound.slotted i) (returning_away (track_at x.tracks i).holder back))
@@ -73,14 +73,14 @@ module _ (links : Links) (x : NormalState) (tied : IsTied links x) (none : x.han
 
   handed : (n : ℕ) (y : NormalState) → n ≤ length x.tracks → HandsTo n x y → Handed links n x y
   handed zero y le h = subst (Handed links 0 x) (sym h) (record {
-        same = refl;
-        streams = refl;
-        count = ap length none;
-        hands = λ k flag at. absurd (none_some (sym (ap (λ (l : List HandSide). slice_get l k) none) ∙ at));
-        of = tied.proxies.streams_of;
-        there = λ k. refl;
-        later = λ k le. refl;
-      })
+    same = refl;
+    streams = refl;
+    count = ap length none;
+    hands = λ k flag at. absurd (none_some (sym (ap (λ (l : List HandSide). slice_get l k) none) ∙ at));
+    of = tied.proxies.streams_of;
+    there = λ k. refl;
+    later = λ k le. refl;
+  })
     where
       none_some : {A : Type 0} {a : A} → None ≡ Some a → ⊥
       none_some e = cc
@@ -121,12 +121,12 @@ module _ (links : Links) (x : NormalState) (tied : IsTied links x) (none : x.han
 
   pub handed_tied : (y : NormalState) → HandsTo (length x.tracks) x y → IsTied links y
   handed_tied y h = let a : Handed links (length x.tracks) x y = all y h in subst (IsTied links) (sym a.same) (record {
-        sound = tied.sound;
-        sizes = subst (λ (n : ℕ). HasSizes links (setup_of x) (length x.tracks) n (length x.commands) x.pipe.pass.part.shape.frames) (sym a.streams) tied.sizes;
-        proxies = record { there = λ k lt. a.there k ∙ tied.proxies.there k lt; streams_of = a.of; commands_of = tied.proxies.commands_of };
-        out = tied.out;
-        linked = tied.linked;
-      })
+    sound = tied.sound;
+    sizes = subst (λ (n : ℕ). HasSizes links (setup_of x) (length x.tracks) n (length x.commands) x.pipe.pass.part.shape.frames) (sym a.streams) tied.sizes;
+    proxies = record { there = λ k lt. a.there k ∙ tied.proxies.there k lt; streams_of = a.of; commands_of = tied.proxies.commands_of };
+    out = tied.out;
+    linked = tied.linked;
+  })
 
 -- ## A turn has begun
 
@@ -159,10 +159,12 @@ module _ (links : Links) (x b : NormalState) (order : IsInOrder links x) (begins
       by_turns : (n : ℕ) → x.turns ≡ n → HasWhole links.streams.now i b.streams
       by_turns zero e = at_first (order.none_yet e)
       by_turns (suc n) e =
-          let whole : length x.hands ≡ length x.tracks = (order.hands (omega arith)).whole in
+          let some : 1 ≤ x.turns = omega (arith, e) in
+          let whole : length x.hands ≡ length x.tracks = (order.hands some).whole in
           let empty : x.hands ≡ [] = sym (ap (λ (z : NormalState). z.hands) same) ∙ none in
           let zero_long : length x.hands ≡ 0 = ap length empty in
-          absurd (omega arith)
+          let lt : i < length x.tracks = within in
+          absurd (omega (arith, whole, zero_long, lt))
 
   -- the lists of the entry are empty, and what they had is spare
   pub record Emptied : Type 0 where

@@ -83,5 +83,5 @@ pub at_same : (i : ℕ) (seen : TrackSeen) (g g' : Option ℕ) (h h' : Heard) (r
     → AttendsAt g h r i s c f seen t d e → AttendsAt g' h' r' i s' c' f' seen t' d' e'
 at_same i seen g g' h h' r r' s s' t t' c c' d d' f f' e e' pg ph pr ps pc pf pt pd pe at =
     subst (λ (w : Option ℕ × Heard × TrackKept × List (Option ServerState) × List ServerState × List HandSide × List (Option ServerState) × List ServerState × List HandSide).
-        AttendsAt w.0 w.1 w.2 i w.3 w.4 w.5 seen w.6 w.7 w.8)
+    AttendsAt w.0 w.1 w.2 i w.3 w.4 w.5 seen w.6 w.7 w.8)
     (λ j. (pg j, ph j, pr j, ps j, pc j, pf j, pt j, pd j, pe j)) at

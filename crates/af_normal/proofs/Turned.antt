@@ -1,5 +1,5 @@
 -- A turn as a whole keeps the order.
-use Rattle.std.proofs.Common.{◌≡◌, ℕ, ◌+◌, ◌-◌, ◌&&◌, Bool, true, false, MatchBool, length, refl, sym, ap, subst, ◌∙◌, Some}
+use Rattle.std.proofs.Common.{◌≡◌, ℕ, ◌+◌, ◌-◌, ◌&&◌, ◌==◌, not, if◌then◌else◌, Bool, true, false, MatchBool, length, refl, sym, ap, subst, ◌∙◌, Some}
 use Rattle.af_base.specs.declared.report.Report.{Report}
 use Rattle.af_base.specs.declared.state.Push.{Push}
 use Rattle.af_server.specs.Order.{ServerState}
@@ -8,11 +8,14 @@ use Rattle.af_stateq.specs.Mutates.{InDraft, Mutates}
 use Rattle.af_link.specs.declared.links.Links.{Links}
 use Rattle.af_link.specs.declared.names.StreamNames.{StreamNames}
 use Rattle.af_life.specs.Edits.{is_exit}
+use Rattle.std.proofs.lemmas.List.{length-map}
+use Rattle.af_base.specs.Turn.{Turn, take_seen, turn_of}
+use Rattle.af_normal.specs.declared.turn.Turn.{Turn as Answer}
 use Rattle.af_normal.specs.declared.turn.Turn.TheVariants.{Turned, Ended}
 use Rattle.af_normal.specs.Coming.{WelcomesTo}
 use Rattle.af_normal.specs.Order.{IsGoing, IsInOrder}
 use Rattle.af_normal.specs.State.{NormalState}
-use Rattle.af_normal.specs.TurnMade.{Does, GoesOnBy, TurnsBy, WentOn, has_mixed}
+use Rattle.af_normal.specs.TurnMade.{Does, GoesOnBy, TurnsBy, WentOn, answer_of, has_mixed}
 use Rattle.af_normal.specs.Turning.{SeesAck, stream_fits, with_mutator}
 use Rattle.af_normal.proofs.LegalMade.{IsMade}
 use Rattle.af_normal.proofs.Edited.{all_only}
@@ -42,3 +45,13 @@ module _ (links : Links) (t : ℕ) (x : NormalState) (going : IsGoing links t x)
     turns_same = let g = went.goes in ap (λ (w : NormalState). w.turns) g.leaves ∙ ap (λ (w : NormalState). w.turns) g.plays.same ∙ ap (λ (w : NormalState). w.turns) g.pushes.same
         ∙ ap (λ (w : NormalState). w.turns) (all_only room g.served g.edited g.edits) ∙ ap (λ (w : NormalState). w.turns) g.serves.same ∙ ap (λ (w : NormalState). w.turns) g.learns.same
         ∙ ap (λ (w : NormalState). w.turns) (acked_same links ack x home going.tied seen).0
+
+-- the answer is that of the entry
+pub answer_is : (answer : Answer) (x y : NormalState) → Does answer x y → answer ≡ answer_of (turn_of y.entry)
+answer_is Ended x y stops = sym (ap answer_of stops.tells)
+answer_is (Turned mixed push) x y turns =
+    let g = turns.0.goes_on.rest in
+    let none : (turn_of y.entry).ended ≡ false = ap (λ (e : Turn). e.ended) g.tells in
+    let pushed : (turn_of y.entry).push ≡ push = ap (λ (e : Turn). e.push) g.tells in
+    let count : mixed ≡ not (length (turn_of y.entry).mixes == 0) = turns.1 ∙ ap (λ (n : ℕ). not (n == 0)) (sym (length-map y.entry.mixes.items take_seen)) in
+    (λ j. Turned (count j) (sym pushed j)) ∙ ap (λ (b : Bool). if b then Ended else Turned (not (length (turn_of y.entry).mixes == 0)) (turn_of y.entry).push) (sym none)

@@ -1,5 +1,5 @@
 -- What the meetings of the mixer's ends and proxies come to.
-use Rattle.std.specs.Prelude.{◌≡◌, ℕ, ◌+◌, true, false, List, [], ◌∷◌, ◌++◌, length, slice_get, slice_set, MatchOption, Option, Some, None}
+use Rattle.std.specs.Prelude.{◌≡◌, ◌≢◌, ℕ, ◌+◌, true, false, List, [], ◌∷◌, ◌++◌, length, slice_get, slice_set, MatchOption, Option, Some, None}
 use Rattle.af_base.specs.declared.event.HandEvent.{HandEvent}
 use Rattle.af_base.specs.declared.event.ServerEvent.TheVariants as takes
 use Rattle.af_model.specs.History.{is_lawful, HasHistory}
@@ -8,10 +8,11 @@ use Rattle.af_model.specs.declared.newest.WriterEvent.TheVariants as writes
 use Rattle.af_model.specs.declared.states.MutatorEvent.TheVariants as mutates
 use Rattle.af_model.specs.declared.states.ObserverEvent.TheVariants as observes
 use Rattle.af_cblk.specs.Parts.{client_met, server_did, hand_met}
-use Rattle.af_cblk.specs.Sides.{HandSide, client_made, hand_made, server_made}
+use Rattle.af_cblk.specs.Sides.{HandSide, Made, client_made, hand_made}
 use Rattle.af_client.specs.Order.{ClientState, IsInOrder as IsClientInOrder}
 use Rattle.af_server.specs.Order.{ServerState}
 use Rattle.af_stateq.specs.Observes.{Observes}
+use Rattle.af_link.specs.Names.{IsStreamOf}
 use Rattle.af_link.specs.PipeEnds.{InSide, OutSide}
 use Rattle.af_link.specs.Reports.{ReaderSide, WriterSide}
 use Rattle.af_link.specs.declared.links.Links.{Links}
@@ -62,39 +63,40 @@ client_knows c s = record c { pass = record c.pass { part = client_met c.pass.pa
 abbrev pub server_alone : ServerState → ClientState → ServerState
 server_alone s c = record s { pass = record s.pass { part = server_did s.pass.part (takes.Learn (length c.pass.part.events)); has_hand = false } }
 
--- Where the client has not poked, the lists of the two have a history, and the proxy wasn't shut
-pub record HaveHistory (s t : ServerState) (c d : ClientState) (hand : List HandEvent) : Type 0 where
-  pub history : HasHistory s.pass.part.shape d.pass.part.events d.pass.part.frames t.pass.part.events t.pass.part.frames hand
-  pub unshut : s.shut ≡ None
-
--- the proxy s met its client, and is t then; where it still has its hand, that has done nothing
-pub record Meets (s t : ServerState) (c d : ClientState) : Type 0 where
+-- The proxy s of this block met its client, and is t then. Where the client has not poked the lists have a history, with some hand's list, which is empty where the proxy still has its hand, and the proxy isn't shut
+pub record Meets (block : Made) (s t : ServerState) (c d : ClientState) : Type 0 where
   pub server : t ≡ server_knows s c
   pub client : d ≡ client_knows c s
-  pub history : is_lawful c.pass.part.events ≡ true → (hand : List HandEvent) × (s.pass.has_hand ≡ true → hand ≡ []) × HaveHistory s t c d hand
+  pub history : is_lawful c.pass.part.events ≡ true → (hand : List HandEvent) × (s.pass.has_hand ≡ true → hand ≡ []) × HasHistory block.shape d.pass.part.events d.pass.part.frames t.pass.part.events t.pass.part.frames hand
+  pub unshut : is_lawful c.pass.part.events ≡ true → t.shut ≡ None
 
--- the proxy met its client and its hand
-pub record MeetsAll (s t : ServerState) (c d : ClientState) (h g : HandSide) : Type 0 where
+-- The proxy met its client and its hand
+pub record MeetsAll (block : Made) (s t : ServerState) (c d : ClientState) (h g : HandSide) : Type 0 where
   pub server : t ≡ server_alone s c
   pub client : d ≡ client_knows c s
   pub hand : g.part ≡ hand_met h.part (length c.pass.part.events + 1)
-  pub made : hand_made g ≡ hand_made h
-  pub history : is_lawful c.pass.part.events ≡ true → HaveHistory s t c d g.part.events
+  pub history : is_lawful c.pass.part.events ≡ true → HasHistory block.shape d.pass.part.events d.pass.part.frames t.pass.part.events t.pass.part.frames g.part.events
+  pub unshut : is_lawful c.pass.part.events ≡ true → t.shut ≡ None
 
 -- a stream proxy that is there meets its client, and its hand where that was split off
-abbrev pub MeetsStream : Option ServerState → Option HandSide → ClientState → Option ServerState → Option HandSide → ClientState → Type 0
-MeetsStream None h c s' h' d = (s' ≡ None) × (h' ≡ h) × (d ≡ c)
-MeetsStream (Some s) None c s' h' d = (t : ServerState) × (s' ≡ Some t) × (h' ≡ None) × Meets s t c d
-MeetsStream (Some s) (Some h) c s' h' d = (t : ServerState) × (g : HandSide) × (s' ≡ Some t) × (h' ≡ Some g) × MeetsAll s t c d h g
+abbrev pub MeetsStream : Made → Option ServerState → Option HandSide → ClientState → Option ServerState → Option HandSide → ClientState → Type 0
+MeetsStream block None h c s' h' d = (s' ≡ None) × (h' ≡ h) × (d ≡ c)
+MeetsStream block (Some s) None c s' h' d = (t : ServerState) × (s' ≡ Some t) × (h' ≡ None) × Meets block s t c d
+MeetsStream block (Some s) (Some h) c s' h' d = (t : ServerState) × (g : HandSide) × (s' ≡ Some t) × (h' ≡ Some g) × MeetsAll block s t c d h g
 
--- The proxies of the track i meet their clients, and nothing else changes
-pub record MeetsTrack (i : ℕ) (x y : NormalState) (stream command stream' command' : ClientState) : Type 0 where
-  pub server : ServerState
-  pub has_server : slice_get x.commands i ≡ Some server
-  pub server' : ServerState
-  pub commands : y.commands ≡ slice_set x.commands i server'
-  pub met : Meets server server' command command'
-  pub streamed : MeetsStream (stream_at x.streams i) (slice_get x.hands i) stream (stream_at y.streams i) (slice_get y.hands i) stream'
-  pub streams : y.streams ≡ slice_set x.streams i (stream_at y.streams i)
-  pub hands : (j : ℕ) → (j ≡ i → ⊥) → slice_get y.hands j ≡ slice_get x.hands j
-  pub same : y ≡ record x { commands = y.commands; streams = y.streams; hands = y.hands }
+-- The proxies of the track i, and its hand where that was split off, met their clients c and e, which are d and f then, and nothing else changed
+pub record MeetsTrack (links : Links) (i : ℕ) (streams streams' : List (Option ServerState)) (commands commands' : List ServerState) (hands hands' : List HandSide) (c d e f : ClientState) : Type 0 where
+  pub command : ServerState
+  pub has_command : slice_get commands i ≡ Some command
+  pub command' : ServerState
+  pub commands_are : commands' ≡ slice_set commands i command'
+  pub commanded : Meets (client_made e.pass) command command' e f
+  pub streams_are : streams' ≡ slice_set streams i (stream_at streams' i)
+  pub streamed : MeetsStream (client_made c.pass) (stream_at streams i) (slice_get hands i) c (stream_at streams' i) (slice_get hands' i) d
+  pub hands_are : (length hands' ≡ length hands) × ((j : ℕ) → j ≢ i → slice_get hands' j ≡ slice_get hands j)
+
+-- the stream proxy and the hand of the track i, where they are there, and its command proxy are of its blocks
+pub record AreOf (links : Links) (i : ℕ) (streams : List (Option ServerState)) (commands : List ServerState) (hands : List HandSide) : Type 0 where
+  pub command_is : (s : ServerState) → slice_get commands i ≡ Some s → IsStreamOf links.commands.now i s
+  pub stream_is : (s : ServerState) → stream_at streams i ≡ Some s → IsStreamOf links.streams.now i s
+  pub flag_is : (h : HandSide) → slice_get hands i ≡ Some h → slice_get links.streams.now i ≡ Some (hand_made h)

@@ -1,5 +1,5 @@
 -- A whole turn as its steps, one after the other.
-use Rattle.std.specs.Prelude.{◌≡◌, ℕ, ◌-◌, ◌<◌, ◌^◌, ◌==◌, ◌&&◌, not, nat_le, Bool, true, false, MatchBool, length, map, [], Some}
+use Rattle.std.specs.Prelude.{◌≡◌, ℕ, ◌-◌, ◌<◌, ◌^◌, ◌==◌, ◌&&◌, not, nat_le, if◌then◌else◌, Bool, true, false, MatchBool, length, map, [], Some}
 use Rattle.af_base.specs.Log.{slots}
 use Rattle.af_base.specs.declared.report.Report.{Report}
 use Rattle.af_base.specs.declared.state.Push.{Push}
@@ -121,3 +121,7 @@ pub record TurnMade (answer : Answer) (x y : NormalState) : Type 0 where
   pub handed : NormalState
   pub hands : HasHands begun handed
   pub does : Does answer handed y
+
+-- what a turn answers by its entry
+abbrev pub answer_of : Turn → Answer
+answer_of e = if e.ended then Ended else Turned (not (length e.mixes == 0)) e.push

@@ -14,8 +14,8 @@ ghost use Rattle.af_normal.specs.Commands.{LooksMade};
 ghost use Rattle.af_normal.specs.Serving.{Adds, StreamAdds, HandAdds, Attends, disabled_events, shut_events};
 
 use crate::commands::look_at_commands;
-use af_base::{CommandLooks, INVALID, Steps, TrackTurn};
 use crate::mixer::TrackHand;
+use af_base::{CommandLooks, INVALID, Steps, TrackTurn};
 use af_cblk::Block;
 use af_life::{Heard, Known, TrackKept, is_found_shut, stored_over};
 use af_server::Server;

@@ -1,8 +1,6 @@
-//! The normal mixer, in pieces: what it does at the blocks and at the draft, each piece with its own contract.
+//! The normal mixer: each turn it hears of all tracks, obeys their commands, tells the fast mixer what to play, and mixes the tracks that have no slot into the pipe (AOSP's MixerThread).
 //!
-//! There is one track's part of a turn with its proxies and its hand (`attend`, by looks at its commands), what a proxy that is home knows, one track lent, let go and welcomed, and the buffer: all tracks without a slot mixed in order, and their takes summed. The definition of a whole turn stands in af_life.
-//!
-//! What it lacks is a turn: the loops over the tracks but that of the mix, the push, the report, the making of the mixer and its meetings. No call of it is public yet.
+//! What a turn is, which one is legal, and what it leaves stands in af_life, over plain values. Here it is done at the blocks, the queue, the report and the pipe, and each step has a contract of its own: the hands, what comes home, what is learnt, a track's part, the edits of the draft, the push, and the buffer.
 #![tactic(auto)]
 
 mod acks;

@@ -1,6 +1,6 @@
 //! The meetings of the mixer's ends, and of the proxies that are home.
 ghost use Rattle.std.specs.Prelude.{◌≡◌, ℕ, ◌+◌, ◌<◌, ◌⊎◌, true, false, [], is_some, length, slice_get, slice_set, Option, Some, None};
-ghost use Rattle.af_cblk.specs.Sides.{HandSide, hand_made};
+ghost use Rattle.af_cblk.specs.Sides.{hand_made};
 ghost use Rattle.af_client.specs.Order.{IsClientOf};
 ghost use Rattle.af_model.specs.NewestValue.{HasHistory as HasReportHistory};
 ghost use Rattle.af_model.specs.PipeHistory.{HasPipeHistory};
@@ -10,49 +10,119 @@ ghost use Rattle.af_server.specs.Order.{IsServerOf, ServerState};
 ghost use Rattle.af_link.specs.PipeEnds.{SeesTaken, out_made};
 ghost use Rattle.af_link.specs.Reports.{CyclesNeverFall};
 ghost use Rattle.af_life.specs.Kept.{is_home, track_at};
-ghost use Rattle.af_normal.specs.Meeting.{AreClientsOf, Meets, MeetsStream, MeetsTrack, ends_met, observer_met, out_met, queue_met, writer_met};
+ghost use Rattle.af_normal.specs.Meeting.{AreClientsOf, AreOf, Meets, MeetsStream, MeetsTrack, ends_met, observer_met, out_met, queue_met, writer_met};
 ghost use Rattle.af_normal.specs.Mixing.{stream_at};
 ghost use Rattle.af_normal.specs.Order.{IsInOrder};
 
 use crate::mixer::{NormalMixer, TrackHand};
 use af_base::Steps;
-use af_cblk::Block;
+use af_cblk::{Block, FlagHand};
 use af_client::Client;
 use af_link::{Links, PipeOut, ReportWriter, StreamNames, meet_all, meet_pipe, meet_report, meet_track};
 use af_server::Server;
 use af_stateq::{Observer, meet};
 use std::sync::ledger::Ledger;
 
-// A stream proxy that is there meets its client, and its hand where that was split off; whether it is there.
-fn meet_stream<L: Ledger>(
+// The proxies of a track whose hand is still with the stream proxy meet their clients; whether the stream proxy is there.
+fn meet_alone<L: Ledger>(
+    command: &mut Server,
     stream: &mut Option<Server>,
-    hands: &mut [TrackHand],
-    i: usize,
-    block: &Block,
-    client: &mut Client,
+    command_block: &Block,
+    stream_block: &Block,
+    command_client: &mut Client,
+    stream_client: &mut Client,
     steps: &mut Steps<L>,
 ) -> bool
-    requires client { IsClientOf block.now client.old }
-    requires stream { (s : ServerState) → stream.old ≡ Some s → IsServerOf block.now s }
-    requires hands { (length hands.old ≡ 0) ⊎ (i < length hands.old) }
-    requires flags { (h : HandSide) → slice_get hands.old i ≡ Some h → hand_made h ≡ block.now }
-    ensures client { IsClientOf block.now client.new }
-    ensures stream { (s : ServerState) → stream.new ≡ Some s → IsServerOf block.now s }
-    ensures flags { (h : HandSide) → slice_get hands.new i ≡ Some h → hand_made h ≡ block.now }
-    ensures met { MeetsStream stream.old (slice_get hands.old i) client.old stream.new (slice_get hands.new i) client.new }
-    ensures others { (j : ℕ) → (j ≡ i → ⊥) → slice_get hands.new j ≡ slice_get hands.old j }
-    ensures long { length hands.new ≡ length hands.old }
+    requires command { IsClientOf command_block.now command_client.old × IsServerOf command_block.now command.old }
+    requires stream { (s : ServerState) → stream.old ≡ Some s → IsServerOf stream_block.now s }
+    requires client { IsClientOf stream_block.now stream_client.old }
+    ensures command { IsClientOf command_block.now command_client.new × IsServerOf command_block.now command.new }
+    ensures stream { (s : ServerState) → stream.new ≡ Some s → IsServerOf stream_block.now s }
+    ensures client { IsClientOf stream_block.now stream_client.new }
+    ensures commanded { Meets command_block.now command.old command.new command_client.old command_client.new }
+    ensures streamed { MeetsStream stream_block.now stream.old None stream_client.old stream.new None stream_client.new }
     ensures there { result ≡ is_some stream.old }
 {
+    meet_track(command_client, command, command_block, steps);
     let Some(server) = stream else {
         return false;
     };
-    if hands.is_empty() {
-        meet_track(client, server, block, steps);
-    } else {
-        meet_all(client, server, &mut hands[i].flag, block, steps);
-    }
+    meet_track(stream_client, server, stream_block, steps);
     true
+}
+
+// The same with the hand.
+fn meet_with_hand<L: Ledger>(
+    command: &mut Server,
+    stream: &mut Option<Server>,
+    hand: &mut FlagHand,
+    command_block: &Block,
+    stream_block: &Block,
+    command_client: &mut Client,
+    stream_client: &mut Client,
+    steps: &mut Steps<L>,
+) -> bool
+    requires command { IsClientOf command_block.now command_client.old × IsServerOf command_block.now command.old }
+    requires stream { (s : ServerState) → stream.old ≡ Some s → IsServerOf stream_block.now s }
+    requires client { IsClientOf stream_block.now stream_client.old }
+    requires hand { hand_made hand.old ≡ stream_block.now }
+    ensures command { IsClientOf command_block.now command_client.new × IsServerOf command_block.now command.new }
+    ensures stream { (s : ServerState) → stream.new ≡ Some s → IsServerOf stream_block.now s }
+    ensures client { IsClientOf stream_block.now stream_client.new }
+    ensures hand { hand_made hand.new ≡ stream_block.now }
+    ensures commanded { Meets command_block.now command.old command.new command_client.old command_client.new }
+    ensures streamed { MeetsStream stream_block.now stream.old (Some hand.old) stream_client.old stream.new (Some hand.new) stream_client.new }
+    ensures there { result ≡ is_some stream.old }
+{
+    meet_track(command_client, command, command_block, steps);
+    let Some(server) = stream else {
+        return false;
+    };
+    meet_all(stream_client, server, hand, stream_block, steps);
+    true
+}
+
+// The same by the number of the track, whether its hand was split off or not.
+fn meet_at<L: Ledger>(
+    i: usize,
+    links: &Links<'_>,
+    streams: &mut [Option<Server>],
+    commands: &mut [Server],
+    hands: &mut [TrackHand],
+    stream: &mut Client,
+    command: &mut Client,
+    steps: &mut Steps<L>,
+) -> bool
+    requires track { (i < length streams.old) × (i < length commands.old) × ((length hands.old ≡ 0) ⊎ (i < length hands.old)) }
+    requires own { AreOf links.now i streams.old commands.old hands.old }
+    requires clients { AreClientsOf links.now i stream.old command.old }
+    ensures own { AreOf links.now i streams.new commands.new hands.new }
+    ensures clients { AreClientsOf links.now i stream.new command.new }
+    ensures met { MeetsTrack links.now i streams.old streams.new commands.old commands.new hands.old hands.new stream.old stream.new command.old command.new }
+    ensures there { result ≡ is_some (stream_at streams.old i) }
+{
+    if hands.is_empty() {
+        return meet_alone(
+            &mut commands[i],
+            &mut streams[i],
+            &links.commands[i],
+            &links.streams[i],
+            command,
+            stream,
+            steps,
+        );
+    }
+    let hand = &mut hands[i];
+    meet_with_hand(
+        &mut commands[i],
+        &mut streams[i],
+        &mut hand.flag,
+        &links.commands[i],
+        &links.streams[i],
+        command,
+        stream,
+        steps,
+    )
 }
 
 impl NormalMixer {
@@ -102,21 +172,39 @@ impl NormalMixer {
         meet(links.queue, mutator, observer, steps);
     }
 
-    // The command proxy of a track meets its client.
-    fn meet_command<L: Ledger>(
+    /// The client of a track's command block meets the command proxy. Where the stream proxy is home it meets the client of the stream block, together with the hand once that is split off, and the answer is true. Elsewhere the stream block isn't touched, and the answer is false.
+    pub fn meet_client<L: Ledger>(
         &mut self,
-        i: usize,
-        block: &Block,
-        client: &mut Client,
+        links: &Links<'_>,
+        track: u32,
+        stream: &mut Client,
+        command: &mut Client,
         steps: &mut Steps<L>,
-    )
-        requires track { i < length self.old.commands }
-        requires client { IsClientOf block.now client.old }
-        requires server { (s : ServerState) → slice_get self.old.commands i ≡ Some s → IsServerOf block.now s }
-        ensures client { IsClientOf block.now client.new }
-        ensures server { (s : ServerState) → slice_get self.new.commands i ≡ Some s → IsServerOf block.now s }
-        ensures met { (s : ServerState) → slice_get self.old.commands i ≡ Some s → (t : ServerState) × (self.new ≡ record self.old { commands = slice_set self.old.commands i t }) × Meets s t client.old client.new }
+    ) -> bool
+        requires order { IsInOrder links.now self.old }
+        requires track { track < length self.old.tracks }
+        requires clients { AreClientsOf links.now track stream.old command.old }
+        ensures order { IsInOrder links.now self.new }
+        ensures clients { AreClientsOf links.now track stream.new command.new }
+        ensures met { MeetsTrack links.now track self.old.streams self.new.streams self.old.commands self.new.commands self.old.hands self.new.hands stream.old stream.new command.old command.new }
+        ensures same { self.new ≡ (record self.old { streams = self.new.streams; commands = self.new.commands; hands = self.new.hands }) }
+        ensures home { result ≡ is_home (track_at self.old.tracks track).holder }
     {
-        meet_track(client, &mut self.commands[i], block, steps);
+        let NormalMixer {
+            streams,
+            commands,
+            hands,
+            ..
+        } = self;
+        meet_at(
+            track as usize,
+            links,
+            streams,
+            commands,
+            hands,
+            stream,
+            command,
+            steps,
+        )
     }
 }

@@ -1,26 +1,24 @@
-use Rattle.std.proofs.Common.{◌≡◌, ℕ, ◌<◌, List, length, map, slice_set, Option, None, refl, sym, ap, ◌∙◌, subst, arith}
+use Rattle.std.proofs.Common.{◌≡◌, ℕ, List, length, map, slice_set, Option, sym, ap, ◌∙◌, subst, arith}
 use Rattle.std.proofs.lemmas.List.{get_or_default, with_items_is}
 use Rattle.af_base.specs.Turn.{TrackSeen, track_seen}
-use Rattle.af_base.specs.declared.report.SlotReport.{SlotReport}
 use Rattle.af_cblk.specs.Sides.{HandSide}
 use Rattle.af_model.specs.Reports.{report_at}
 use Rattle.af_server.specs.Order.{ServerState}
 use Rattle.af_life.specs.declared.kept.Heard.{Heard}
 use Rattle.af_life.specs.declared.kept.TrackKept.{TrackKept}
 use Rattle.af_life.specs.Heard.{heard_by, noted, settled_at}
-use Rattle.af_life.specs.Kept.{Learnt, new_track, slot_number, track_at}
+use Rattle.af_life.specs.Kept.{new_track, slot_number, track_at}
 use Rattle.af_life.specs.Obeys.{slot_for}
 use Rattle.af_life.specs.Serves.{after_part}
 use Rattle.af_normal.specs.Mixing.{stream_at}
 use Rattle.af_normal.specs.Ready.{AreOwn, serving_of}
-use Rattle.af_normal.specs.Serving.{Serving, known_at}
+use Rattle.af_normal.specs.Serving.{known_at}
 use Rattle.af_normal.specs.State.{NormalState, setup_of}
 use Rattle.af_normal.proofs.ServedBy.{at_same, serves_by, by_own, made_ready}
 use Rattle.af_normal.proofs.mixer.NormalMixer.attend_to.Goals as goal
 
 pub own-own-requires-clause-order : goal.own-own-requires-clause-order
 own-own-requires-clause-order g c = λ s e. (c.requires.own.stream_is s e).in_order
-
 
 pub returns-clause-own : goal.returns-clause-own
 returns-clause-own g c =

@@ -1,4 +1,4 @@
-use Rattle.std.proofs.Common.{Bool, not, ◌==◌, is_some, ◌≡◌, ℕ, ◌+◌, ◌-◌, ◌*◌, ◌^◌, ◌<◌, ◌≤◌, List, [], length, map, Option, Some, refl, sym, ap, subst, ◌∙◌, arith}
+use Rattle.std.proofs.Common.{Bool, not, ◌==◌, is_some, ◌≡◌, ℕ, ◌-◌, ◌<◌, ◌≤◌, length, sym, ap, subst, ◌∙◌, arith}
 use Rattle.std.proofs.lemmas.List.{length-map}
 use Rattle.af_base.specs.declared.report.Report.{Report}
 use Rattle.af_base.specs.declared.state.Push.{Push}
@@ -13,9 +13,8 @@ use Rattle.af_normal.specs.Order.{HasTurns, IsGoing}
 use Rattle.af_normal.specs.State.{NormalState, setup_of}
 use Rattle.af_normal.specs.declared.turn.Turn.TheVariants.{Turned}
 use Rattle.af_normal.specs.Mutating.{Pushes}
-use Rattle.af_normal.specs.TurnMade.{WentOn, ServesAll, PlaysAll}
 use Rattle.af_normal.specs.Turning.{Learns}
-use Rattle.af_normal.proofs.GoesOn.{after, all_streams_of, same_tracks, may_mutate, is_idle, few_colds, small_sizes, push_idle, push_together, push_room, tied_p, still, Still, play_ready, play_takes, play_none, play_few, play_home, play_sizes, play_room}
+use Rattle.af_normal.proofs.GoesOn.{all_streams_of, same_tracks, may_mutate, is_idle, few_colds, small_sizes, push_idle, push_together, push_room, tied_p, still, play_blocks, play_ready, play_takes, play_none, play_few, play_home, play_sizes, play_room}
 use Rattle.af_normal.proofs.OrderTurn.{going_learnt}
 use Rattle.af_normal.proofs.Servable.{servable}
 use Rattle.af_normal.proofs.mixer.NormalMixer.go_on.Goals as goal
@@ -90,7 +89,7 @@ play-mixed-requires g c =
     record {
       tracks = (tied.sizes.few, sym tied.sizes.settings);
       streams = tied.sizes.streams_are;
-      blocks = tied.sizes.blocks.0;
+      blocks = play_blocks links t x c.requires.going few r n y c.learn-room.ensures.learns s e.serves e.own z c.mutate.ensures.edits a p c.push-pushed.ensures.pushes;
       home = play_home links t x c.requires.going few r n y c.learn-room.ensures.learns s e.serves e.own z c.mutate.ensures.edits a p c.push-pushed.ensures.pushes;
       ready = play_ready links t x c.requires.going few r n y c.learn-room.ensures.learns s e.serves e.own z c.mutate.ensures.edits a p c.push-pushed.ensures.pushes;
       few = play_few links t x c.requires.going few r n y c.learn-room.ensures.learns s e.serves e.own z c.mutate.ensures.edits a p c.push-pushed.ensures.pushes;
@@ -128,30 +127,36 @@ returns g c =
     let spare : w.spare_turns ≡ s.spare_turns = ap (λ (m : NormalState). m.spare_turns) told.same ∙ ap (λ (m : NormalState). m.spare_turns) d.plays.same ∙ same.spare_turns in
     let turns : w.entry.tracks ≡ s.entry.tracks = told.lists.0 ∙ ap (λ (m : TurnEntry). m.tracks) d.entry ∙ same.tracks in
     let setup : setup_of w ≡ setup_of p = ap setup_of told.same ∙ ap setup_of d.plays.same in
-    let streams_long : length q.streams ≤ length links.streams.now = (let h = length-map q.streams is_some in let i = length-map p.streams is_some in let j = ap length d.there in let k = tied.sizes.streams_are in let b = tied.sizes.blocks.0 in omega arith) in
+    let streams_long : length q.streams ≤ length links.streams.now = (let h = length-map q.streams is_some in let i = length-map p.streams is_some in let j = ap length d.there in let k = tied.sizes.streams_are in let b : length p.tracks ≤ length links.streams.now = play_blocks links t x c.requires.going few r n y l s e.serves e.own z c.mutate.ensures.edits a p g in omega arith) in
     record {
-      goes = (r, n, a, record {
-        goes = record {
-          learnt = y;
-          learns = l;
-          served = s;
-          serves = e.serves;
-          edited = z;
-          edits = c.mutate.ensures.edits;
-          pushed = p;
-          pushes = g;
-          played = q;
-          plays = d.plays;
-          tells = told.tells;
-          leaves = told.same;
-        };
-        own = e.own;
-        streams = all_streams_of links.streams.now q.streams streams_long d.ready;
-        turns = subst (λ (k : ℕ). HasTurns k w.entry.tracks w.spare_turns) (sym (long ∙ same_tracks links t x c.requires.going few r n y l s e.serves e.own z c.mutate.ensures.edits a p g))
-            (subst (λ (m : Roomy TrackTurn). HasTurns (length y.tracks) m w.spare_turns) (sym turns) (subst (HasTurns (length y.tracks) s.entry.tracks) (sym spare) e.turns));
-        takes = subst (λ (k : Setup). HasTakes (asked k) (length w.tracks) w.entry.mixes w.spare_takes) (sym setup)
-            (subst (λ (k : ℕ). HasTakes (asked (setup_of p)) k w.entry.mixes w.spare_takes) (sym long)
-            (subst (λ (m : Roomy NormalTake). HasTakes (asked (setup_of p)) (length p.tracks) m w.spare_takes) (sym told.lists.1)
-            (subst (HasTakes (asked (setup_of p)) (length p.tracks) q.entry.mixes) (sym (ap (λ (m : NormalState). m.spare_takes) told.same)) d.takes)));
-      }, ap (λ (b : Bool). Turned b a) (d.mixed ∙ ap (λ (m : Roomy NormalTake). not (length m.items == 0)) (sym told.lists.1)));
+      goes = (
+        r,
+        n,
+        a,
+        record {
+          goes = record {
+            learnt = y;
+            learns = l;
+            served = s;
+            serves = e.serves;
+            edited = z;
+            edits = c.mutate.ensures.edits;
+            pushed = p;
+            pushes = g;
+            played = q;
+            plays = d.plays;
+            tells = told.tells;
+            leaves = told.same;
+          };
+          own = e.own;
+          streams = all_streams_of links.streams.now q.streams streams_long d.ready;
+          turns = subst (λ (k : ℕ). HasTurns k w.entry.tracks w.spare_turns) (sym (long ∙ same_tracks links t x c.requires.going few r n y l s e.serves e.own z c.mutate.ensures.edits a p g))
+              (subst (λ (m : Roomy TrackTurn). HasTurns (length y.tracks) m w.spare_turns) (sym turns) (subst (HasTurns (length y.tracks) s.entry.tracks) (sym spare) e.turns));
+          takes = subst (λ (k : Setup). HasTakes (asked k) (length w.tracks) w.entry.mixes w.spare_takes) (sym setup)
+              (subst (λ (k : ℕ). HasTakes (asked (setup_of p)) k w.entry.mixes w.spare_takes) (sym long)
+              (subst (λ (m : Roomy NormalTake). HasTakes (asked (setup_of p)) (length p.tracks) m w.spare_takes) (sym told.lists.1)
+              (subst (HasTakes (asked (setup_of p)) (length p.tracks) q.entry.mixes) (sym (ap (λ (m : NormalState). m.spare_takes) told.same)) d.takes)));
+        },
+        ap (λ (b : Bool). Turned b a) (d.mixed ∙ ap (λ (m : Roomy NormalTake). not (length m.items == 0)) (sym told.lists.1)),
+      );
     }

@@ -1,15 +1,14 @@
-use Rattle.std.proofs.Common.{◌≡◌, ℕ, ◌+◌, ◌-◌, ◌<◌, ◌&&◌, true≢false, Bool, true, false, MatchBool, length, Some, refl, sym, ap, ◌∙◌, subst, arith}
+use Rattle.std.proofs.Common.{◌≡◌, ℕ, ◌-◌, ◌&&◌, true≢false, Bool, true, false, MatchBool, length, refl, sym, ap, ◌∙◌, subst, arith}
 use Rattle.af_stateq.specs.Answers.{WasAcked}
-use Rattle.af_stateq.specs.Mutates.{InDraft, Mutates}
+use Rattle.af_stateq.specs.Mutates.{Mutates}
 use Rattle.af_server.specs.Order.{ServerState}
 use Rattle.af_link.specs.declared.names.StreamNames.{StreamNames}
 use Rattle.af_life.specs.Edits.{is_exit}
-use Rattle.af_normal.specs.declared.turn.Turn.TheVariants.{Turned, Ended}
 use Rattle.af_normal.specs.Coming.{HaveSlots, WelcomesTo}
 use Rattle.af_normal.specs.Order.{IsGoing}
 use Rattle.af_normal.specs.State.{NormalState}
 use Rattle.af_normal.specs.TurnMade.{Does, Stops}
-use Rattle.af_normal.specs.Turning.{stream_fits, with_mutator}
+use Rattle.af_normal.specs.Turning.{with_mutator}
 use Rattle.af_normal.proofs.Cases.{on_false}
 use Rattle.af_normal.proofs.LegalEnds.{made_legally}
 use Rattle.af_normal.proofs.LegalMade.{outside}

@@ -1,9 +1,6 @@
-use Rattle.std.proofs.Common.{◌≡◌, ℕ, true, is_some, List, length, replicate, All, Option, sym, ap, subst, ◌∙◌, arith}
+use Rattle.std.proofs.Common.{◌≡◌, ℕ, true, is_some, length, replicate, All, Option, ap, subst, ◌∙◌, arith}
 use Rattle.af_server.specs.Order.{ServerState}
-use Rattle.af_life.specs.declared.kept.Setting.{Setting}
 use Rattle.af_life.specs.declared.kept.TrackKept.{TrackKept}
-use Rattle.af_life.specs.Kept.{new_track}
-use Rattle.af_normal.specs.AllMixed.{HasFrames}
 use Rattle.af_normal.specs.Making.{TrackList}
 use Rattle.af_normal.proofs.Made.{made_is, made_order}
 use Rattle.af_normal.proofs.mixer.NormalMixer.make.Goals as goal

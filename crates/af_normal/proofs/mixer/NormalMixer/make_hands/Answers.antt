@@ -1,6 +1,4 @@
-use Rattle.std.proofs.Common.{◌==◌, ◌≡◌, ◌≢◌, ℕ, ◌+◌, ◌<◌, suc, length, List, Option, Some, refl, sym, ap, ◌∙◌, subst, arith}
-use Rattle.af_server.specs.Order.{ServerState}
-use Rattle.af_normal.specs.Mixing.{stream_at}
+use Rattle.std.proofs.Common.{◌==◌, ◌≡◌, ◌≢◌, ℕ, ◌+◌, ◌<◌, suc, length, sym, ap, ◌∙◌, subst, arith}
 use Rattle.af_normal.specs.State.{NormalState}
 use Rattle.af_normal.specs.Turning.{Hands, HandsTo, HasWhole}
 use Rattle.af_normal.proofs.Beginning.{hands_long, hands_other}
@@ -32,7 +30,7 @@ split_hand-requires g c =
     let on = c.loop-i-test.true in
     let v = c.loop-i.invariant in
     let lt : c.loop-i.i < length c.args.self.now.tracks = omega arith in
-    let w : HasWhole c.args.links.now.streams.now c.loop-i.i c.args.self.now.streams = c.requires.whole (none_of_zero c.args.self.now.hands (ap (λ (m : NormalState). length m.hands == 0) (sym c.self.view_is) ∙ sym c.if-not-is_empty.ensures)) c.loop-i.i lt in
+    let w : HasWhole c.args.links.now.streams.now c.loop-i.i c.args.self.now.streams = c.requires.whole (none_of_zero c.args.self.now.hands (ap (λ (m : NormalState). length m.hands == 0) (sym c.self.view_is) ∙ ap (λ (n : ℕ). n == 0) (sym c.self.inside.hands.ok.0) ∙ sym c.if-not-is_empty.ensures)) c.loop-i.i lt in
     let tracks = v.tracks in
     let streams = v.streams in
     let sizes = c.requires.sizes in
@@ -51,6 +49,6 @@ returns g c =
     let all : c.loop-i.i ≡ length c.args.self.now.tracks = omega arith in
     record {
       hands = on_true (length c.args.self.now.hands == 0) (HandsTo (length c.args.self.now.tracks) c.args.self.now c.loop-i.self) (c.loop-i.self ≡ c.args.self.now)
-          (ap (λ (m : NormalState). length m.hands == 0) (sym c.self.view_is) ∙ sym c.if-not-is_empty.ensures)
+          (ap (λ (m : NormalState). length m.hands == 0) (sym c.self.view_is) ∙ ap (λ (n : ℕ). n == 0) (sym c.self.inside.hands.ok.0) ∙ sym c.if-not-is_empty.ensures)
           (subst (λ (n : ℕ). HandsTo n c.args.self.now c.loop-i.self) all c.loop-i.invariant.made);
     }

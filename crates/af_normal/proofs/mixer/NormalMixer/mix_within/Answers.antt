@@ -1,4 +1,4 @@
-use Rattle.std.proofs.Common.{◌≡◌, ℕ, length, map, All, sym, ap, subst}
+use Rattle.std.proofs.Common.{ℕ, length, map, All, ap, subst}
 use Rattle.af_base.specs.Turn.{take_seen}
 use Rattle.af_life.specs.Kept.{asked}
 use Rattle.af_normal.specs.State.{setup_of}

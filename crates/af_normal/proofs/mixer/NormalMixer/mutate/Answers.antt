@@ -1,5 +1,5 @@
-use Rattle.std.proofs.Common.{◌≡◌, ℕ, ◌+◌, ◌^◌, ◌<◌, true, length, refl, sym, ap, ◌∙◌, subst, arith}
-use Rattle.af_normal.specs.Mutating.{EditsTo, begun, commands, due_command}
+use Rattle.std.proofs.Common.{◌+◌, length, ap, ◌∙◌, subst, arith}
+use Rattle.af_normal.specs.Mutating.{EditsTo, begun, due_command}
 use Rattle.af_normal.specs.Order.{IsOpen}
 use Rattle.af_normal.specs.State.{NormalState}
 use Rattle.af_normal.proofs.Edited.{edits_colds, commands_editing}

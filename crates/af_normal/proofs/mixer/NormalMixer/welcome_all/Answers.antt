@@ -1,4 +1,4 @@
-use Rattle.std.proofs.Common.{◌≡◌, ℕ, ◌+◌, ◌<◌, suc, length, refl, ap, ◌∙◌, subst, arith}
+use Rattle.std.proofs.Common.{◌≡◌, ℕ, ◌+◌, ◌<◌, suc, length, ap, ◌∙◌, subst, arith}
 use Rattle.af_normal.specs.Coming.{Welcomes, WelcomesTo}
 use Rattle.af_normal.specs.State.{NormalState}
 use Rattle.af_normal.proofs.Welcomed.{welcomed_long, welcomed_slots}
