@@ -21,6 +21,10 @@ pub use mixer::NormalMixer;
 pub use turn::Turn;
 
 #[cfg(test)]
+mod call_tests;
+#[cfg(test)]
 mod random_tests;
+#[cfg(test)]
+mod table_tests;
 #[cfg(test)]
 mod tests;

@@ -3,7 +3,8 @@ ghost use Rattle.std.specs.Prelude.{◌≡◌, ◌<◌, ◌≤◌, length, IfOk}
 ghost use Rattle.af_life.specs.Small.{IsSmall};
 ghost use Rattle.af_normal.specs.Testing.{AreOthers, IsWorld};
 
-use crate::tests::{FAST, Kind, Others, Step, World, begin};
+use crate::table_tests::{FAST, Kind, begin};
+use crate::tests::{Others, Step, World};
 use af_base::{FastState, Memory, NormalTake, Push, SLOTS, Seen, Steps, TurnEntry};
 use af_life::{
     FLUSH, Heard, Known, LifeState, OPEN, PAUSE, PlainMixer, REMOVE, START, STOP, Setting,

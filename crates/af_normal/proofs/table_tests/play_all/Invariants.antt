@@ -1,5 +1,5 @@
 use Rattle.af_normal.specs.Testing.{IsWorld}
-use Rattle.af_normal.proofs.tests.play_all.Given as goal
+use Rattle.af_normal.proofs.table_tests.play_all.Given as goal
 
 abbrev pub invariant-loop-step : goal.invariant-loop-step
 invariant-loop-step g l =
