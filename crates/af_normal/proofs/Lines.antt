@@ -56,6 +56,10 @@ more_hold P [] x p each (suc i) s is = cc
 more_hold P (t ∷ ts) x p each zero s is = each 0 s is
 more_hold P (t ∷ ts) x p each (suc i) s is = more_hold P ts x p (λ j. each (suc j)) i s is
 
+one_all : {X : Type 0} (P : X → Type 0) (x : X) → P x → All P (x ∷ [])
+one_all P x p zero d lt = p
+one_all P x p (suc k) d lt = absurd (omega arith)
+
 -- a track more
 pub lines_more : (n : ℕ) (streams commands : List Made) (clients senders : List ClientState) (tracks : TrackList) (block control : Made) (client sender : ClientState) (t : TrackSetup)
     → AreLines n streams commands clients senders tracks → IsLine block client t.stream → IsLine control sender t.command → t.scale ≤ 4096
@@ -70,7 +74,7 @@ lines_more n streams commands clients senders tracks block control client sender
   );
   clients_are = zip_push IsClientOf streams clients block client lines.clients_are stream.client_is;
   senders_are = zip_push IsClientOf commands senders control sender lines.senders_are command.client_is;
-  scales = All-append (λ (setting : Setting). setting.scale ≤ 4096) tracks.settings (setting_of t ∷ []) lines.scales (scale, tt);
+  scales = All-append (λ (setting : Setting). setting.scale ≤ 4096) tracks.settings (setting_of t ∷ []) lines.scales (one_all (λ (setting : Setting). setting.scale ≤ 4096) (setting_of t) scale);
   streams_of = more_streams streams tracks.streams block t.stream (omega (arith, lines.long.0, lines.long.3)) stream.server_is lines.streams_of;
   hands_of = more_hold (λ (s : ServerState). s.pass.has_hand ≡ true) tracks.streams t.stream stream.whole lines.hands_of;
   commands_of = more_commands commands tracks.commands control t.command (omega (arith, lines.long.1, lines.long.4)) command.server_is lines.commands_of;

@@ -94,42 +94,36 @@ struct Lines {
     tracks: Tracks,
 }
 
-impl Lines {
-    // A track more.
-    fn add(&mut self, alloc: Global, kind: Kind) -> Result<(), Memory>
-        requires { AreLines (length self.old.streams.items) self.old.streams.items self.old.commands.items self.old.clients.items self.old.senders.items self.old.tracks }
-        ensures { IfOk result (λ _. (length self.new.streams.items ≡ length self.old.streams.items + 1) × AreLines (length self.new.streams.items) self.new.streams.items self.new.commands.items self.new.clients.items self.new.senders.items self.new.tracks) }
-    {
+fn make_lines(alloc: Global, kinds: &[Kind]) -> Result<Lines, Memory>
+    ensures { IfOk result (λ l. AreLines (length kinds.now) l.streams.items l.commands.items l.clients.items l.senders.items l.tracks) }
+{
+    let mut streams = Vec::new(alloc);
+    let mut commands = Vec::new(alloc);
+    let mut clients = Vec::new(alloc);
+    let mut senders = Vec::new(alloc);
+    let mut tracks = Tracks::empty(alloc);
+    for kind in kinds {
         let (block, client, stream) = line(alloc, kind.frames)?;
         let (control, sender, command) = line(alloc, 128)?;
-        self.streams.push(block)?;
-        self.commands.push(control)?;
-        self.clients.push(client)?;
-        self.senders.push(sender)?;
-        self.tracks.push(TrackSetup {
+        streams.push(block)?;
+        commands.push(control)?;
+        clients.push(client)?;
+        senders.push(sender)?;
+        tracks.push(TrackSetup {
             fast: kind.fast,
             mono: kind.mono,
             scale: 0x1000,
             stream,
             command,
-        })
+        })?;
     }
-}
-
-fn make_lines(alloc: Global, kinds: &[Kind]) -> Result<Lines, Memory>
-    ensures { IfOk result (λ l. AreLines (length kinds.now) l.streams.items l.commands.items l.clients.items l.senders.items l.tracks) }
-{
-    let mut lines = Lines {
-        streams: Vec::new(alloc),
-        commands: Vec::new(alloc),
-        clients: Vec::new(alloc),
-        senders: Vec::new(alloc),
-        tracks: Tracks::empty(alloc),
-    };
-    for kind in kinds {
-        lines.add(alloc, *kind)?;
-    }
-    Ok(lines)
+    Ok(Lines {
+        streams,
+        commands,
+        clients,
+        senders,
+        tracks,
+    })
 }
 
 /// The parts of a mixer of one to 32 tracks, on `frames` frames a fast cycle and `normal` cycles a buffer, with all that it works on.
