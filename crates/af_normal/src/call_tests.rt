@@ -1,10 +1,10 @@
 //! What turns answer, store and push, by tables of steps.
+use crate::Turn;
 use crate::table_tests::{
     FAST, Kind, busy, clears, ends, flushes, has_slot, heard, mixes, plays, pokes, polls, pushed,
     reports, saw, sends, status_is, turns, writes,
 };
 use crate::tests::{Step, Told};
-use crate::Turn;
 use af_base::{Memory, Push};
 use af_life::{OPEN, PAUSE, REMOVE, START, STOP};
 use std::alloc::Global;
@@ -146,7 +146,12 @@ fn disabled() -> Told {
 
 // Whether fifty underruns in a row disable the track, once.
 fn fifty_underruns(alloc: Global) -> Result<bool, Memory> {
-    let mut rows = vec![in alloc; sends(0, OPEN, 0), sends(0, START, 0), turns(0, pushed(1), Some(514)), polls(1)]?;
+    let mut rows = vec![in alloc;
+        sends(0, OPEN, 0),
+        sends(0, START, 0),
+        turns(0, pushed(1), Some(514)),
+        polls(1),
+    ]?;
     for empties in 1..50u32 {
         rows.push(reports(1, 0, 0, [0, empties]))?;
         rows.push(turns(0, Push::Clean, None))?;

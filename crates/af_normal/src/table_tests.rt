@@ -134,12 +134,10 @@ pub(crate) fn begin(
     normal: u32,
 ) -> Result<(Shared, Parts), Memory>
     requires sizes { (1 ≤ frames) × (frames ≤ 1024) × (1 ≤ normal) × (normal ≤ 16) }
-    ensures {
-        (links : Linked) → IfOk result (λ r. links.queue.now ≡ r.0.queue → links.streams.now ≡ r.0.streams.items → links.commands.now ≡ r.0.commands.items → links.pipe.now ≡ r.0.pipe → links.report.now ≡ r.0.report
-            → AreNew links frames normal r.1.tracks r.1.mutator r.1.reader r.1.from
-            × (length r.1.tracks.settings ≡ length kinds.now) × All (λ setting. setting.scale ≤ 4096) r.1.tracks.settings
-            × AreOthers links r.1.others.observer r.1.others.writer r.1.others.pipe r.1.others.report r.1.others.streams.items r.1.others.commands.items)
-    }
+    ensures { (links : Linked) → IfOk result (λ r. links.queue.now ≡ r.0.queue → links.streams.now ≡ r.0.streams.items → links.commands.now ≡ r.0.commands.items → links.pipe.now ≡ r.0.pipe → links.report.now ≡ r.0.report
+        → AreNew links frames normal r.1.tracks r.1.mutator r.1.reader r.1.from
+        × (length r.1.tracks.settings ≡ length kinds.now) × All (λ setting. setting.scale ≤ 4096) r.1.tracks.settings
+        × AreOthers links r.1.others.observer r.1.others.writer r.1.others.pipe r.1.others.report r.1.others.streams.items r.1.others.commands.items) }
 {
     let lines = make_lines(alloc, kinds)?;
     let names = stream_names(&lines.streams);
@@ -382,4 +380,3 @@ pub(crate) fn heard(samples: [i16; 4]) -> Row {
     };
     (Step::Hear, told)
 }
-

@@ -147,8 +147,7 @@ fn client_does<L: Ledger>(
             client.write(block, &frames[..count.min(8)], steps);
         }
         Step::Send { code, argument, .. }
-            if block.frames() == 128 && block.base() == 0 && client.released() < 100_000 =>
-        {
+            if block.frames() == 128 && block.base() == 0 && client.released() < 100_000 => {
             let sent = client.send(block, code, argument, steps);
             return Told::Is {
                 so: matches!(sent, Sent::Sent { .. }),
@@ -212,7 +211,9 @@ fn slot_of(observer: &Observer<Server, StreamNames>, slot: usize) -> Told {
         return Told::Done;
     }
     let FastTrack {
-        track, generation, ..
+        track,
+        generation,
+        ..
     } = state.slots[slot];
     Told::Slot {
         carried: carries_item(state, slot),
@@ -256,12 +257,7 @@ fn reports_slot<L: Ledger>(
 
 impl Others {
     // What the fast mixer does.
-    fn fast_does<L: Ledger>(
-        &mut self,
-        links: &Links<'_>,
-        step: Step,
-        steps: &mut Steps<L>,
-    ) -> Told
+    fn fast_does<L: Ledger>(&mut self, links: &Links<'_>, step: Step, steps: &mut Steps<L>) -> Told
         requires { AreOthers links.now self.old.observer self.old.writer self.old.pipe self.old.report self.old.streams.items self.old.commands.items }
         ensures { AreOthers links.now self.new.observer self.new.writer self.new.pipe self.new.report self.new.streams.items self.new.commands.items }
     {
@@ -334,4 +330,3 @@ impl World {
         }
     }
 }
-
