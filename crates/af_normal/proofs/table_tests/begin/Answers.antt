@@ -15,10 +15,10 @@ returns c =
     let r = c.in_ok-report.ensures in
     λ links queue_is streams_is commands_is pipe_is report_is. (
       record {
-        names = c.names-stream_names.result;
+        names = _;
         mutator_is = q.mutator;
         linked = record {
-          names = (c.names-stream_names.result, q.mutator.has_key, c.names-stream_names.ensures ∙ sym streams_is);
+          names = (_, q.mutator.has_key, c.stream_names-names.ensures ∙ c.deref.ensures.value ∙ sym streams_is);
           queue_is = q.together.0 ∙ sym queue_is;
           report_is = r.together.1 ∙ sym report_is;
           pipe_is = p.made.0 ∙ sym pipe_is;
