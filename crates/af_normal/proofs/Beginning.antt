@@ -1,8 +1,7 @@
 -- A turn begins in order: the last entry's lists are empty again, and the hands are there.
-use Rattle.std.proofs.Common.{◌≡◌, ◌≢◌, All, ℕ, zero, suc, ◌+◌, ◌*◌, ◌<◌, ◌≤◌, ◌==◌, Bool, true, false, true≢false, MatchBool, List, [], ◌∷◌, ◌++◌, length, reverse, take, drop, append_assoc, slice_get, slice_set, Option, Some, None, refl, sym, ap, subst, ◌∙◌, get_or-set_other, length-append, length-set, arith, ⊎_elim}
+use Rattle.std.proofs.Common.{◌≡◌, ◌≢◌, All, ℕ, zero, suc, ◌+◌, ◌<◌, List, [], ◌∷◌, ◌++◌, length, reverse, take, drop, append_assoc, slice_get, Some, None, refl, sym, ap, subst, ◌∙◌, get_or-set_other, length-append, length-set, arith, ⊎_elim}
 use Rattle.std.proofs.lemmas.List.{length-reverse, reverse-append, reverse-reverse, take-append-drop}
-use Rattle.std.proofs.lemmas.List.Elements.{All-append, All-nil, All-head, All-tail, All-push, All-from_get_or, All-get_or}
-use Rattle.std.proofs.lemmas.Grind.{common_steps, moves}
+use Rattle.std.proofs.lemmas.List.Elements.{All-append, All-nil, All-head, All-tail, All-push}
 use Rattle.std.proofs.lemmas.Option.{slice_get_within}
 use Rattle.std.proofs.lemmas.Bool.{cases_eq}
 use Rattle.af_base.specs.declared.turn.NormalTake.{NormalTake}
@@ -13,9 +12,9 @@ use Rattle.af_server.specs.Order.{ServerState}
 use Rattle.af_life.specs.Serves.{most_looks}
 use Rattle.af_normal.specs.AllMixed.{HasFrames, HasTakes}
 use Rattle.af_normal.specs.Mixing.{stream_at}
-use Rattle.af_normal.specs.Order.{HasTurns, HaveHands}
+use Rattle.af_normal.specs.Order.{HasTurns}
 use Rattle.af_normal.specs.State.{NormalState}
-use Rattle.af_normal.specs.Turning.{Hands, HandsTo, HasWhole, hand_of, without_hand}
+use Rattle.af_normal.specs.Turning.{Hands, HasWhole, hand_of}
 
 -- ## The lists of the entry go back to the spare ones
 

@@ -1,5 +1,5 @@
 -- What a turn does before it looks at the acknowledgement changes neither what is kept nor a list.
-use Rattle.std.proofs.Common.{◌≡◌, ℕ, zero, suc, ◌+◌, ◌<◌, ◌≤◌, ◌==◌, ◌&&◌, Bool, true, false, if◌then◌else◌, true≢false, MatchBool, sym, refl, ap, subst, ◌∙◌, List, [], ◌∷◌, ◌++◌, length, Option, Some, None, arith}
+use Rattle.std.proofs.Common.{◌≡◌, ℕ, zero, suc, ◌+◌, ◌==◌, ◌&&◌, Bool, true, false, if◌then◌else◌, MatchBool, sym, refl, ap, subst, ◌∙◌, List, [], ◌∷◌, ◌++◌, length, Option, Some, arith}
 use Rattle.std.specs.Prelude.{slice_get, slice_set, map, ◌⊎◌}
 use Rattle.af_base.specs.declared.event.ClientEvent.TheVariants as client
 use Rattle.af_base.specs.declared.event.HandEvent.{HandEvent}
@@ -10,7 +10,6 @@ use Rattle.af_cblk.specs.Sides.{HandSide}
 use Rattle.af_model.specs.PipeHistory.{room_by, releases_of}
 use Rattle.af_model.specs.declared.newest.ReaderEvent.TheVariants.{Load}
 use Rattle.af_server.specs.Order.{ServerState}
-use Rattle.af_server.specs.Slot.{listed}
 use Rattle.af_link.specs.declared.links.Links.{Links}
 use Rattle.af_life.specs.Heard.{learnt}
 use Rattle.af_life.specs.Kept.{Setup, pipe_size, NormalKept, Outside, track_at, slot_number, is_returning}
@@ -21,7 +20,7 @@ use Rattle.af_normal.specs.LegalTurned.{hand_events, in_hand, Grows, IsLegal}
 use Rattle.af_normal.specs.Mixing.{stream_at}
 use Rattle.af_normal.specs.State.{NormalState, setup_of, kept_of}
 use Rattle.af_normal.specs.TurnMade.{Stops, TurnsBy}
-use Rattle.af_normal.specs.Turning.{Begins, Hands, HandsTo, HasHands, hand_of, without_hand, listed_at}
+use Rattle.af_normal.specs.Turning.{Begins, HandsTo, HasHands, hand_of, without_hand, listed_at}
 use Rattle.af_normal.proofs.LegalEnds.{made_legally}
 use Rattle.af_normal.proofs.LegalMade.{IsMade, outside}
 use Rattle.af_normal.proofs.LegalStops.{seen, stopped_legally}

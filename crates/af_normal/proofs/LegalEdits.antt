@@ -1,5 +1,5 @@
 -- From the chain of edits to the definition's.
-use Rattle.std.proofs.Common.{◌≡◌, ◌≢◌, ℕ, zero, suc, ◌+◌, ◌<◌, ◌≤◌, ◌==◌, ◌&&◌, ◌||◌, Bool, true, false, if◌then◌else◌, true≢false, MatchBool, ◌⊎◌, inl, inr, sym, refl, ap, subst, ◌∙◌, List, [], ◌∷◌, length, Option, Some, None, get_or-set_other, arith}
+use Rattle.std.proofs.Common.{◌≡◌, ◌≢◌, ℕ, zero, suc, ◌+◌, ◌<◌, ◌≤◌, ◌==◌, ◌||◌, Bool, true, false, if◌then◌else◌, true≢false, MatchBool, ◌⊎◌, inl, inr, sym, refl, ap, subst, ◌∙◌, List, [], ◌∷◌, length, Option, Some, None, get_or-set_other, arith}
 use Rattle.std.specs.Prelude.{slice_set}
 use Rattle.af_base.specs.Command.{code_of}
 use Rattle.af_base.specs.declared.state.Command.{Command}
@@ -15,11 +15,9 @@ use Rattle.af_stateq.specs.Mutates.{Mutates}
 use Rattle.af_link.specs.declared.names.StreamNames.{StreamNames}
 use Rattle.af_life.specs.declared.kept.Heard.{Heard}
 use Rattle.af_life.specs.declared.kept.Holder.TheVariants.{Returning}
-use Rattle.af_life.specs.declared.kept.TrackKept.{TrackKept}
 use Rattle.af_life.specs.Heard.{known_by}
 use Rattle.af_life.specs.Kept.{Setup, NormalKept, Learnt, pipe_size, track_at, slot_number}
 use Rattle.af_life.specs.Edits.{must_leave, must_enter, let_go, lend, lent_by, edited, edited_to, next_command, ordered, commanded_by, mutated, after_push, LegalPush, is_exit}
-use Rattle.af_life.proofs.Lives.{edits_len}
 use Rattle.af_normal.specs.Editing.{LetsGo, Lends, lets_go, lends}
 use Rattle.af_normal.specs.LegalKept.{kept_open}
 use Rattle.af_normal.specs.Mixing.{stream_at}

@@ -1,8 +1,7 @@
 -- The lists of the report's reader, of the pipe and of the mutator grow by what the entry of a turn says, and all is joined.
-use Rattle.std.proofs.Common.{◌≡◌, ◌≢◌, ℕ, zero, suc, ◌+◌, ◌-◌, ◌<◌, ◌≤◌, ◌*◌, ◌==◌, ◌&&◌, not, Bool, true, false, if◌then◌else◌, true≢false, is_some, inl, inr, sym, refl, ap, subst, ◌∙◌, List, [], ◌∷◌, ◌++◌, append_assoc, append-nil, length, map, Option, Some, None, eq-eqb, ne_eqb, arith}
+use Rattle.std.proofs.Common.{◌≡◌, ℕ, zero, suc, ◌+◌, ◌<◌, ◌*◌, ◌==◌, ◌&&◌, not, Bool, true, false, if◌then◌else◌, true≢false, is_some, inl, sym, refl, ap, subst, ◌∙◌, List, [], ◌∷◌, ◌++◌, append_assoc, append-nil, length, map, Option, Some, None, eq-eqb, ne_eqb, arith}
 use Rattle.std.specs.Prelude.{slice_get}
 use Rattle.std.specs.List.{flat_map}
-use Rattle.af_base.specs.declared.event.ClientEvent.{ClientEvent}
 use Rattle.af_base.specs.declared.event.ClientEvent.TheVariants as client
 use Rattle.af_base.specs.declared.report.Report.{Report}
 use Rattle.af_base.specs.declared.state.Push.{Push}
@@ -12,20 +11,17 @@ use Rattle.af_base.specs.Sample.{packed_word}
 use Rattle.af_base.specs.declared.event.ServerEvent.{ServerEvent}
 use Rattle.af_base.specs.Command.{code_of}
 use Rattle.af_base.specs.Log.{slots}
-use Rattle.af_base.specs.Turn.{Turn, TakeSeen, turn_of}
+use Rattle.af_base.specs.Turn.{Turn, TakeSeen}
 use Rattle.af_model.specs.Cycles.{cycle_events}
 use Rattle.af_model.specs.Draft.{commanded as with_command}
 use Rattle.af_cblk.specs.declared.view.ClientPart.{ClientPart}
-use Rattle.af_cblk.specs.Sides.{Made}
 use Rattle.af_model.specs.PipeHistory.{room_by, releases_of}
-use Rattle.af_model.specs.declared.newest.ReaderEvent.{ReaderEvent}
 use Rattle.af_model.specs.declared.newest.ReaderEvent.TheVariants.{Load}
 use Rattle.af_model.specs.declared.states.MutatorEvent.{MutatorEvent}
 use Rattle.af_model.specs.declared.states.MutatorEvent.TheVariants as mutator
 use Rattle.af_server.specs.Order.{ServerState}
-use Rattle.af_server.specs.Slot.{listed}
 use Rattle.af_stateq.specs.Answers.{WasAcked, WasPushed, SeesIt, shows}
-use Rattle.af_stateq.specs.Ends.{Pushes as Past, saw}
+use Rattle.af_stateq.specs.Ends.{Pushes as Past}
 use Rattle.af_stateq.specs.Mutates.{Mutates, at}
 use Rattle.af_link.specs.PipeEnds.{InSide}
 use Rattle.af_link.specs.declared.links.Links.{Links}
@@ -34,7 +30,6 @@ use Rattle.af_life.specs.Kept.{Setup, asked, pipe_size, NormalKept, Learnt, trac
 use Rattle.af_life.specs.declared.kept.TrackKept.{TrackKept}
 use Rattle.af_life.specs.Serves.{served_to}
 use Rattle.af_life.specs.Small.{most_tracks}
-use Rattle.af_life.specs.Heard.{learnt}
 use Rattle.af_life.specs.Plays.{put_by}
 use Rattle.af_life.specs.Edits.{is_exit, must_enter}
 use Rattle.af_life.specs.Turn.{after_edits}

@@ -1,53 +1,36 @@
 -- The list of each party grows by what the entry of a turn says.
-use Rattle.std.proofs.Common.{◌≡◌, ◌≢◌, ℕ, zero, suc, ◌+◌, ◌-◌, ◌<◌, ◌≤◌, ◌==◌, Bool, true, false, if◌then◌else◌, true≢false, is_some, inl, inr, sym, refl, ap, subst, ◌∙◌, List, [], ◌∷◌, ◌++◌, append_assoc, append-nil, length, map, Option, Some, None, ⊎_elim, eq-eqb, ne_eqb, arith}
+use Rattle.std.proofs.Common.{◌≡◌, ℕ, zero, suc, ◌<◌, ◌≤◌, Bool, true, false, if◌then◌else◌, true≢false, is_some, inl, inr, sym, refl, ap, subst, ◌∙◌, List, [], ◌∷◌, ◌++◌, append_assoc, append-nil, length, Option, Some, None, ⊎_elim, arith}
 use Rattle.std.specs.Prelude.{slice_get}
 use Rattle.std.specs.List.{flat_map}
 use Rattle.std.proofs.lemmas.Bool.{cases_lt}
 use Rattle.std.proofs.lemmas.Option.{slice_get_within}
-use Rattle.af_base.specs.declared.event.ClientEvent.{ClientEvent}
-use Rattle.af_base.specs.declared.event.ClientEvent.TheVariants as client
 use Rattle.af_base.specs.declared.event.HandEvent.{HandEvent}
 use Rattle.af_base.specs.declared.event.ServerEvent.{ServerEvent}
 use Rattle.af_base.specs.declared.report.Report.{Report}
 use Rattle.af_base.specs.declared.state.Push.{Push}
-use Rattle.af_base.specs.declared.state.Push.TheVariants.{Pushed, Clean, Busy}
-use Rattle.af_base.specs.Sample.{packed_word}
 use Rattle.af_base.specs.Turn.{Turn, TakeSeen, TrackSeen}
-use Rattle.af_cblk.specs.declared.view.ClientPart.{ClientPart}
-use Rattle.af_cblk.specs.Sides.{HandSide, Made}
+use Rattle.af_cblk.specs.Sides.{HandSide}
 use Rattle.af_model.specs.Cycles.{Listed, kept, cycle_events}
-use Rattle.af_model.specs.PipeHistory.{releases_of}
-use Rattle.af_model.specs.declared.states.MutatorEvent.{MutatorEvent}
-use Rattle.af_model.specs.declared.states.MutatorEvent.TheVariants as mutator
 use Rattle.af_server.specs.Order.{ServerState}
 use Rattle.af_server.specs.Slot.{listed}
-use Rattle.af_stateq.specs.Answers.{WasAcked, WasPushed, SeesIt, shows}
-use Rattle.af_stateq.specs.Ends.{saw, pushes}
-use Rattle.af_stateq.specs.Mutates.{Mutates}
 use Rattle.af_link.specs.declared.links.Links.{Links}
-use Rattle.af_link.specs.declared.names.StreamNames.{StreamNames}
 use Rattle.af_life.specs.declared.kept.TrackKept.{TrackKept}
-use Rattle.af_life.specs.Kept.{Setup, asked, pipe_size, NormalKept, Learnt, Outside, track_at, new_track, nothing_seen, track_in, seen_at, is_home}
+use Rattle.af_life.specs.Kept.{Setup, asked, NormalKept, Learnt, Outside, track_at, track_in, seen_at, is_home}
 use Rattle.af_life.specs.Looks.{all_command_events, words_taken}
-use Rattle.af_life.specs.Plays.{put_by}
 use Rattle.af_life.specs.Serves.{served_to}
-use Rattle.af_life.specs.Edits.{after_ack}
-use Rattle.af_life.specs.Turn.{after_edits}
-use Rattle.af_life.specs.TurnEvents.{tracks_at, invalid, status_events, command_list, hand_list, stream_list, mix_events, takes_from, number_seen, push_list, mutator_list}
-use Rattle.af_normal.specs.LegalTurned.{hand_events, GoesOnFrom, Grows}
+use Rattle.af_life.specs.TurnEvents.{tracks_at, invalid, status_events, command_list, hand_list, stream_list, mix_events, takes_from}
+use Rattle.af_normal.specs.LegalTurned.{hand_events, GoesOnFrom}
 use Rattle.af_normal.specs.Mixing.{stream_at}
-use Rattle.af_normal.specs.Ready.{serving_of}
 use Rattle.af_normal.specs.Serving.{Adds, StreamAdds, disabled_events}
 use Rattle.af_normal.specs.State.{NormalState, setup_of, kept_of}
 use Rattle.af_normal.specs.TurnMade.{mixing_of}
 use Rattle.af_normal.specs.Turning.{listed_at}
 use Rattle.af_normal.proofs.LegalFlags.{events_still}
-use Rattle.af_normal.proofs.LegalMade.{IsMade, PlaysBy, going_home, going_l, done, mix, told, outside, c, k, turns, setup_of_p, setup_of_l, p_same, z_same, entry_of_p, kept_l, kept_z, long}
+use Rattle.af_normal.proofs.LegalMade.{IsMade, going_l, done, mix, told, outside, c, k, turns, setup_of_p, p_same, z_same, kept_l, long}
 use Rattle.af_normal.proofs.LegalPlays.{StreamTakes, mix_of, words_of}
-use Rattle.af_normal.proofs.LegalServed.{Part}
 use Rattle.af_normal.proofs.OrderServed.{stay_put}
 use Rattle.af_normal.proofs.OrderStages.{acked_same}
-use Rattle.af_normal.proofs.OrderTurn.{told_served, edited_mutated, served_mutator, seen_past}
+use Rattle.af_normal.proofs.OrderTurn.{told_served, edited_mutated, seen_past}
 
 same_proxy : {X : Type 0} (r q : X) → Some r ≡ Some q → r ≡ q
 same_proxy r q e = cc

@@ -1,5 +1,5 @@
 -- Where a proxy is that was lent in a turn.
-use Rattle.std.proofs.Common.{◌≡◌, ◌≢◌, ℕ, zero, suc, ◌+◌, ◌<◌, ◌≤◌, ◌&&◌, Bool, true, false, true≢false, is_some, MatchBool, sym, refl, ap, subst, ◌∙◌, List, [], ◌∷◌, length, length-set, Option, Some, None, ⊎_elim, get_or-set_same, get_or-set_other, arith}
+use Rattle.std.proofs.Common.{◌≡◌, ◌≢◌, ℕ, zero, suc, ◌+◌, ◌<◌, ◌≤◌, ◌&&◌, Bool, true, false, true≢false, MatchBool, sym, refl, ap, subst, ◌∙◌, List, length, length-set, Option, Some, None, ⊎_elim, get_or-set_same, get_or-set_other, arith}
 use Rattle.std.specs.Prelude.{slice_set}
 use Rattle.std.proofs.lemmas.Bool.{cases_eq}
 use Rattle.af_base.specs.Log.{slots}
@@ -18,7 +18,7 @@ use Rattle.af_normal.specs.Mixing.{stream_at}
 use Rattle.af_normal.specs.Mutating.{EditsTrack, EditsTo}
 use Rattle.af_normal.specs.Order.{IsOpen}
 use Rattle.af_normal.specs.State.{NormalState, setup_of, kept_of}
-use Rattle.af_normal.proofs.OrderEdits.{at_here, at_other, apart, leaver_away, comer_slot, comer_inside, comer_holds, inside}
+use Rattle.af_normal.proofs.OrderEdits.{at_here, at_other, apart, leaver_away, comer_slot, comer_inside, comer_holds}
 use Rattle.af_normal.proofs.OrderSlots.{away_holds}
 use Rattle.af_normal.proofs.OrderStages.{edited_open}
 

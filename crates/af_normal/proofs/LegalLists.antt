@@ -1,5 +1,5 @@
 -- Lists and functions of numbers, changed at one place or at the end.
-use Rattle.std.proofs.Common.{◌≡◌, ◌≢◌, ℕ, zero, suc, ◌+◌, ◌<◌, ◌≤◌, ◌==◌, Bool, true, false, if◌then◌else◌, sym, refl, ap, ◌∙◌, List, [], ◌∷◌, ◌++◌, length, Option, Some, None, eq-eqb, ne_eqb, arith}
+use Rattle.std.proofs.Common.{◌≡◌, ◌≢◌, ℕ, zero, suc, ◌+◌, ◌<◌, ◌==◌, Bool, if◌then◌else◌, refl, ap, ◌∙◌, List, [], ◌∷◌, ◌++◌, length, Some, eq-eqb, ne_eqb, arith}
 use Rattle.std.specs.Prelude.{slice_set, slice_get}
 use Rattle.std.specs.List.{filter, range_with_len, AllByRecursion}
 use Rattle.std.proofs.lemmas.List.Elements.{filter-append}

@@ -1,5 +1,5 @@
 -- A turn that goes on is a legal one, and leaves what the definition says.
-use Rattle.std.proofs.Common.{◌≡◌, ◌≢◌, ℕ, zero, suc, ◌+◌, ◌*◌, ◌-◌, ◌<◌, ◌≤◌, ◌^◌, ◌==◌, ◌&&◌, ◌||◌, not, Bool, true, false, if◌then◌else◌, true≢false, is_some, MatchBool, inl, inr, sym, refl, ap, subst, ◌∙◌, List, [], ◌∷◌, ◌++◌, length, map, Option, Some, None, ⊎_elim, arith}
+use Rattle.std.proofs.Common.{◌≡◌, ℕ, ◌<◌, ◌≤◌, ◌&&◌, ◌||◌, Bool, true, false, if◌then◌else◌, true≢false, is_some, MatchBool, sym, refl, ap, subst, ◌∙◌, List, [], ◌∷◌, length, map, Option, Some, None, ⊎_elim, arith}
 use Rattle.std.specs.Prelude.{nat_le, fold, filter, slice_get}
 use Rattle.std.specs.List.{range_with_len, AllByRecursion}
 use Rattle.af_base.specs.declared.report.Report.{Report}
@@ -8,8 +8,8 @@ use Rattle.af_base.specs.declared.turn.NormalTake.{NormalTake}
 use Rattle.af_base.specs.declared.turn.TrackTurn.{TrackTurn}
 use Rattle.af_base.specs.declared.turn.TurnEntry.{TurnEntry}
 use Rattle.af_base.specs.Roomy.{Roomy}
-use Rattle.af_base.specs.Turn.{Turn, TakeSeen, TrackSeen, turn_of, track_seen, take_seen, ended_turn}
-use Rattle.af_model.specs.Cycles.{Listed, kept, LooksBy}
+use Rattle.af_base.specs.Turn.{Turn, TakeSeen, TrackSeen, turn_of, track_seen, take_seen}
+use Rattle.af_model.specs.Cycles.{LooksBy}
 use Rattle.af_server.specs.Order.{ServerState}
 use Rattle.af_server.specs.Slot.{listed}
 use Rattle.af_stateq.specs.Answers.{WasAcked}
@@ -18,26 +18,26 @@ use Rattle.af_link.specs.declared.links.Links.{Links}
 use Rattle.af_link.specs.declared.names.StreamNames.{StreamNames}
 use Rattle.af_life.specs.declared.kept.TrackKept.{TrackKept}
 use Rattle.af_life.specs.Heard.{learnt}
-use Rattle.af_life.specs.Kept.{Setup, asked, pipe_size, NormalKept, Learnt, Outside, track_at, track_in, seen_at}
+use Rattle.af_life.specs.Kept.{Setup, asked, NormalKept, Learnt, Outside, track_at, seen_at}
 use Rattle.af_life.specs.Looks.{LegalLooks}
 use Rattle.af_life.specs.Serves.{served_to, LegalTrack}
 use Rattle.af_life.specs.Edits.{after_ack, is_exit, mutated, after_push, LegalPush}
 use Rattle.af_life.specs.Plays.{is_mixed_here, tracks_due, after_take, after_takes, LegalTake}
-use Rattle.af_life.specs.Turn.{after_tracks, after_edits, turn_after, ends_now, GoesOn, LegalTurn}
+use Rattle.af_life.specs.Turn.{after_tracks, after_edits, turn_after, GoesOn, LegalTurn}
 use Rattle.af_life.specs.TurnEvents.{takes_from}
 use Rattle.af_life.proofs.Lives.{acked_len}
 use Rattle.af_normal.specs.Mixing.{stream_at, Mixing, MixesTo}
 use Rattle.af_normal.specs.Order.{IsTied, IsGoing}
 use Rattle.af_normal.specs.Ready.{AreOwn, serving_of}
 use Rattle.af_normal.specs.State.{NormalState, setup_of, kept_of}
-use Rattle.af_normal.specs.TurnMade.{ServesAll, PlaysAll, GoesOnBy, mixing_of, told_turn}
-use Rattle.af_normal.specs.Turning.{SeesAck, Learns, learnt_by, listed_at}
-use Rattle.af_normal.proofs.LegalEdits.{Mutated, push_legal}
+use Rattle.af_normal.specs.TurnMade.{PlaysAll, GoesOnBy, mixing_of}
+use Rattle.af_normal.specs.Turning.{learnt_by, listed_at}
+use Rattle.af_normal.proofs.LegalEdits.{push_legal}
 use Rattle.af_normal.proofs.LegalFlags.{looks_still}
 use Rattle.af_normal.proofs.LegalPlays.{StreamTakes, words_of, LegalBy, mix_of, PlayedTo, played_all, stays}
-use Rattle.af_normal.proofs.LegalServed.{ServedTo, Part}
+use Rattle.af_normal.proofs.LegalServed.{ServedTo}
 use Rattle.af_normal.proofs.OrderStages.{acked_kept, acked_same}
-use Rattle.af_normal.proofs.OrderTurn.{going_acked, going_learnt, served_done, served_kept, told_served, edited_kept, edited_mutated, pushed_tied}
+use Rattle.af_normal.proofs.OrderTurn.{going_acked, going_learnt, served_done, told_served, edited_kept, edited_mutated, pushed_tied}
 
 -- ## The buffer
 

@@ -4,7 +4,7 @@ use Rattle.std.specs.Prelude.{slice_set, fold, filter}
 use Rattle.std.specs.List.{range_with_len, flat_map, AllByRecursion}
 use Rattle.std.proofs.lemmas.Bool.{cases_eq}
 use Rattle.std.proofs.lemmas.List.Elements.{filter-append}
-use Rattle.std.proofs.lemmas.Grind.{flat_map-append, fold-append}
+use Rattle.std.proofs.lemmas.Grind.{fold-append}
 use Rattle.af_base.specs.declared.event.ServerEvent.{ServerEvent}
 use Rattle.af_base.specs.Log.{count_seen}
 use Rattle.af_base.specs.Sample.{packed_word}
@@ -16,7 +16,7 @@ use Rattle.af_life.specs.declared.kept.TrackKept.{TrackKept}
 use Rattle.af_life.specs.Kept.{track_at, new_track}
 use Rattle.af_life.specs.Plays.{is_mixed_here, after_take}
 use Rattle.af_life.specs.TurnEvents.{takes_from}
-use Rattle.af_normal.specs.Mixing.{stream_at, Mixing, TakesOnce, TakesOf, MixesTrack, MixesTo}
+use Rattle.af_normal.specs.Mixing.{stream_at, Mixing, TakesOf, MixesTrack, MixesTo}
 use Rattle.af_normal.specs.Serving.{Adds}
 use Rattle.af_normal.specs.Turning.{listed_at}
 use Rattle.af_normal.proofs.LegalLists.{upd, upd_same, upd_other, filter_end, all_end, all_map}

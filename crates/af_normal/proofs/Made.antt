@@ -1,5 +1,5 @@
 -- A new mixer is in order.
-use Rattle.std.proofs.Common.{◌≡◌, ℕ, zero, suc, ◌+◌, ◌-◌, ◌*◌, ◌<◌, ◌≤◌, ◌&&◌, Bool, true, false, true≢false, is_some, sym, refl, ap, subst, ◌∙◌, List, [], ◌∷◌, length, map, replicate, All, Option, Some, None, arith}
+use Rattle.std.proofs.Common.{◌≡◌, ℕ, zero, suc, ◌-◌, ◌*◌, ◌<◌, ◌≤◌, Bool, true, false, true≢false, is_some, sym, refl, ap, subst, ◌∙◌, List, [], ◌∷◌, length, replicate, All, Option, Some, None, arith}
 use Rattle.std.specs.Prelude.{slice_get}
 use Rattle.std.proofs.lemmas.List.{length-replicate, length-map, nil_from_length}
 use Rattle.std.proofs.lemmas.List.Elements.{All-get_or, All-nil}
@@ -23,7 +23,7 @@ use Rattle.af_link.specs.declared.links.Links.{Links}
 use Rattle.af_link.specs.declared.names.StreamNames.{StreamNames}
 use Rattle.af_life.specs.declared.kept.Setting.{Setting}
 use Rattle.af_life.specs.declared.kept.TrackKept.{TrackKept}
-use Rattle.af_life.specs.Kept.{Setup, NormalKept, new_normal, new_track, track_at, is_home}
+use Rattle.af_life.specs.Kept.{Setup, new_normal, new_track, track_at, is_home}
 use Rattle.af_life.specs.Obeys.{holds}
 use Rattle.af_life.specs.Serves.{most_looks}
 use Rattle.af_life.specs.Small.{IsSmall}
@@ -34,7 +34,7 @@ use Rattle.af_normal.specs.Mixing.{stream_at}
 use Rattle.af_normal.specs.AllMixed.{HasFrames, HasTakes}
 use Rattle.af_normal.specs.Order.{AreThere, HasTurns, IsTied, IsInOrder}
 use Rattle.af_normal.specs.Ready.{HaveRoom}
-use Rattle.af_normal.specs.State.{NormalState, setup_of, kept_of}
+use Rattle.af_normal.specs.State.{NormalState, kept_of}
 
 no : {A : Type 0} → false ≡ true → A
 no h = absurd (true≢false (sym h))
@@ -49,7 +49,7 @@ none_out zero k = refl
 none_out (suc n) zero = refl
 none_out (suc n) (suc k) = none_out n k
 
-new_sound : (n frames : ℕ) (draft : FastState) → draft ≡ initial frames → IsSound (replicate n new_track) draft
+pub new_sound : (n frames : ℕ) (draft : FastState) → draft ≡ initial frames → IsSound (replicate n new_track) draft
 new_sound n frames draft e = record {
   slotted = (λ i. subst IsSlotted (sym (at_new n i)) (record { slot = no; unopened = (λ h. refl); homely = (λ h. refl) }));
   drafted = (λ i. subst (IsDrafted draft i) (sym (at_new n i)) (record { lent = no; returning = no; own = (λ h. absurd (true≢false h)) }));

@@ -1,5 +1,5 @@
 -- The proxies of one track meet their clients by the number of the track.
-use Rattle.std.proofs.Common.{◌≡◌, ◌≢◌, ℕ, zero, suc, ◌<◌, ◌≤◌, List, [], ◌∷◌, length, slice_get, slice_set, slice_index_or, Option, Some, None, refl, sym, ap, subst, ◌∙◌, length-set, get_or-set_same, arith}
+use Rattle.std.proofs.Common.{◌≡◌, ◌≢◌, ℕ, ◌<◌, List, length, slice_get, slice_set, slice_index_or, Option, Some, None, refl, sym, ap, subst, ◌∙◌, get_or-set_same, arith}
 use Rattle.std.proofs.lemmas.Option.{slice_get-get_or, slice_get_within, slice_get_past, get_or_from_slice_get}
 use Rattle.std.proofs.lemmas.List.{get_or_default}
 use Rattle.af_cblk.specs.Sides.{HandSide, Made, client_made, hand_made, server_made}
@@ -8,8 +8,7 @@ use Rattle.af_server.specs.Order.{ServerState, IsServerOf}
 use Rattle.af_link.specs.Names.{IsStreamOf}
 use Rattle.af_link.specs.declared.links.Links.{Links}
 use Rattle.af_normal.specs.Meeting.{AreClientsOf, AreOf, Meets, MeetsStream, MeetsTrack}
-use Rattle.af_normal.specs.Mixing.{stream_at}
-use Rattle.af_normal.proofs.LegalLists.{get_set_same, get_set_other}
+use Rattle.af_normal.proofs.LegalLists.{get_set_same}
 
 pub one_of : {A : Type 0} (a b : A) → Some a ≡ Some b → a ≡ b
 one_of a b e = cc
@@ -54,9 +53,9 @@ module _ (links : Links) (i : ℕ) (streams : List (Option ServerState)) (comman
     pub own_after : (hands' : List HandSide) → ((h : HandSide) → slice_get hands' i ≡ Some h → hand_made h ≡ slice_index_or links.streams.now i sb) → AreOf links i (slice_set streams i stream') (slice_set commands i command') hands'
     own_after hands' flags = record {
       command_is = (λ s e. let is : command' ≡ s = one_of command' s (sym (get_set_same commands i command' long) ∙ e) in
-      subst (IsStreamOf links.commands.now i) is (record { made = slice_get-get_or links.commands.now i cb command_within ∙ ap (λ (m : Made). Some m) (sym commands_are.1.0); in_order = commands_are.1.1 }));
+          subst (IsStreamOf links.commands.now i) is (record { made = slice_get-get_or links.commands.now i cb command_within ∙ ap (λ (m : Made). Some m) (sym commands_are.1.0); in_order = commands_are.1.1 }));
       stream_is = (λ s e. let of : IsServerOf (slice_index_or links.streams.now i sb) s = stream_is s (sym (get_or-set_same streams i stream' None wide) ∙ e) in
-      record { made = slice_get-get_or links.streams.now i sb stream_within ∙ ap (λ (m : Made). Some m) (sym of.0); in_order = of.1 });
+          record { made = slice_get-get_or links.streams.now i sb stream_within ∙ ap (λ (m : Made). Some m) (sym of.0); in_order = of.1 });
       flag_is = (λ h e. slice_get-get_or links.streams.now i sb stream_within ∙ ap (λ (m : Made). Some m) (sym (flags h e)));
     }
 

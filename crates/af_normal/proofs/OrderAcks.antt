@@ -1,33 +1,28 @@
 -- What comes home by a look at the acknowledgement, and that the order stays.
-use Rattle.std.proofs.Common.{◌≡◌, ◌≢◌, ℕ, zero, suc, ◌+◌, ◌<◌, ◌≤◌, ◌&&◌, not, Bool, true, false, if◌then◌else◌, true≢false, is_some, MatchBool, MatchOption, ◌⊎◌, sym, refl, ap, subst, ◌∙◌, inl, inr, List, [], ◌∷◌, length, map, Option, Some, None, ⊎_elim, length-set, get_or-set_same, get_or-set_other, arith}
+use Rattle.std.proofs.Common.{◌≡◌, ◌≢◌, ℕ, zero, suc, ◌<◌, ◌≤◌, ◌&&◌, not, Bool, true, false, if◌then◌else◌, true≢false, is_some, MatchBool, MatchOption, ◌⊎◌, sym, refl, ap, subst, ◌∙◌, inl, inr, List, length, map, Option, Some, None, ⊎_elim, length-set, get_or-set_same, get_or-set_other, arith}
 use Rattle.std.specs.Prelude.{slice_set}
 use Rattle.std.proofs.lemmas.Bool.{cases_eq}
 use Rattle.std.proofs.lemmas.List.{ext_get_or, get_or-map, length-map}
 use Rattle.af_base.specs.declared.state.FastState.{FastState}
-use Rattle.af_base.specs.declared.state.FastTrack.{FastTrack}
 use Rattle.af_base.specs.Log.{slots}
 use Rattle.af_cblk.specs.Sides.{Made}
 use Rattle.af_model.specs.StateQueue.{carries, slot_of}
 use Rattle.af_server.specs.Order.{ServerState}
-use Rattle.af_stateq.specs.Answers.{WasAcked, SeesIt}
-use Rattle.af_stateq.specs.Ends.{saw}
-use Rattle.af_stateq.specs.Mutates.{Mutates, InSlot, InDraft, at, is_out}
+use Rattle.af_stateq.specs.Mutates.{InSlot, InDraft, at, is_out}
 use Rattle.af_link.specs.Names.{IsStreamOf}
 use Rattle.af_link.specs.declared.links.Links.{Links}
-use Rattle.af_link.specs.declared.names.StreamNames.{StreamNames}
-use Rattle.af_life.specs.declared.kept.Holder.{Holder}
 use Rattle.af_life.specs.declared.kept.Holder.TheVariants.{Home}
 use Rattle.af_life.specs.declared.kept.TrackKept.{TrackKept}
 use Rattle.af_life.specs.Kept.{track_at, new_track, slot_number, is_home, is_returning}
 use Rattle.af_life.specs.Edits.{comes_home, welcomed, after_ack}
 use Rattle.af_normal.specs.Coming.{takes_back, has_back, Welcomes, WelcomesTo}
 use Rattle.af_normal.specs.Mixing.{stream_at}
-use Rattle.af_normal.specs.Order.{AreThere, HasProxies, IsOut, IsTied}
+use Rattle.af_normal.specs.Order.{AreThere, IsTied}
 use Rattle.af_normal.specs.State.{NormalState, kept_of}
 use Rattle.af_normal.specs.Turning.{stream_fits}
 use Rattle.af_normal.proofs.OrderEdits.{returning_away, sound_home, away_slot, apart, inside, at_here, at_other}
 use Rattle.af_normal.proofs.OrderSlots.{away_holds, slot_of_away}
-use Rattle.af_normal.proofs.OrderOut.{out_same, out_less, out_other}
+use Rattle.af_normal.proofs.OrderOut.{out_same, out_less}
 
 no : {A : Type 0} → false ≡ true → A
 no h = absurd (true≢false (sym h))

@@ -1,40 +1,28 @@
 -- The order after a whole turn.
-use Rattle.std.proofs.Common.{◌≡◌, ◌≢◌, ℕ, zero, suc, ◌+◌, ◌*◌, ◌<◌, ◌≤◌, ◌^◌, ◌&&◌, Bool, true, false, if◌then◌else◌, true≢false, is_some, MatchBool, inl, inr, sym, refl, ap, subst, ◌∙◌, List, [], ◌∷◌, length, map, length-set, Option, Some, None, arith}
-use Rattle.std.specs.Prelude.{fold, slice_set, slice_get}
-use Rattle.std.proofs.lemmas.Bool.{cases_lt}
-use Rattle.std.proofs.lemmas.Option.{slice_get_within}
+use Rattle.std.proofs.Common.{◌≡◌, ℕ, ◌≤◌, Bool, is_some, inl, inr, sym, refl, ap, subst, ◌∙◌, List, [], ◌∷◌, length, Option, Some, None, arith}
+use Rattle.std.specs.Prelude.{fold, slice_set}
 use Rattle.af_base.specs.declared.event.ServerEvent.{ServerEvent}
 use Rattle.af_base.specs.declared.report.Report.{Report}
 use Rattle.af_base.specs.declared.state.FastState.{FastState}
 use Rattle.af_base.specs.declared.state.Push.{Push}
-use Rattle.af_base.specs.declared.turn.CommandLook.{CommandLook}
-use Rattle.af_base.specs.Turn.{Turn, TakeSeen, TrackSeen, turn_of, ended_turn}
-use Rattle.af_cblk.specs.Sides.{Made, HandSide, hand_made}
+use Rattle.af_base.specs.Turn.{TakeSeen}
+use Rattle.af_cblk.specs.Sides.{Made}
 use Rattle.af_server.specs.Order.{ServerState}
 use Rattle.af_link.specs.Names.{IsStreamOf}
-use Rattle.af_link.specs.PipeEnds.{in_made}
 use Rattle.af_link.specs.declared.links.Links.{Links}
 use Rattle.af_life.specs.declared.kept.TrackKept.{TrackKept}
-use Rattle.af_life.specs.Kept.{Setup, asked, pipe_size, NormalKept, Learnt, track_at, nothing_seen, seen_at, is_home}
+use Rattle.af_life.specs.Kept.{asked, track_at, is_home}
 use Rattle.af_life.specs.Plays.{after_take, counted}
-use Rattle.af_life.specs.Small.{IsSmall, IsSmallTurn, most_tracks}
 use Rattle.af_life.specs.Sound.{IsSlotted, IsDrafted, IsSound}
-use Rattle.af_life.specs.Serves.{served_to}
-use Rattle.af_life.specs.Turn.{turn_after}
-use Rattle.af_life.specs.Heard.{learnt}
-use Rattle.af_life.specs.Edits.{is_exit}
 use Rattle.af_life.proofs.Lives.{takes_len}
-use Rattle.af_life.proofs.SmallTurns.{turn_small}
-use Rattle.af_normal.specs.AllMixed.{HasTakes}
 use Rattle.af_normal.specs.Mixing.{stream_at}
-use Rattle.af_normal.specs.Order.{AreThere, HaveHands, HasTurns, IsOut, IsTied, IsGoing, IsInOrder}
-use Rattle.af_normal.specs.State.{NormalState, setup_of, kept_of}
-use Rattle.af_normal.specs.TurnMade.{mixing_of, Stops}
-use Rattle.af_normal.proofs.LegalMade.{IsMade, PlaysBy, going_l, done, mix, told, tells, outside, c, k, turns, p_tied, setup_of_p, setup_of_l, p_same, z_same, turn_kept}
+use Rattle.af_normal.specs.Order.{AreThere, IsTied}
+use Rattle.af_normal.specs.State.{NormalState, setup_of}
+use Rattle.af_normal.specs.TurnMade.{mixing_of}
+use Rattle.af_normal.proofs.LegalMade.{IsMade, PlaysBy, mix, p_tied}
 use Rattle.af_normal.proofs.LegalPlays.{StreamTakes}
 use Rattle.af_normal.proofs.OrderServed.{StaysPut, out_put}
-use Rattle.af_normal.proofs.OrderSlots.{at_set, set_each, alone_set, has_slot, slot_is}
-use Rattle.af_normal.proofs.OrderTurn.{few_looks, seen_past}
+use Rattle.af_normal.proofs.OrderSlots.{at_set, set_each, alone_set}
 
 -- ## The looks that count
 

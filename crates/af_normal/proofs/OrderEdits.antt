@@ -1,23 +1,22 @@
 -- The edits of the draft keep what holds of slots and draft.
-use Rattle.std.proofs.Common.{◌≡◌, ◌≢◌, ℕ, zero, suc, ◌+◌, ◌<◌, ◌≤◌, ◌&&◌, ◌⊎◌, not, Bool, true, false, if◌then◌else◌, true≢false, is_some, sym, refl, ap, subst, ◌∙◌, inl, inr, List, [], ◌∷◌, length, Option, Some, None, ⊎_elim, get_or-set_same, get_or-set_other, arith}
+use Rattle.std.proofs.Common.{◌≡◌, ◌≢◌, ℕ, zero, suc, ◌<◌, ◌≤◌, ◌&&◌, not, Bool, true, false, true≢false, is_some, sym, refl, ap, subst, ◌∙◌, inl, List, [], ◌∷◌, length, ⊎_elim, get_or-set_same, get_or-set_other, arith}
 use Rattle.std.specs.Prelude.{slice_set}
 use Rattle.std.proofs.lemmas.Bool.{cases_eq}
 use Rattle.af_base.specs.declared.state.FastState.{FastState}
 use Rattle.af_base.specs.declared.state.FastTrack.{FastTrack}
 use Rattle.af_base.specs.Log.{slots}
-use Rattle.af_model.specs.Draft.{attached, detached, renewed}
-use Rattle.af_model.specs.StateQueue.{carries, slot_of, IsState}
+use Rattle.af_model.specs.Draft.{detached}
+use Rattle.af_model.specs.StateQueue.{carries, slot_of}
 use Rattle.af_stateq.proofs.Bits.{attached_here, attached_else, slot_here, slot_else, attached_state, detached_here, detached_else, detached_state}
 use Rattle.af_life.specs.declared.kept.Heard.{Heard}
 use Rattle.af_life.specs.declared.kept.Holder.{Holder}
 use Rattle.af_life.specs.declared.kept.Holder.TheVariants.{Home, Lent, Returning}
 use Rattle.af_life.specs.declared.kept.TrackKept.{TrackKept}
-use Rattle.af_life.specs.declared.track.Life.{Life}
-use Rattle.af_life.specs.Kept.{Setup, NormalKept, track_at, new_track, slot_number, is_home, is_lent, is_returning, setting_of, plays}
+use Rattle.af_life.specs.Kept.{Setup, NormalKept, track_at, new_track, slot_number, is_home, is_lent, is_returning, setting_of}
 use Rattle.af_life.specs.Obeys.{holds}
 use Rattle.af_life.specs.Edits.{must_leave, must_enter, entered, lent_by}
-use Rattle.af_life.specs.Sound.{IsSlotted, IsDrafted, AreAlone, IsSound}
-use Rattle.af_normal.proofs.OrderSlots.{alone_set, TakesNone, has_slot, slot_is, slot_of_away, away_holds, set_each}
+use Rattle.af_life.specs.Sound.{IsSlotted, IsDrafted, IsSound}
+use Rattle.af_normal.proofs.OrderSlots.{alone_set, has_slot, slot_is, slot_of_away, away_holds, set_each}
 
 no : {A : Type 0} → false ≡ true → A
 no h = absurd (true≢false (sym h))

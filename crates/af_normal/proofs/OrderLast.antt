@@ -1,13 +1,12 @@
 -- A whole turn keeps the order.
-use Rattle.std.proofs.Common.{◌≡◌, ℕ, zero, suc, ◌+◌, ◌*◌, ◌<◌, ◌≤◌, ◌&&◌, Bool, true, false, true≢false, inl, inr, sym, refl, ap, subst, ◌∙◌, List, [], ◌∷◌, length, Option, Some, None, arith}
-use Rattle.std.specs.Prelude.{slice_get}
+use Rattle.std.proofs.Common.{◌≡◌, ℕ, zero, suc, ◌+◌, ◌<◌, ◌≤◌, ◌&&◌, Bool, false, inl, inr, sym, refl, ap, subst, ◌∙◌, List, length, Some, arith}
 use Rattle.std.proofs.lemmas.Bool.{cases_lt}
 use Rattle.std.proofs.lemmas.Option.{slice_get_within}
 use Rattle.af_base.specs.declared.report.Report.{Report}
 use Rattle.af_base.specs.declared.state.Push.{Push}
 use Rattle.af_base.specs.declared.state.Push.TheVariants.{Pushed, Clean, Busy}
-use Rattle.af_base.specs.Turn.{Turn, TrackSeen, turn_of, ended_turn}
-use Rattle.af_cblk.specs.Sides.{HandSide, hand_made}
+use Rattle.af_base.specs.Turn.{TrackSeen, turn_of}
+use Rattle.af_cblk.specs.Sides.{HandSide}
 use Rattle.af_server.specs.Order.{ServerState}
 use Rattle.af_stateq.specs.Answers.{WasPushed, SeesIt, shows}
 use Rattle.af_stateq.specs.Mutates.{Mutates}
@@ -19,16 +18,14 @@ use Rattle.af_life.specs.Kept.{Setup, asked, NormalKept, Learnt, seen_at}
 use Rattle.af_life.specs.Heard.{learnt}
 use Rattle.af_life.specs.Edits.{is_exit}
 use Rattle.af_life.specs.Serves.{served_to}
-use Rattle.af_life.specs.Small.{IsSmall, IsSmallTurn, most_tracks}
-use Rattle.af_life.specs.Turn.{turn_after}
+use Rattle.af_life.specs.Small.{IsSmall, IsSmallTurn}
 use Rattle.af_life.proofs.SmallTurns.{turn_small}
 use Rattle.af_normal.specs.AllMixed.{HasTakes}
 use Rattle.af_normal.specs.Mixing.{stream_at}
-use Rattle.af_normal.specs.Mutating.{Pushes, EditsAll}
-use Rattle.af_normal.specs.Order.{HaveHands, HasTurns, IsTied, IsGoing, IsInOrder}
+use Rattle.af_normal.specs.Mutating.{Pushes}
+use Rattle.af_normal.specs.Order.{HaveHands, HasTurns, IsTied, IsInOrder}
 use Rattle.af_normal.specs.State.{NormalState, setup_of, kept_of}
-use Rattle.af_normal.specs.TurnMade.{mixing_of}
-use Rattle.af_normal.proofs.LegalMade.{IsMade, PlaysBy, going_l, done, mix, told, tells, outside, c, k, turns, p_tied, setup_of_p, setup_of_l, p_same, z_same, turn_kept}
+use Rattle.af_normal.proofs.LegalMade.{IsMade, going_l, done, mix, told, tells, outside, c, k, turns, p_tied, setup_of_p, setup_of_l, p_same, z_same, turn_kept}
 use Rattle.af_normal.proofs.LegalGrows.{y_same, q_same, home_same}
 use Rattle.af_normal.proofs.OrderDone.{tied_played}
 use Rattle.af_normal.proofs.OrderServed.{long as served_long}

@@ -1,17 +1,17 @@
 -- An edit of the draft keeps the order.
-use Rattle.std.proofs.Common.{◌≡◌, ◌≢◌, ℕ, zero, suc, ◌+◌, ◌<◌, ◌≤◌, ◌^◌, ◌&&◌, Bool, true, false, true≢false, is_some, MatchBool, sym, refl, ap, subst, ◌∙◌, List, [], ◌∷◌, length, length-set, All, Option, Some, None, ⊎_elim, get_or-set_same, get_or-set_other, arith}
-use Rattle.std.specs.Prelude.{slice_set, slice_index_or}
+use Rattle.std.proofs.Common.{◌≡◌, ◌≢◌, ℕ, ◌+◌, ◌<◌, ◌≤◌, ◌^◌, Bool, true, false, true≢false, is_some, MatchBool, sym, refl, ap, subst, ◌∙◌, List, length, length-set, All, Option, Some, None, ⊎_elim, get_or-set_same, get_or-set_other, arith}
+use Rattle.std.specs.Prelude.{slice_set}
 use Rattle.std.proofs.lemmas.Bool.{cases_eq}
 use Rattle.std.proofs.lemmas.List.Elements.{All-get_or}
 use Rattle.af_base.specs.declared.state.FastTrack.{FastTrack}
 use Rattle.af_base.specs.Log.{slots}
-use Rattle.af_model.specs.StateQueue.{slot_of, no_track, carries}
+use Rattle.af_model.specs.StateQueue.{slot_of, no_track}
 use Rattle.af_server.specs.Order.{ServerState}
 use Rattle.af_server.specs.Slot.{listed}
 use Rattle.af_stateq.specs.Mutates.{is_out}
 use Rattle.af_link.specs.Names.{IsStreamOf}
 use Rattle.af_link.specs.declared.links.Links.{Links}
-use Rattle.af_life.specs.declared.kept.Holder.TheVariants.{Home, Lent, Returning}
+use Rattle.af_life.specs.declared.kept.Holder.TheVariants.{Returning}
 use Rattle.af_life.specs.declared.kept.Setting.{Setting}
 use Rattle.af_life.specs.declared.kept.TrackKept.{TrackKept}
 use Rattle.af_life.specs.Heard.{known_by}
@@ -22,11 +22,10 @@ use Rattle.af_normal.specs.Editing.{LetsGo, Lends, lets_go, lends}
 use Rattle.af_normal.specs.Mixing.{stream_at}
 use Rattle.af_link.specs.declared.names.StreamNames.{StreamNames}
 use Rattle.af_cblk.specs.Sides.{Made}
-use Rattle.af_normal.specs.Mutating.{EditsTrack, MayLeave, MayEnter, IsEditable}
-use Rattle.af_normal.specs.Order.{AreThere, HasSizes, IsOut, IsTied, IsOpen}
+use Rattle.af_normal.specs.Mutating.{EditsTrack, MayEnter, IsEditable}
+use Rattle.af_normal.specs.Order.{AreThere, HasSizes, IsOpen}
 use Rattle.af_normal.specs.State.{NormalState, setup_of, kept_of}
 use Rattle.af_normal.proofs.OrderEdits.{at_here, at_other, leaver_away, leaver_slot, leaver_carried, leaver_inside, sound_go, comer_slot, comer_home, comer_inside, comer_holds, sound_lend, apart}
-use Rattle.af_normal.proofs.OrderSlots.{away_holds}
 use Rattle.af_normal.proofs.OrderOut.{out_moved, out_more}
 
 no : {A : Type 0} → false ≡ true → A

@@ -1,17 +1,15 @@
 -- Which slots are out, while proxies are lent, come home, or neither.
-use Rattle.std.proofs.Common.{◌≡◌, ◌≢◌, ℕ, zero, suc, ◌<◌, ◌≤◌, Bool, true, false, true≢false, is_some, sym, refl, ap, subst, ◌∙◌, List, length, length-set, ⊎_elim, get_or-set_same, get_or-set_other, arith}
+use Rattle.std.proofs.Common.{◌≡◌, ◌≢◌, ℕ, ◌<◌, Bool, true, false, true≢false, sym, ap, subst, ◌∙◌, List, length, length-set, ⊎_elim, get_or-set_same, get_or-set_other, arith}
 use Rattle.std.specs.Prelude.{slice_set}
 use Rattle.std.proofs.lemmas.Bool.{cases_eq}
 use Rattle.af_base.specs.Log.{slots}
 use Rattle.af_stateq.specs.Mutates.{is_out}
-use Rattle.af_life.specs.declared.kept.Holder.{Holder}
 use Rattle.af_life.specs.declared.kept.TrackKept.{TrackKept}
 use Rattle.af_life.specs.Kept.{NormalKept, track_at, slot_number, is_home}
-use Rattle.af_life.specs.Obeys.{holds}
 use Rattle.af_life.specs.Sound.{IsSound}
 use Rattle.af_normal.specs.Order.{IsOut}
 use Rattle.af_normal.proofs.OrderSlots.{away_holds}
-use Rattle.af_normal.proofs.OrderEdits.{inside, at_here, at_other, away_slot, apart}
+use Rattle.af_normal.proofs.OrderEdits.{at_here, at_other, apart}
 
 no : {A : Type 0} → false ≡ true → A
 no h = absurd (true≢false (sym h))

@@ -1,20 +1,18 @@
 -- Serving the tracks keeps the order.
-use Rattle.std.proofs.Common.{◌≡◌, ◌≢◌, ℕ, zero, suc, ◌+◌, ◌<◌, ◌≤◌, Bool, true, false, true≢false, is_some, sym, refl, ap, subst, ◌∙◌, inl, inr, List, [], ◌∷◌, length, Option, Some, None, arith}
-use Rattle.std.specs.Prelude.{slice_get, slice_set}
+use Rattle.std.proofs.Common.{◌≡◌, ℕ, zero, suc, ◌<◌, ◌≤◌, Bool, false, true≢false, is_some, sym, refl, ap, subst, ◌∙◌, inl, inr, List, [], ◌∷◌, length, Option, Some, None, arith}
+use Rattle.std.specs.Prelude.{slice_set}
 use Rattle.std.proofs.lemmas.Option.{slice_get_within}
 use Rattle.af_base.specs.declared.event.ServerEvent.{ServerEvent}
 use Rattle.af_base.specs.declared.state.FastState.{FastState}
 use Rattle.af_base.specs.Turn.{TrackSeen}
 use Rattle.af_server.specs.Order.{ServerState}
 use Rattle.af_stateq.specs.Mutates.{is_out}
-use Rattle.af_link.specs.Names.{IsStreamOf}
 use Rattle.af_link.specs.declared.links.Links.{Links}
 use Rattle.af_life.specs.declared.kept.TrackKept.{TrackKept}
-use Rattle.af_life.specs.Kept.{Setup, Learnt, track_at, number_of, slot_number, is_home, seen_at}
+use Rattle.af_life.specs.Kept.{Setup, Learnt, track_at, number_of, is_home, seen_at}
 use Rattle.af_life.specs.Obeys.{slot_for}
 use Rattle.af_life.specs.Serves.{served, served_to}
 use Rattle.af_life.specs.Sound.{IsSound}
-use Rattle.af_life.specs.TurnEvents.{invalid}
 use Rattle.af_life.proofs.Lives.{served_len}
 use Rattle.af_normal.specs.Mixing.{stream_at}
 use Rattle.af_normal.specs.Order.{AreThere, IsOut, IsTied}
@@ -26,7 +24,7 @@ use Rattle.af_normal.specs.Turning.{learnt_by}
 use Rattle.af_base.specs.declared.report.Report.{Report}
 use Rattle.af_normal.proofs.OrderLives.{Goes, goes_served}
 use Rattle.af_normal.proofs.OrderSlots.{at_set, sound_served}
-use Rattle.af_normal.proofs.LegalServed.{ServedTo, Part}
+use Rattle.af_normal.proofs.LegalServed.{ServedTo}
 
 -- a proxy is where it was, and one that is away keeps its slot
 abbrev pub StaysPut : TrackKept → TrackKept → Type 0

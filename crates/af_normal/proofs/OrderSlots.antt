@@ -1,5 +1,5 @@
 -- Serving the tracks keeps what holds of their slots.
-use Rattle.std.proofs.Common.{◌≡◌, ◌≢◌, ℕ, zero, suc, ◌+◌, ◌-◌, ◌<◌, ◌≤◌, ◌==◌, ◌&&◌, ◌||◌, ◌⊎◌, not, Bool, true, false, if◌then◌else◌, true≢false, is_some, sym, refl, ap, subst, ◌∙◌, inl, inr, List, [], ◌∷◌, Option, Some, None, arith}
+use Rattle.std.proofs.Common.{◌≡◌, ℕ, zero, suc, ◌+◌, ◌<◌, ◌≤◌, ◌==◌, ◌&&◌, ◌||◌, ◌⊎◌, not, Bool, true, false, if◌then◌else◌, true≢false, is_some, sym, refl, ap, subst, ◌∙◌, inl, inr, List, [], ◌∷◌, Option, Some, None, arith}
 use Rattle.std.specs.Prelude.{slice_set}
 use Rattle.std.specs.List.{find, list_any, range_with_len}
 use Rattle.af_base.specs.declared.state.FastState.{FastState}
@@ -9,11 +9,11 @@ use Rattle.af_model.specs.StateQueue.{carries, slot_of}
 use Rattle.af_life.specs.declared.kept.Holder.{Holder}
 use Rattle.af_life.specs.declared.kept.Holder.TheVariants.{Home, Lent, Returning}
 use Rattle.af_life.specs.declared.kept.TrackKept.{TrackKept}
-use Rattle.af_life.specs.Kept.{Setup, NormalKept, Learnt, track_at, number_of, slot_number, is_home, is_lent, is_returning, seen_at, setting_of}
+use Rattle.af_life.specs.Kept.{Setup, Learnt, track_at, number_of, slot_number, is_home, is_lent, is_returning, seen_at, setting_of}
 use Rattle.af_life.specs.Obeys.{holds, free_slot, slot_for}
 use Rattle.af_life.specs.Serves.{served, served_to}
 use Rattle.af_life.specs.Sound.{IsSlotted, IsDrafted, AreAlone, IsSound}
-use Rattle.af_normal.proofs.OrderLives.{is_absent, Unopened, Grew, IsGiven, Goes, goes_served}
+use Rattle.af_normal.proofs.OrderLives.{Goes, goes_served}
 
 no : {A : Type 0} → false ≡ true → A
 no h = absurd (true≢false (sym h))

@@ -1,6 +1,5 @@
 -- Each stage of a turn keeps the order.
-use Rattle.std.proofs.Common.{◌≡◌, ◌≢◌, ℕ, zero, suc, ◌+◌, ◌<◌, ◌≤◌, ◌==◌, Bool, true, false, if◌then◌else◌, true≢false, is_some, MatchBool, sym, refl, ap, subst, ◌∙◌, List, [], ◌∷◌, ◌++◌, ◌-◌, length, Option, Some, None, eq-eqb, arith}
-use Rattle.std.specs.Prelude.{slice_get}
+use Rattle.std.proofs.Common.{◌≡◌, ℕ, zero, suc, ◌+◌, ◌<◌, ◌≤◌, ◌==◌, Bool, true, false, if◌then◌else◌, MatchBool, sym, refl, ap, subst, ◌∙◌, List, [], ◌∷◌, ◌++◌, length, Option, eq-eqb, arith}
 use Rattle.af_base.specs.Command.{code_of}
 use Rattle.af_base.specs.declared.report.Report.{Report}
 use Rattle.af_base.specs.declared.state.Command.{Command}
@@ -13,10 +12,8 @@ use Rattle.af_model.specs.Draft.{commanded as with_command}
 use Rattle.af_model.specs.StateQueue.{slot_of, word}
 use Rattle.af_server.specs.Order.{ServerState}
 use Rattle.af_stateq.specs.Answers.{WasAcked, WasPushed, SeesIt, shows}
-use Rattle.af_stateq.specs.Ends.{Pushes as Past, saw, pushes}
-use Rattle.af_stateq.specs.Mutates.{Mutates, InDraft, IsJoined}
-use Rattle.af_stateq.specs.Shelved.{nothing}
-use Rattle.af_link.specs.Names.{IsStreamOf}
+use Rattle.af_stateq.specs.Ends.{Pushes as Past, saw}
+use Rattle.af_stateq.specs.Mutates.{Mutates, IsJoined}
 use Rattle.af_link.specs.declared.links.Links.{Links}
 use Rattle.af_link.specs.declared.names.StreamNames.{StreamNames}
 use Rattle.af_life.specs.declared.kept.TrackKept.{TrackKept}
@@ -29,7 +26,7 @@ use Rattle.af_normal.specs.Mutating.{EditsTo, EditsAll, Pushes, begun, commands,
 use Rattle.af_normal.specs.LegalTurned.{in_hand, home_stream}
 use Rattle.af_normal.specs.Mixing.{stream_at}
 use Rattle.af_normal.specs.Order.{IsTied, IsOpen}
-use Rattle.af_normal.specs.State.{NormalState, setup_of, kept_of}
+use Rattle.af_normal.specs.State.{NormalState, kept_of}
 use Rattle.af_normal.specs.Turning.{SeesAck, Learns, with_mutator}
 use Rattle.af_normal.proofs.OrderAcks.{welcomed_kept, welcomed_tied, welcomed_same, Brings, welcomed_brings}
 use Rattle.af_normal.proofs.OrderEdits.{away_slot, returning_away}
@@ -147,7 +144,7 @@ tied_learnt links report room x y tied l = subst (IsTied links) (sym l.same) (re
 -- ## The mutation
 
 -- a draft with another command carries the same tracks
-sound_ordered : (tracks : List TrackKept) (draft : FastState) (command : Command) → IsSound tracks draft → IsSound tracks (with_command command draft)
+pub sound_ordered : (tracks : List TrackKept) (draft : FastState) (command : Command) → IsSound tracks draft → IsSound tracks (with_command command draft)
 sound_ordered tracks draft command h = record {
   slotted = h.slotted;
   drafted = (λ i. record { lent = (h.drafted i).lent; returning = (h.drafted i).returning; own = (h.drafted i).own });

@@ -1,17 +1,14 @@
 -- The stages of a turn in a row: what each leaves, and that its numbers stay small.
-use Rattle.std.proofs.Common.{◌≡◌, ◌≢◌, ◌⊎◌, inl, inr, ℕ, zero, suc, ◌+◌, ◌*◌, ◌<◌, ◌≤◌, ◌^◌, ◌==◌, ◌&&◌, not, Bool, true, false, if◌then◌else◌, true≢false, is_some, MatchBool, sym, refl, ap, subst, ◌∙◌, List, [], ◌∷◌, length, map, All, Option, Some, None, arith}
-use Rattle.std.specs.Prelude.{slice_get, slice_index_or}
+use Rattle.std.proofs.Common.{◌≡◌, inl, inr, ℕ, zero, suc, ◌+◌, ◌*◌, ◌<◌, ◌≤◌, ◌^◌, ◌==◌, ◌&&◌, not, Bool, true, false, if◌then◌else◌, true≢false, is_some, MatchBool, sym, refl, ap, subst, ◌∙◌, List, [], ◌∷◌, length, map, All, Option, Some, None, arith}
+use Rattle.std.specs.Prelude.{slice_get}
 use Rattle.std.proofs.lemmas.List.Elements.{All-from_get_or}
-use Rattle.std.proofs.lemmas.List.{length-map}
 use Rattle.std.proofs.lemmas.Bool.{cases_lt}
 use Rattle.af_life.specs.TurnEvents.{invalid}
 use Rattle.af_base.specs.declared.report.Report.{Report}
 use Rattle.af_base.specs.declared.state.Push.{Push}
 use Rattle.af_base.specs.declared.state.Push.TheVariants.{Clean}
 use Rattle.af_base.specs.declared.turn.CommandLook.{CommandLook}
-use Rattle.af_base.specs.Log.{slots}
 use Rattle.af_base.specs.Turn.{Turn, TrackSeen, track_seen}
-use Rattle.af_cblk.specs.Sides.{HandSide}
 use Rattle.af_model.specs.Cycles.{kept}
 use Rattle.af_model.specs.StateQueue.{slot_of}
 use Rattle.af_server.specs.Order.{ServerState}
@@ -22,13 +19,11 @@ use Rattle.af_link.specs.declared.links.Links.{Links}
 use Rattle.af_link.specs.declared.names.StreamNames.{StreamNames}
 use Rattle.af_life.specs.declared.kept.TrackKept.{TrackKept}
 use Rattle.af_life.specs.Heard.{known_by, ready, heard}
-use Rattle.af_life.specs.Kept.{Setup, NormalKept, Learnt, track_at, new_track, track_in, seen_at, nothing_seen, is_home, slot_number, plays}
+use Rattle.af_life.specs.Kept.{Setup, NormalKept, Learnt, track_at, new_track, seen_at, nothing_seen, plays}
 use Rattle.af_life.specs.Obeys.{after_look, goes_on, are_due, slot_for}
 use Rattle.af_life.specs.Serves.{served_to, LegalTrack, IsServed, most_looks}
-use Rattle.af_life.specs.Edits.{after_ack, mutated}
-use Rattle.af_life.specs.Plays.{is_mixed_here}
-use Rattle.af_life.specs.Small.{IsSmall, IsSmallTurn, IsEdited, AreUpTo, AreSmall, most_tracks}
-use Rattle.af_life.specs.Turn.{after_tracks, after_edits}
+use Rattle.af_life.specs.Edits.{mutated}
+use Rattle.af_life.specs.Small.{IsSmall, IsSmallTurn, IsEdited, AreUpTo, most_tracks}
 use Rattle.af_life.proofs.Lives.{acked_len}
 use Rattle.af_life.proofs.SmallTurns.{acked, edited_small}
 use Rattle.af_normal.specs.AllMixed.{AreHome, HasTakes}
@@ -40,9 +35,9 @@ use Rattle.af_normal.specs.Serving.{StreamAdds}
 use Rattle.af_normal.specs.State.{NormalState, setup_of, kept_of}
 use Rattle.af_normal.specs.TurnMade.{ServesAll}
 use Rattle.af_normal.specs.Turning.{SeesAck, Learns, learnt_by, listed_at}
-use Rattle.af_normal.proofs.LegalEdits.{edits_are, edits_same, Mutated, push_legal}
+use Rattle.af_normal.proofs.LegalEdits.{edits_are, edits_same, Mutated}
 use Rattle.af_normal.proofs.LegalFlags.{told_still, known_still}
-use Rattle.af_normal.proofs.LegalServed.{AreAll, ServedTo, Part, served_all}
+use Rattle.af_normal.proofs.LegalServed.{ServedTo, served_all}
 use Rattle.af_normal.proofs.OrderServed.{tied_served}
 use Rattle.af_normal.proofs.OrderStages.{acked_kept, tied_acked, acked_same, tied_learnt, opened, tied_edited, tied_pushed}
 

@@ -6,7 +6,6 @@ use Rattle.af_cblk.specs.Sides.{HandSide, Made, hand_made, server_made}
 use Rattle.af_server.specs.Order.{ServerState, IsServerOf}
 use Rattle.af_link.specs.Names.{IsStreamOf}
 use Rattle.af_link.specs.declared.links.Links.{Links}
-use Rattle.af_normal.specs.Mixing.{stream_at}
 use Rattle.af_normal.specs.Ready.{AreOwn}
 
 one_of : {A : Type 0} (a b : A) → Some a ≡ Some b → a ≡ b

@@ -1,15 +1,13 @@
 -- What a turn that has begun in order may do next.
-use Rattle.std.proofs.Common.{◌++◌, reverse, ⊎_elim, get_or-set_same, ◌≡◌, ◌≢◌, ℕ, zero, suc, ◌+◌, ◌-◌, ◌*◌, ◌^◌, ◌<◌, ◌≤◌, ◌==◌, Bool, true, false, true≢false, is_some, MatchBool, List, [], length, slice_get, Option, Some, None, refl, sym, ap, subst, ◌∙◌, arith}
+use Rattle.std.proofs.Common.{◌++◌, reverse, ⊎_elim, get_or-set_same, ◌≡◌, ◌≢◌, ℕ, zero, suc, ◌+◌, ◌<◌, ◌≤◌, ◌==◌, Bool, true, false, true≢false, is_some, MatchBool, List, [], length, slice_get, Option, Some, None, refl, sym, ap, subst, ◌∙◌, arith}
 use Rattle.af_base.specs.declared.report.Report.{Report}
 use Rattle.std.proofs.lemmas.Bool.{cases_eq}
-use Rattle.af_base.specs.Log.{slots}
 use Rattle.af_cblk.specs.Sides.{HandSide, server_made}
 use Rattle.af_server.specs.Order.{ServerState}
 use Rattle.af_link.specs.Names.{IsStreamOf}
 use Rattle.af_link.specs.declared.links.Links.{Links}
 use Rattle.af_life.specs.Small.{IsSmall}
-use Rattle.af_life.specs.Kept.{Setup, asked, NormalKept, track_at, slot_number, is_home, is_returning}
-use Rattle.af_life.specs.Sound.{IsSlotted}
+use Rattle.af_life.specs.Kept.{Setup, asked, NormalKept, track_at}
 use Rattle.af_normal.specs.AllMixed.{HasTakes}
 use Rattle.af_normal.specs.Coming.{HaveSlots}
 use Rattle.af_normal.specs.Mixing.{stream_at}

@@ -1,9 +1,8 @@
 -- What one track's part of a turn changes, and what it leaves.
-use Rattle.std.proofs.Common.{◌≡◌, ◌≢◌, ℕ, ◌+◌, ◌<◌, [], ◌∷◌, ◌++◌, length, length-append, slice_get, slice_set, List, Option, Some, None, refl, sym, ap, subst, ◌∙◌, get_or-set_other, length-set, arith}
+use Rattle.std.proofs.Common.{◌≡◌, ◌≢◌, ℕ, ◌+◌, [], ◌∷◌, ◌++◌, length, length-append, slice_get, Option, Some, None, refl, sym, ap, subst, ◌∙◌, get_or-set_other, length-set, arith}
 use Rattle.std.proofs.lemmas.List.Elements.{All-push}
 use Rattle.af_base.specs.declared.turn.TrackTurn.{TrackTurn}
 use Rattle.af_base.specs.Roomy.{Roomy}
-use Rattle.af_cblk.specs.Sides.{HandSide}
 use Rattle.af_server.specs.Order.{ServerState}
 use Rattle.af_link.specs.declared.links.Links.{Links}
 use Rattle.af_life.specs.Heard.{known_by}

@@ -1,5 +1,5 @@
 -- A track is served by what was learnt, where the code did so by the same report and the same proxy.
-use Rattle.std.proofs.Common.{◌≡◌, ℕ, Bool, true, false, MatchBool, [], ◌∷◌, ◌++◌, if◌then◌else◌, List, length, slice_set, Option, refl, sym, ap, subst, ◌∙◌}
+use Rattle.std.proofs.Common.{◌≡◌, ℕ, Bool, true, false, MatchBool, [], ◌∷◌, ◌++◌, if◌then◌else◌, List, slice_set, Option, sym, ap, subst, ◌∙◌}
 use Rattle.af_base.specs.declared.report.Report.{Report}
 use Rattle.af_base.specs.Turn.{TrackSeen}
 use Rattle.af_cblk.specs.Sides.{HandSide}

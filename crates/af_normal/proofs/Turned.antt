@@ -1,5 +1,5 @@
 -- A turn as a whole keeps the order.
-use Rattle.std.proofs.Common.{◌≡◌, ℕ, ◌+◌, ◌-◌, ◌&&◌, ◌==◌, not, if◌then◌else◌, Bool, true, false, MatchBool, length, refl, sym, ap, subst, ◌∙◌, Some}
+use Rattle.std.proofs.Common.{◌≡◌, ℕ, ◌&&◌, ◌==◌, not, if◌then◌else◌, Bool, false, MatchBool, length, sym, ap, ◌∙◌}
 use Rattle.af_base.specs.declared.report.Report.{Report}
 use Rattle.af_base.specs.declared.state.Push.{Push}
 use Rattle.af_server.specs.Order.{ServerState}
@@ -15,7 +15,7 @@ use Rattle.af_normal.specs.declared.turn.Turn.TheVariants.{Turned, Ended}
 use Rattle.af_normal.specs.Coming.{WelcomesTo}
 use Rattle.af_normal.specs.Order.{IsGoing, IsInOrder}
 use Rattle.af_normal.specs.State.{NormalState}
-use Rattle.af_normal.specs.TurnMade.{Does, GoesOnBy, TurnsBy, WentOn, answer_of, has_mixed}
+use Rattle.af_normal.specs.TurnMade.{Does, GoesOnBy, TurnsBy, WentOn, answer_of}
 use Rattle.af_normal.specs.Turning.{SeesAck, stream_fits, with_mutator}
 use Rattle.af_normal.proofs.LegalMade.{IsMade}
 use Rattle.af_normal.proofs.Edited.{all_only}

@@ -1,5 +1,5 @@
 -- What the return of one proxy changes, and what it leaves.
-use Rattle.std.proofs.Common.{◌≡◌, ◌≢◌, ℕ, ◌<◌, ◌≤◌, true, false, true≢false, length, slice_set, Some, None, refl, sym, ap, subst, ◌∙◌, ⊎_elim, get_or-set_other, get_or-set_same, length-set, arith}
+use Rattle.std.proofs.Common.{◌≡◌, ◌≢◌, ℕ, ◌<◌, ◌≤◌, true, true≢false, length, slice_set, sym, ap, subst, ◌∙◌, ⊎_elim, get_or-set_other, get_or-set_same, length-set}
 use Rattle.std.proofs.lemmas.Bool.{cases_eq}
 use Rattle.af_base.specs.Log.{slots}
 use Rattle.af_server.specs.Order.{ServerState}

@@ -5,6 +5,7 @@ pub mod Editing
 pub mod Making
 pub mod LegalKept
 pub mod LegalTurned
+pub mod Lends
 pub mod Meeting
 pub mod Mixing
 pub mod Mutating

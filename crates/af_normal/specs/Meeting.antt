@@ -1,5 +1,5 @@
 -- What the meetings of the mixer's ends and proxies come to.
-use Rattle.std.specs.Prelude.{◌≡◌, ◌≢◌, ℕ, ◌+◌, true, false, List, [], ◌∷◌, ◌++◌, length, slice_get, slice_set, MatchOption, Option, Some, None}
+use Rattle.std.specs.Prelude.{◌≡◌, ◌≢◌, ℕ, ◌+◌, true, false, List, [], ◌∷◌, ◌++◌, length, slice_get, slice_set, Option, Some, None}
 use Rattle.af_base.specs.declared.event.HandEvent.{HandEvent}
 use Rattle.af_base.specs.declared.event.ServerEvent.TheVariants as takes
 use Rattle.af_model.specs.History.{is_lawful, HasHistory}
@@ -13,8 +13,8 @@ use Rattle.af_client.specs.Order.{ClientState, IsInOrder as IsClientInOrder}
 use Rattle.af_server.specs.Order.{ServerState}
 use Rattle.af_stateq.specs.Observes.{Observes}
 use Rattle.af_link.specs.Names.{IsStreamOf}
-use Rattle.af_link.specs.PipeEnds.{InSide, OutSide}
-use Rattle.af_link.specs.Reports.{ReaderSide, WriterSide}
+use Rattle.af_link.specs.PipeEnds.{OutSide}
+use Rattle.af_link.specs.Reports.{WriterSide}
 use Rattle.af_link.specs.declared.links.Links.{Links}
 use Rattle.af_link.specs.declared.names.StreamNames.{StreamNames}
 use Rattle.af_normal.specs.Mixing.{stream_at}

@@ -11,7 +11,6 @@ use Rattle.af_link.specs.Linked.{AreLinked}
 use Rattle.af_link.specs.Names.{IsStreamOf}
 use Rattle.af_link.specs.PipeEnds.{in_made}
 use Rattle.af_link.specs.declared.links.Links.{Links}
-use Rattle.af_life.specs.declared.kept.Setting.{Setting}
 use Rattle.af_life.specs.declared.kept.TrackKept.{TrackKept}
 use Rattle.af_life.specs.Kept.{Setup, asked, pipe_size, track_at, is_home, slot_number}
 use Rattle.af_life.specs.Small.{IsSmall, most_tracks}

@@ -1,9 +1,9 @@
 -- A whole turn as its steps, one after the other.
-use Rattle.std.specs.Prelude.{◌≡◌, ℕ, ◌-◌, ◌<◌, ◌^◌, ◌==◌, ◌&&◌, not, nat_le, if◌then◌else◌, Bool, true, false, MatchBool, length, map, [], Some}
+use Rattle.std.specs.Prelude.{◌≡◌, ℕ, ◌-◌, ◌<◌, ◌^◌, ◌==◌, ◌&&◌, not, nat_le, if◌then◌else◌, Bool, true, false, MatchBool, length, map, Some}
 use Rattle.af_base.specs.Log.{slots}
 use Rattle.af_base.specs.declared.report.Report.{Report}
 use Rattle.af_base.specs.declared.state.Push.{Push}
-use Rattle.af_base.specs.Turn.{Turn, TrackSeen, TakeSeen, ended_turn, take_seen, track_seen, turn_of}
+use Rattle.af_base.specs.Turn.{Turn, ended_turn, take_seen, track_seen, turn_of}
 use Rattle.af_stateq.specs.Answers.{WasAcked}
 use Rattle.af_stateq.specs.Mutates.{Mutates}
 use Rattle.af_server.specs.Order.{ServerState}
@@ -23,7 +23,7 @@ use Rattle.af_normal.specs.Serving.{ServesTo}
 use Rattle.af_normal.specs.State.{NormalState, setup_of}
 use Rattle.af_normal.specs.declared.turn.Turn.{Turn as Answer}
 use Rattle.af_normal.specs.declared.turn.Turn.TheVariants.{Turned, Ended}
-use Rattle.af_normal.specs.Turning.{Begins, SeesAck, HasHands, Learns, learnt_by, with_mutator}
+use Rattle.af_normal.specs.Turning.{Begins, SeesAck, HasHands, Learns, learnt_by}
 
 -- The track i may be served: its proxies and its hand are of its blocks, its slot is one, and it has settled few commands
 pub record IsServable (links : Links) (i : ℕ) (x : NormalState) : Type 0 where

@@ -1,7 +1,6 @@
 -- The steps of a turn on the whole mixer, from its beginning to what it learns.
-use Rattle.std.specs.Prelude.{◌≡◌, ℕ, zero, suc, ◌+◌, ◌==◌, ◌&&◌, Bool, true, false, MatchBool, List, [], ◌∷◌, ◌++◌, length, slice_set, Option, Some, None}
+use Rattle.std.specs.Prelude.{◌≡◌, ℕ, zero, suc, ◌+◌, ◌==◌, Bool, true, false, MatchBool, List, [], ◌∷◌, ◌++◌, length, slice_set, Option, Some, None}
 use Rattle.af_base.specs.declared.report.Report.{Report}
-use Rattle.af_base.specs.Turn.{ended_turn, turn_of}
 use Rattle.af_model.specs.Cycles.{Listed}
 use Rattle.af_model.specs.declared.newest.ReaderEvent.TheVariants.{Load}
 use Rattle.af_cblk.specs.Parts.{client_saw_front}

@@ -17,7 +17,7 @@ mod sums;
 mod turn;
 
 pub use make::{TrackSetup, Tracks};
-pub use mixer::NormalMixer;
+pub use mixer::{NormalMixer, TrackHand};
 pub use turn::Turn;
 
 #[cfg(test)]

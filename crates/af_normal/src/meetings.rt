@@ -18,7 +18,9 @@ use crate::mixer::{NormalMixer, TrackHand};
 use af_base::Steps;
 use af_cblk::{Block, FlagHand};
 use af_client::Client;
-use af_link::{Links, PipeOut, ReportWriter, StreamNames, meet_all, meet_pipe, meet_report, meet_track};
+use af_link::{
+    Links, PipeOut, ReportWriter, StreamNames, meet_all, meet_pipe, meet_report, meet_track,
+};
 use af_server::Server;
 use af_stateq::{Observer, meet};
 use std::sync::ledger::Ledger;

@@ -1,5 +1,7 @@
 //! The normal mixer, and what contracts see of it.
-ghost use Rattle.std.specs.Prelude.{◌≡◌};
+ghost use Rattle.std.specs.Prelude.{◌≡◌, ◌≤◌, length, slice_get, MatchOption, Some};
+ghost use Rattle.std.specs.Borrow.{sem};
+ghost use Rattle.af_normal.specs.Lends.{lends_flag, lends_hand};
 
 use af_base::{Frame, NormalTakes, TrackTurns, TurnEntry};
 use af_cblk::FlagHand;
@@ -12,7 +14,7 @@ use std::marker::Model;
 
 /// The hand of a track's stream block. The number of the track stands beside it, since the hand has no bytes, and an element of such a list can't be lent. Contracts see the hand.
 #[derive(Drop)]
-pub(crate) struct TrackHand {
+pub struct TrackHand {
     pub(crate) track: u32,
     pub(crate) flag: FlagHand,
 }
@@ -77,5 +79,23 @@ impl NormalMixer {
         ensures { result ≡ self.now.turns }
     {
         self.turns
+    }
+
+    /// The hand of a track's stream block, by which the session tells of an underrun while the stream proxy is elsewhere. None exactly before the first turn.
+    pub fn hand(&mut self, track: u32) -> Option<&mut TrackHand>
+        ensures* lends { sem 𝓛 (lends_hand self.entry track result) }
+        ensures value { MatchOption result (length self.entry.now.hands ≤ track) (λ h. slice_get self.entry.now.hands track ≡ Some h.now) }
+    {
+        self.hands.get_mut(track as usize)
+    }
+}
+
+impl TrackHand {
+    /// Lends the hand to a meeting.
+    pub fn flag(&mut self) -> &mut FlagHand
+        ensures value { result.now ≡ self.entry.now }
+        ensures* lends { sem 𝓛 (lends_flag self.entry result) }
+    {
+        &mut self.flag
     }
 }

@@ -1,8 +1,8 @@
-use Rattle.std.proofs.Common.{◌≡◌, ◌≢◌, ℕ, ◌<◌, ◌≤◌, ◌⊎◌, inl, inr, true≢false, length, slice_get, slice_set, slice_index_or, Option, Some, None, refl, sym, ap, subst, ◌∙◌, length-set, ⊎_elim, arith}
+use Rattle.std.proofs.Common.{◌≡◌, ◌<◌, length, slice_set, Some, None, refl, sym, ap, ◌∙◌, length-set, arith}
 use Rattle.std.proofs.lemmas.Option.{slice_get-get_or}
 use Rattle.af_cblk.specs.Sides.{HandSide, hand_made}
 use Rattle.af_normal.proofs.LegalLists.{get_set_same, get_set_other}
-use Rattle.af_normal.proofs.MetTrack.{command_ready, stream_ready, client_ready, hand_ready, stream_within, command_within, own_after, clients_after, met_after, no_hand, one_of}
+use Rattle.af_normal.proofs.MetTrack.{command_ready, stream_ready, client_ready, hand_ready, stream_within, command_within, own_after, met_after, no_hand, one_of}
 use Rattle.af_normal.proofs.meetings.meet_at.Goals as goal
 
 pub meet_alone-requires-clause-command : goal.meet_alone-requires-clause-command
