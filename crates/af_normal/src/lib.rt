@@ -19,3 +19,12 @@ mod turn;
 pub use make::{TrackSetup, Tracks};
 pub use mixer::{NormalMixer, TrackHand};
 pub use turn::Turn;
+
+#[cfg(test)]
+mod call_tests;
+#[cfg(test)]
+mod random_tests;
+#[cfg(test)]
+mod table_tests;
+#[cfg(test)]
+mod tests;
