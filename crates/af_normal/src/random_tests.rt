@@ -1,4 +1,4 @@
-//! 31 tracks of both kinds over 100 turns, each compared with the plain mixer.
+//! 31 tracks of both kinds over 300 turns, each compared with the plain mixer.
 ghost use Rattle.std.specs.Prelude.{◌≡◌, ◌<◌, ◌≤◌, length, IfOk};
 ghost use Rattle.af_life.specs.Small.{IsSmall};
 ghost use Rattle.af_normal.specs.Testing.{AreOthers, IsWorld};
@@ -17,7 +17,7 @@ use std::marker::Brand;
 use std::sync::ledger::{Blank, Ledger};
 use std::test::*;
 
-const TURNS: u32 = 100;
+const TURNS: u32 = 300;
 
 const TRACKS: usize = 31;
 
