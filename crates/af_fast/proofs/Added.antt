@@ -24,7 +24,7 @@ use Rattle.af_fast.proofs.HeldFacts.{some_same}
 use Rattle.af_fast.proofs.SlotsDone.{taken_few}
 use Rattle.af_fast.proofs.Noted.{IsPlayed, now, is_now, noted_order}
 
-mixed_is : (c : Cycle) → is_mixed c ≡ true → c ≡ cycle.Mixed
+pub mixed_is : (c : Cycle) → is_mixed c ≡ true → c ≡ cycle.Mixed
 mixed_is cycle.Mixed e = refl
 mixed_is cycle.Idle e = absurd (true≢false (sym e))
 mixed_is cycle.Cold e = absurd (true≢false (sym e))

@@ -13,8 +13,8 @@ use af_link::Links;
 use std::sync::ledger::Ledger;
 
 // What a cycle is by its state.
-fn cycle_of(done: u32, state: Option<FastState>) -> Cycle
-    ensures { result ≡ cycle_of done state }
+fn cycle_of(done: u32, state: &Option<FastState>) -> Cycle
+    ensures { result ≡ cycle_of done state.now }
 {
     let Some(state) = state else {
         return Cycle::Idle;
@@ -95,15 +95,15 @@ impl FastMixer {
             };
         }
         let state = self.observer.current().copied();
-        let cycle = cycle_of(self.cold, state);
+        let cycle = cycle_of(self.cold, &state);
+        let mut entry = still_entry(self.observer.number(), cycle);
         if !is_mixed(cycle) {
-            let entry = still_entry(self.observer.number(), cycle);
-            self.note(links, state, &entry, steps);
+            self.note(links, &state, &entry, steps);
             return cycle;
         }
-        let Some(state) = state else { unreachable!() };
-        let entry = self.mix_slots(links, &state, out, steps);
-        self.note(links, Some(state), &entry, steps);
+        let Some(pushed) = &state else { unreachable!() };
+        self.mix_slots(links, pushed, &mut entry, out, steps);
+        self.note(links, &state, &entry, steps);
         cycle
     }
 

@@ -2,7 +2,8 @@
 ghost use Rattle.std.specs.Prelude.{◌≡◌, ℕ, ◌+◌, ◌*◌, ◌<◌, ◌≤◌, ◌^◌, ◌++◌, ◌∷◌, [], Some, if◌then◌else◌, length};
 ghost use Rattle.af_base.specs.Log.{slots, takes_of};
 ghost use Rattle.af_base.specs.Mix.{mix};
-ghost use Rattle.af_model.specs.Cycles.{is_cold, is_exit, cold_of};
+ghost use Rattle.af_base.specs.declared.log.Cycle.TheVariants as cycle;
+ghost use Rattle.af_model.specs.Cycles.{is_cold, is_exit, cold_of, still_entry};
 ghost use Rattle.af_base.specs.declared.state.FastState.{FastState};
 ghost use Rattle.af_stateq.specs.Observes.{InOrder};
 ghost use Rattle.af_link.specs.PipeEnds.{out_made};
@@ -17,13 +18,13 @@ use crate::heard::mix_heard;
 use crate::mixer::FastMixer;
 use crate::report::report_all;
 use crate::slots::play_slots;
-use af_base::{Cycle, CycleEntry, FastState, Frame, Report, Steps};
+use af_base::{Cycle, CycleEntry, FastState, Frame, Steps};
 use af_link::Links;
 use std::sync::ledger::Ledger;
 
 // The cold generation performed last, after an entry under a state.
-fn cold_after(done: u32, cycle: Cycle, state: Option<FastState>) -> u32
-    ensures { result ≡ (if is_cold cycle then cold_of state else done) }
+fn cold_after(done: u32, cycle: Cycle, state: &Option<FastState>) -> u32
+    ensures { result ≡ (if is_cold cycle then cold_of state.now else done) }
 {
     match (cycle, state) {
         (Cycle::Cold, None) => 0,
@@ -33,14 +34,15 @@ fn cold_after(done: u32, cycle: Cycle, state: Option<FastState>) -> u32
 }
 
 impl FastMixer {
-    /// The slots of a mix are played, and what they took is mixed.
+    /// The slots of a mix are played into its entry, and what they took is mixed.
     pub(crate) fn mix_slots<L: Ledger>(
         &mut self,
         links: &Links<'_>,
         state: &FastState,
+        entry: &mut CycleEntry,
         out: &mut [Frame],
         steps: &mut Steps<L>,
-    ) -> CycleEntry
+    )
         requires state { state.now ≡ self.old.observer.past.state }
         requires order { InOrder stream_fits self.old.observer }
         requires names { NamesBlocks self.old.observer.past.key links.now.streams.now }
@@ -48,12 +50,13 @@ impl FastMixer {
         requires frames { (1 ≤ self.old.frames) × (self.old.frames ≤ 2 ^ 21) }
         requires room { length self.old.log.frames + slots * self.old.frames ≤ self.old.log.frame_room }
         requires out { length out.old ≡ self.old.frames }
+        requires entry { entry.old ≡ still_entry self.old.observer.past.number cycle.Mixed }
         ensures order { InOrder stream_fits self.new.observer }
         ensures made { out_made self.new.pipe ≡ links.now.pipe.now }
         ensures same { self.new ≡ (record self.old { observer = self.new.observer; pipe = self.new.pipe; log = self.new.log }) }
         ensures log { SameEntries self.old.log self.new.log }
-        ensures plays { PlaysSlots self.old.frames self.old.observer.past.number state.now self.old.observer self.new.observer self.old.pipe self.new.pipe self.old.log.frames self.new.log.frames result }
-        ensures mixes { out.new ≡ mix (takes_of self.new.log.frames result) (length out.old) }
+        ensures plays { PlaysSlots self.old.frames self.old.observer.past.number state.now self.old.observer self.new.observer self.old.pipe self.new.pipe self.old.log.frames self.new.log.frames entry.new }
+        ensures mixes { out.new ≡ mix (takes_of self.new.log.frames entry.new) (length out.old) }
         ensures steps { steps.new ≤ steps.old + (self.old.frames + 3) + tracks_of state.now * (self.old.frames + 7) }
     {
         let FastMixer {
@@ -65,46 +68,42 @@ impl FastMixer {
             ..
         } = self;
         let (_, pipe) = ends;
-        let entry = play_slots(observer, pipe, log, links, state, buffer, steps);
-        mix_heard(log.frames(), &entry, sums, out);
-        entry
+        play_slots(observer, pipe, log, links, state, entry, buffer, steps);
+        mix_heard(log.frames(), entry, sums, out);
     }
 
     /// An entry under a state is added, and the report after it is stored.
     pub(crate) fn note<L: Ledger>(
         &mut self,
         links: &Links<'_>,
-        state: Option<FastState>,
+        state: &Option<FastState>,
         entry: &CycleEntry,
         steps: &mut Steps<L>,
     )
-        requires state { (x : FastState) → state ≡ Some x → x ≡ self.old.observer.past.state }
+        requires state { (x : FastState) → state.now ≡ Some x → x ≡ self.old.observer.past.state }
         requires order { InOrder stream_fits self.old.observer }
         requires cell { self.old.writer.cell ≡ links.now.report.now }
         requires room { length self.old.log.entries < self.old.log.room }
         requires later { last_cycle self.old.writer.events ≡ length self.old.log.entries }
         requires few { AreFew (2 ^ 31) self.old.reports }
-        ensures notes { self.new ≡ notes state entry.now self.new.writer self.new.reports self.old }
-        ensures reports { StoresReport state entry.now self.old self.new }
+        ensures notes { self.new ≡ notes state.now entry.now self.new.writer self.new.reports self.old }
+        ensures reports { StoresReport state.now entry.now self.old self.new }
         ensures cell { self.new.writer.cell ≡ self.old.writer.cell }
         ensures steps { steps.new ≡ steps.old + 1 }
     {
         self.log.push(*entry);
         report_all(
             &mut self.observer,
-            &mut self.reports,
+            &mut self.report.slots,
             state,
-            self.last,
+            &self.last,
             entry,
             self.frames,
         );
-        self.last = state;
+        self.last = *state;
         self.exited = entry.cycle == Cycle::Exit;
         self.cold = cold_after(self.cold, entry.cycle, state);
-        let report = Report {
-            cycle: self.log.len() as u64,
-            slots: self.reports,
-        };
-        self.ends.0.store(links.report, &report, steps);
+        self.report.cycle = self.log.len() as u64;
+        self.ends.0.store(links.report, &self.report, steps);
     }
 }

@@ -6,9 +6,9 @@ ghost use Rattle.af_stateq.specs.Observes.{InOrder};
 ghost use Rattle.af_fast.specs.Fits.{stream_fits};
 ghost use Rattle.af_fast.specs.Mixer.{IsInOrder, IsUnused, made_of};
 
-use af_base::{FastLog, FastState, Frame, Memory, SLOTS, SlotReport};
+use af_base::{FastLog, FastState, Frame, Memory, Report};
 use af_gain::Sum;
-use af_link::{PipeOut, ReportWriter, StreamNames, no_slot};
+use af_link::{PipeOut, ReportWriter, StreamNames, first_report};
 use af_server::Server;
 use af_stateq::Observer;
 use std::alloc::Global;
@@ -33,7 +33,8 @@ pub struct FastMixer {
     pub(crate) cold: u32,
     // The state that the last entry used.
     pub(crate) last: Option<FastState>,
-    pub(crate) reports: [SlotReport; SLOTS],
+    // The report after the last entry.
+    pub(crate) report: Report,
     pub(crate) sums: Vec<Sum>,
     pub(crate) buffer: Vec<Frame>,
 }
@@ -44,7 +45,7 @@ impl Model for FastMixer {
 
     ghost Value = { MixerState };
 
-    ghost view = { λ m. record { observer = m.observer; writer = m.ends.0; pipe = m.ends.1; log = m.log; frames = m.frames; cycles = m.cycles; adopted = m.adopted; exited = m.exited; cold = m.cold; last = m.last; reports = m.reports } };
+    ghost view = { λ m. record { observer = m.observer; writer = m.ends.0; pipe = m.ends.1; log = m.log; frames = m.frames; cycles = m.cycles; adopted = m.adopted; exited = m.exited; cold = m.cold; last = m.last; reports = m.report.slots } };
 
     ghost invariant = { λ m. (length m.sums.items ≡ m.frames) × (length m.buffer.items ≡ m.frames) };
 }
@@ -99,7 +100,7 @@ impl FastMixer {
             exited: false,
             cold: 0,
             last: None,
-            reports: [no_slot(); SLOTS],
+            report: first_report(),
             sums,
             buffer,
         })

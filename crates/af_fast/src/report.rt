@@ -1,5 +1,5 @@
 //! What is reported of the slots after an entry.
-ghost use Rattle.std.specs.Prelude.{◌≡◌, ℕ, ◌<◌, ◌^◌, true, Some, length};
+ghost use Rattle.std.specs.Prelude.{◌≡◌, ℕ, ◌<◌, ◌^◌, true, Some, length, slice_set};
 ghost use Rattle.af_base.specs.Log.{slots};
 ghost use Rattle.af_model.specs.Reports.{no_slot, report_at, carried, counted_look, is_full, is_partial, is_empty, slot_report};
 ghost use Rattle.af_base.specs.declared.state.FastState.{FastState};
@@ -87,66 +87,67 @@ fn counted_look(
 }
 
 // Whether there is a state that carries an item for a slot.
-fn carried(state: Option<FastState>, slot: usize) -> bool
+fn carried(state: &Option<FastState>, slot: usize) -> bool
     requires { slot < slots }
-    ensures { result ≡ carried state slot }
+    ensures { result ≡ carried state.now slot }
 {
     match state {
         None => false,
-        Some(state) => carries_item(&state, slot),
+        Some(state) => carries_item(state, slot),
     }
 }
 
-// The report of one slot.
-fn report_after(
+// The report of one slot goes on, where the state carries an item for it.
+fn report_slot(
     observer: &mut Observer<Server, StreamNames>,
-    before: SlotReport,
+    reports: &mut [SlotReport; SLOTS],
     state: &FastState,
-    last: Option<FastState>,
+    last: &Option<FastState>,
     entry: &CycleEntry,
     slot: usize,
     asked: usize,
-) -> SlotReport
+)
     requires slot { slot < slots }
     requires state { state.now ≡ observer.old.past.state }
     requires order { InOrder stream_fits observer.old }
-    requires few { (before.fulls < 2 ^ 31) × (before.partials < 2 ^ 31) × (before.empties < 2 ^ 31) }
+    requires few { let before = report_at reports.old slot in (before.fulls < 2 ^ 31) × (before.partials < 2 ^ 31) × (before.empties < 2 ^ 31) }
     ensures same { observer.new ≡ observer.old }
-    ensures reports { result ≡ slot_report asked (Some state.now) last entry.now (known observer.old slot) slot before }
+    ensures reports { reports.new ≡ slice_set reports.old slot (slot_report asked (Some state.now) last.now entry.now (known observer.old slot) slot (report_at reports.old slot)) }
 {
     if !carries_item(state, slot) {
-        return before;
+        return;
     }
     let known = known_of(observer, slot);
     let generation = state.slots[slot].generation;
     let seen = entry.slots[slot].seen;
-    if carried(last, slot) {
-        return counted_look(asked, generation, seen, known, before);
-    }
-    counted_look(asked, generation, seen, known, no_slot())
+    let before = if carried(last, slot) {
+        reports[slot]
+    } else {
+        no_slot()
+    };
+    reports[slot] = counted_look(asked, generation, seen, known, before);
 }
 
 /// The reports of the slots go on by an entry under a state, after one under the state before it.
 pub(crate) fn report_all(
     observer: &mut Observer<Server, StreamNames>,
     reports: &mut [SlotReport; SLOTS],
-    state: Option<FastState>,
-    last: Option<FastState>,
+    state: &Option<FastState>,
+    last: &Option<FastState>,
     entry: &CycleEntry,
     asked: usize,
 )
-    requires state { (x : FastState) → state ≡ Some x → x ≡ observer.old.past.state }
+    requires state { (x : FastState) → state.now ≡ Some x → x ≡ observer.old.past.state }
     requires order { InOrder stream_fits observer.old }
     requires few { (i : ℕ) → i < slots → ((report_at reports.old i).fulls < 2 ^ 31) × ((report_at reports.old i).partials < 2 ^ 31) × ((report_at reports.old i).empties < 2 ^ 31) }
     ensures same { observer.new ≡ observer.old }
     ensures whole { length reports.new ≡ slots }
-    ensures each { (i : ℕ) → i < slots → report_at reports.new i ≡ slot_report asked state last entry.now (known observer.old i) i (report_at reports.old i) }
+    ensures each { (i : ℕ) → i < slots → report_at reports.new i ≡ slot_report asked state.now last.now entry.now (known observer.old i) i (report_at reports.old i) }
 {
     let Some(state) = state else {
         return;
     };
     for slot in 0..SLOTS {
-        let before = reports[slot];
-        reports[slot] = report_after(observer, before, &state, last, entry, slot, asked);
+        report_slot(observer, reports, state, last, entry, slot, asked);
     }
 }

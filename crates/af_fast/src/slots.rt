@@ -1,6 +1,7 @@
 //! What a cycle does with all slots of a mix.
-ghost use Rattle.std.specs.Prelude.{◌≡◌, suc, ◌+◌, ◌*◌, ◌<◌, ◌≤◌, ◌^◌, true, false, length, slice_set};
+ghost use Rattle.std.specs.Prelude.{◌≡◌, suc, ◌+◌, ◌*◌, ◌<◌, ◌≤◌, ◌^◌, true, false, length, slice_set, slice_index_or};
 ghost use Rattle.af_base.specs.Log.{slots};
+ghost use Rattle.af_base.specs.declared.log.Cycle.TheVariants as cycle;
 ghost use Rattle.af_model.specs.Cycles.{is_mono, mix_scale, mono_marks, still_entry};
 ghost use Rattle.af_base.specs.declared.log.SlotEntry.{SlotEntry};
 ghost use Rattle.af_model.specs.StateQueue.{carries};
@@ -59,30 +60,28 @@ fn marks_to(marks: u32, state: &FastState, slot: usize) -> u32
     marks
 }
 
-// The scale of a slot in the mix.
-fn mix_scale(state: &FastState, slot: usize) -> u16
-    requires { slot < slots }
-    ensures { result ≡ mix_scale state.now slot }
+// Marks a slot of a mix that is unmarked, where it has a track, with the track's scale and whether it is mono.
+fn mark_slot(entry: &mut CycleEntry, state: &FastState, slot: usize)
+    requires slot { (1 ≤ slot) × (slot < slots) }
+    requires unmarked { slice_index_or entry.old.scales slot 0 ≡ 0 }
+    ensures scale { entry.new ≡ record entry.old { scales = slice_set entry.old.scales slot (mix_scale state.now slot); mono = entry.new.mono } }
+    ensures mono { entry.old.mono ≡ mono_marks state.now slot → entry.new.mono ≡ mono_marks state.now (suc slot) }
 {
-    if slot == 0 {
-        0x1000
-    } else if carries_item(state, slot) {
-        state.slots[slot].scale
-    } else {
-        0
+    if carries_item(state, slot) {
+        entry.scales[slot] = state.slots[slot].scale;
+        entry.mono = marks_to(entry.mono, state, slot);
     }
 }
 
-/// The entry of a mix before its slots are played: with the scales and the mono marks of its state, and every slot absent.
-pub(crate) fn marked_entry(number: u64, state: &FastState) -> CycleEntry
-    ensures { IsMarked number state.now result }
+/// Marks the entry of a mix before its slots are played, with the scales and the mono marks of its state.
+pub(crate) fn mark_entry(entry: &mut CycleEntry, state: &FastState)
+    requires still { entry.old ≡ still_entry entry.old.state cycle.Mixed }
+    ensures { IsMarked entry.old.state state.now entry.new }
 {
-    let mut entry = still_entry(number, Cycle::Mixed);
-    for slot in 0..SLOTS {
-        entry.scales[slot] = mix_scale(state, slot);
-        entry.mono = marks_to(entry.mono, state, slot);
+    entry.scales[0] = 0x1000;
+    for slot in 1..SLOTS {
+        mark_slot(entry, state, slot);
     }
-    entry
 }
 
 // Takes what the pipe shows into the log.
@@ -140,35 +139,37 @@ fn play_slot<L: Ledger>(
     entry.slots[slot] = log_held(observer, log, streams, slot, track, buffer, steps);
 }
 
-/// Plays all slots of a mix: the pipe, and then the tracks of the mask one after the other.
+/// Plays all slots of a mix into its entry: the pipe, and then the tracks of the mask one after the other.
 pub(crate) fn play_slots<L: Ledger>(
     observer: &mut Observer<Server, StreamNames>,
     pipe: &mut PipeOut,
     log: &mut FastLog,
     links: &Links<'_>,
     state: &FastState,
+    entry: &mut CycleEntry,
     buffer: &mut [Frame],
     steps: &mut Steps<L>,
-) -> CycleEntry
+)
     requires state { state.now ≡ observer.old.past.state }
     requires order { InOrder stream_fits observer.old }
     requires names { NamesBlocks observer.old.past.key links.now.streams.now }
     requires made { out_made pipe.old ≡ links.now.pipe.now }
     requires buffer { (1 ≤ length buffer.old) × (length buffer.old < 2 ^ 32) }
     requires room { length log.old.frames + slots * length buffer.old ≤ log.old.frame_room }
+    requires still { entry.old ≡ still_entry observer.old.past.number cycle.Mixed }
     ensures order { InOrder stream_fits observer.new }
     ensures made { out_made pipe.new ≡ links.now.pipe.now }
     ensures log { SameEntries log.old log.new }
-    ensures plays { PlaysSlots (length buffer.old) observer.old.past.number state.now observer.old observer.new pipe.old pipe.new log.old.frames log.new.frames result }
+    ensures plays { PlaysSlots (length buffer.old) observer.old.past.number state.now observer.old observer.new pipe.old pipe.new log.old.frames log.new.frames entry.new }
     ensures steps { steps.new ≤ steps.old + (length buffer.old + 3) + tracks_of state.now * (length buffer.old + 7) }
 {
-    let mut entry = marked_entry(observer.number(), state);
+    mark_entry(entry, state);
     entry.slots[0] = log_pipe(pipe, log, links.pipe, buffer, steps);
     for slot in 1..SLOTS {
         play_slot(
             observer,
             log,
-            &mut entry,
+            entry,
             links.streams,
             state,
             slot,
@@ -176,5 +177,4 @@ pub(crate) fn play_slots<L: Ledger>(
             steps,
         );
     }
-    entry
 }

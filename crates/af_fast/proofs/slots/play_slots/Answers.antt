@@ -15,7 +15,7 @@ use Rattle.af_fast.proofs.slots.play_slots.Goals as goal
 pub loop-slot-init : goal.loop-slot-init
 loop-slot-init g c = record {
   low = omega arith;
-  played = begins (length c.args.buffer.now) c.number.result c.args.state.now c.args.observer.now c.args.pipe.now c.log_pipe.new.pipe c.args.log.now.frames c.log_pipe.new.log.frames c.marked_entry-entry.result c.log_pipe.result c.marked_entry-entry.ensures c.log_pipe.ensures.logs;
+  played = begins (length c.args.buffer.now) c.args.entry.now.state c.args.state.now c.args.observer.now c.args.pipe.now c.log_pipe.new.pipe c.args.log.now.frames c.log_pipe.new.log.frames c.mark_entry.new.entry c.log_pipe.result c.mark_entry.ensures c.log_pipe.ensures.logs;
   order = c.requires.order;
   log_is = c.log_pipe.ensures.log;
   stepped = omega (arith, c.log_pipe.ensures.steps);
@@ -32,7 +32,7 @@ pub loop-slot-preserved : goal.loop-slot-preserved
 loop-slot-preserved g c =
     let asked : ℕ = length c.args.buffer.now in
     let i : ℕ = c.loop-slot.slot in
-    let begun : CycleEntry = with_slot c.marked_entry-entry.result 0 c.log_pipe.result in
+    let begun : CycleEntry = with_slot c.mark_entry.new.entry 0 c.log_pipe.result in
     let bound : ℕ = c.args.steps.now + (asked + 3) in
     let counted : c.play_slot.new.steps ≤ bound + tracks_below c.args.state.now (suc i) * (asked + 7) =
     slot_counted c.args.state.now i (asked + 7) c.play_slot.new.steps c.loop-slot.steps bound c.loop-slot.invariant.stepped
@@ -56,9 +56,9 @@ loop-slot-preserved g c =
 
 pub returns-clause-plays : goal.returns-clause-plays
 returns-clause-plays g c =
-    subst (λ (n : ℕ). PlaysSlots (length c.args.buffer.now) n c.args.state.now c.args.observer.now c.loop-slot.observer c.args.pipe.now c.log_pipe.new.pipe c.args.log.now.frames c.loop-slot.log.frames c.loop-slot.entry) c.number.ensures (
-    ends (length c.args.buffer.now) c.number.result c.args.state.now c.args.observer.now c.args.pipe.now c.log_pipe.new.pipe c.args.log.now.frames c.log_pipe.new.log.frames c.marked_entry-entry.result c.log_pipe.result c.marked_entry-entry.ensures c.log_pipe.ensures.logs
-    c.loop-slot.observer c.loop-slot.log.frames c.loop-slot.entry (subst (λ (n : ℕ). PlayedTo (length c.args.buffer.now) c.args.state.now (length c.args.log.now.frames) c.args.observer.now c.loop-slot.observer c.log_pipe.new.log.frames c.loop-slot.log.frames (with_slot c.marked_entry-entry.result 0 c.log_pipe.result) c.loop-slot.entry n) (omega arith) c.loop-slot.invariant.played))
+    subst (λ (n : ℕ). PlaysSlots (length c.args.buffer.now) n c.args.state.now c.args.observer.now c.loop-slot.observer c.args.pipe.now c.log_pipe.new.pipe c.args.log.now.frames c.loop-slot.log.frames c.loop-slot.entry) (ap (λ (e : CycleEntry). e.state) c.requires.still) (
+    ends (length c.args.buffer.now) c.args.entry.now.state c.args.state.now c.args.observer.now c.args.pipe.now c.log_pipe.new.pipe c.args.log.now.frames c.log_pipe.new.log.frames c.mark_entry.new.entry c.log_pipe.result c.mark_entry.ensures c.log_pipe.ensures.logs
+    c.loop-slot.observer c.loop-slot.log.frames c.loop-slot.entry (subst (λ (n : ℕ). PlayedTo (length c.args.buffer.now) c.args.state.now (length c.args.log.now.frames) c.args.observer.now c.loop-slot.observer c.log_pipe.new.log.frames c.loop-slot.log.frames (with_slot c.mark_entry.new.entry 0 c.log_pipe.result) c.loop-slot.entry n) (omega arith) c.loop-slot.invariant.played))
 
 pub returns-clause-steps : goal.returns-clause-steps
 returns-clause-steps g c =

@@ -9,11 +9,11 @@ use Rattle.af_fast.proofs.mixer.FastMixer.mix_slots.Goals as goal
 
 pub mix_heard-requires-clause-within : goal.mix_heard-requires-clause-within
 mix_heard-requires-clause-within g c = λ i lt.
-    omega (arith, c.play_slots-entry.ensures.plays.within i lt, c.self.invariant, c.requires.out, ap length c.deref_mut.ensures.value, ap (λ (y : MixerState). y.frames) c.self.view_is)
+    omega (arith, c.play_slots.ensures.plays.within i lt, c.self.invariant, c.requires.out, ap length c.deref_mut.ensures.value, ap (λ (y : MixerState). y.frames) c.self.view_is)
 
 pub mix_heard-requires-clause-scaled : goal.mix_heard-requires-clause-scaled
 mix_heard-requires-clause-scaled g c = λ i lt.
-    omega (arith, c.play_slots-entry.ensures.plays.mixes.scales i lt, scale_few c.args.state.now i (subst IsState (sym c.requires.state) c.requires.order.state) lt)
+    omega (arith, c.play_slots.ensures.plays.mixes.scales i lt, scale_few c.args.state.now i (subst IsState (sym c.requires.state) c.requires.order.state) lt)
 
 pub returns-clause-mixes : goal.returns-clause-mixes
-returns-clause-mixes g c = c.mix_heard.ensures ∙ ap (λ (frames : List Frame). mix (takes_of frames c.play_slots-entry.result) (length c.args.out.now)) c.frames.ensures
+returns-clause-mixes g c = c.mix_heard.ensures ∙ ap (λ (frames : List Frame). mix (takes_of frames c.play_slots.new.entry) (length c.args.out.now)) c.frames.ensures

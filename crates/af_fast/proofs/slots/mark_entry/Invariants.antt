@@ -1,14 +1,16 @@
-use Rattle.std.proofs.Common.{◌≡◌, ℕ, ◌<◌, length, replicate, true, slice_index_or}
+use Rattle.std.proofs.Common.{◌≡◌, ℕ, ◌<◌, ◌≤◌, length, replicate, true, slice_index_or}
 use Rattle.af_base.specs.Log.{slots, absent}
 use Rattle.af_model.specs.Cycles.{is_mixed, mix_scale, mono_marks}
-use Rattle.af_fast.proofs.slots.marked_entry.Given as goal
+use Rattle.af_fast.proofs.slots.mark_entry.Given as goal
 
 abbrev pub invariant-loop-slot : goal.invariant-loop-slot
 invariant-loop-slot l = record {
-  state : l.entry.state ≡ l.number;
+  low : 0 < l.slot;
+  state : l.entry.state ≡ l.fn.entry.state;
   mixed : is_mixed l.entry.cycle ≡ true;
   absent_all : l.entry.slots ≡ replicate slots absent;
   whole : length l.entry.scales ≡ slots;
   scales : (i : ℕ) → i < l.slot → slice_index_or l.entry.scales i 0 ≡ mix_scale l.state i;
+  unmarked : (i : ℕ) → l.slot ≤ i → i < slots → slice_index_or l.entry.scales i 0 ≡ 0;
   mono : l.entry.mono ≡ mono_marks l.state l.slot;
 }
