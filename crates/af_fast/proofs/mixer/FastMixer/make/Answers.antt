@@ -1,6 +1,8 @@
-use Rattle.std.proofs.Common.{rules, length, refl, ap}
+use Rattle.std.proofs.Common.{rules, length, refl, sym, ap, subst}
 use Rattle.af_base.specs.Log.{Logged}
+use Rattle.af_base.specs.declared.report.Report.{Report}
 use Rattle.af_model.specs.Reports.{no_slot}
+use Rattle.af_fast.specs.Mixer.{Reported}
 use Rattle.af_fast.proofs.HeldFacts.{begins_bare}
 use Rattle.af_fast.proofs.Noted.{nothing_reported}
 use Rattle.af_fast.proofs.mixer.FastMixer.make.Goals as goal
@@ -12,5 +14,5 @@ returns-clause-order c = record {
   room = search (rules);
   uses = search (rules);
   keeps = search (rules);
-  reports = nothing_reported (length c.in_ok-log.log.entries) c.args.writer.events no_slot (ap (λ (l : Logged). length l.entries) c.in_ok-log.ensures) c.requires.unused.stored refl;
+  reports = subst (λ (r : Report). Reported (length c.in_ok-log.log.entries) c.args.writer.events r.slots) (sym c.first_report.ensures) (nothing_reported (length c.in_ok-log.log.entries) c.args.writer.events no_slot (ap (λ (l : Logged). length l.entries) c.in_ok-log.ensures) c.requires.unused.stored refl);
 }
