@@ -1,0 +1,2 @@
+//! A session: the clients of a script, the normal mixer and the fast mixer over the blocks, the queue, the report and the pipe that they share, turn by turn.
+#![tactic(auto)]
