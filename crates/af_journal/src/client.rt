@@ -1,6 +1,6 @@
 //! A client of a session: what it wants next, by its ops, and what each answer of its proxies makes of it.
 ghost use Rattle.std.specs.Prelude.{◌≡◌, ◌<◌, ◌≤◌, ◌∷◌, [], true, None, Some, Option, List, length, drop};
-ghost use Rattle.af_journal.specs.Clients.{after_answer, after_clear, after_put, after_send, after_sent, after_status, after_write, asked_first, at_next_turn, begun, due_of, goes_on, mode_after, new_client, next_want, rest_of, rested, wants_of};
+ghost use Rattle.af_journal.specs.Clients.{after_answer, after_clear, after_put, after_send, after_sent, after_status, after_write, asked_first, at_next_turn, begun, due_of, ends, goes_on, mode_after, new_client, next_want, rest_of, rested, wants_of};
 ghost use Rattle.af_journal.specs.declared.want.Want.TheVariants.{Send};
 ghost use Rattle.af_journal.specs.declared.want.ClientCommand.TheVariants.{Start};
 ghost use Rattle.af_journal.specs.declared.want.Want.{Want as WantSeen};
@@ -146,6 +146,13 @@ impl Client {
         ensures { result ≡ self.now.ended }
     {
         self.ended
+    }
+
+    /// Ends it: its track is no more.
+    pub fn end(&mut self)
+        ensures { (ops : List OpSeen) → client_of ops self.new ≡ ends (client_of ops self.old) }
+    {
+        self.ended = true;
     }
 
     /// Begins its next op, where nothing is left of the one in work. Ops that want nothing are done at once.

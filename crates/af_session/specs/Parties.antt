@@ -17,8 +17,9 @@ pub record Given : Type 0 where
   pub ops : List Op
   pub file : List Frame
 
--- a client with the proxies of its two blocks, and how many turns it has made
+-- a client: its track, what it wants, the proxies of its two blocks, and how many turns it has made
 pub record PlayerState : Type 0 where
+  pub track : ℕ
   pub client : ClientKept
   pub stream : ClientState
   pub command : ClientState
@@ -37,3 +38,11 @@ side_of c = record { shape = c.pass.part.shape; events = c.pass.part.events; rel
 -- the client of a track, with what it is given
 abbrev pub track_of : Given → PlayerState → Track
 track_of g p = record { file = map packed_word g.file; client = client_of g.ops p.client; stream = side_of p.stream; commands = side_of p.command }
+
+-- The mixers are those of these links, in order, for so many tracks, and between two cycles
+pub record AreMixers (links : Links) (tracks : ℕ) (m : NormalState) (f : MixerState) : Type 0 where
+  pub normal : normal.IsInOrder links m
+  pub tracks_are : length m.tracks ≡ tracks
+  pub fast : fast.IsInOrder f
+  pub linked : IsLinked links f
+  pub idle : f.adopted ≡ false
