@@ -11,7 +11,6 @@ use Rattle.af_life.specs.Kept.{Outside}
 use Rattle.af_journal.specs.ClientTurns.{LegalClientTurn, after_calls}
 use Rattle.af_fast.specs.Mixing.{Adopts, AddsCycle}
 use Rattle.af_normal.specs.LegalTurned.{IsLegal}
-use Rattle.af_normal.specs.State.{setup_of}
 use Rattle.af_session.specs.Parties.{Given, PlayerState, PartiesState, track_of}
 use Rattle.af_session.specs.Meetings.{AreMet}
 
@@ -32,7 +31,6 @@ pub record ClientTurned (g : Given) (track : ℕ) (calls : List ClientCall) (x y
 pub record NormalTurned (x y : PartiesState) : Type 0 where
   pub sees : Outside
   pub legal : IsLegal sees x.normal y.normal
-  pub setup : setup_of y.normal ≡ setup_of x.normal
   pub same : y ≡ record x { normal = y.normal }
 
 -- ## The fast mixer
