@@ -72,3 +72,16 @@ run_begins p q into done position first cells before inside position_is first_is
     let on : next_position q.part ≡ next_position p.part + done = ap (λ (x : ServerSide). next_position x.part) before ∙ moved p.part words ∙ ap (λ (n : ℕ). next_position p.part + n) count in
     let word : (position + done) % 2 ^ 32 ≡ wrapped (next_position q.part) = (let e : position ≡ next_position p.part % 2 ^ 32 = position_is in omega arith) in
     first_is ∙ ap (λ (n : ℕ). 7 + n % cells) word
+
+-- where the next cells of a run begin
+pub run_follows : (k : Shape) (p q : ServerSide) (into : List Frame) (done first : ℕ) → IsShape k → p.part.shape ≡ k → ServerIs (saw_next p.part (map packed_word (take done into))) p q
+    → first ≡ 7 + wrapped (next_position p.part) % k.cells → done ≤ length into → first + done < 7 + k.cells → first + done ≡ 7 + wrapped (next_position q.part) % k.cells
+run_follows k p q into done first shape same before first_is inside within =
+    let words : List ℕ = map packed_word (take done into) in
+    let size : IsSized k = sized k shape in
+    let start : ℕ = wrapped (next_position p.part) % k.cells in
+    let count : length words ≡ done = length-map (take done into) packed_word ∙ length-take-le done into inside in
+    let on : next_position q.part ≡ next_position p.part + done = ap (λ (x : ServerSide). next_position x.part) before ∙ moved p.part words ∙ ap (λ (n : ℕ). next_position p.part + n) count in
+    let next : start + done ≡ wrapped (next_position p.part + done) % k.cells = next_place (next_position p.part) done k.cells size.3.0 start size.3.1 refl (omega arith) in
+    let place : first + done ≡ 7 + (start + done) = omega arith in
+    place ∙ ap (λ (n : ℕ). 7 + n) (next ∙ ap (λ (n : ℕ). wrapped n % k.cells) (sym on))

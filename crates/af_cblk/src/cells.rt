@@ -27,8 +27,8 @@ impl Block {
         (found & 0xffff_ffff) as u32
     }
 
-    // Loads the next cells, which lie one behind the other from a word of the block on.
-    fn load_run<L: Ledger>(
+    // Loads a few cells, which lie one behind the other from a word of the block on.
+    fn load_few<L: Ledger>(
         &self,
         pass: &mut ServerPass,
         first: usize,
@@ -46,6 +46,32 @@ impl Block {
         for i in 0..into.len() {
             let word = self.load_word(pass, first + i, steps);
             into[i] = Frame::unpack(word);
+        }
+    }
+
+    // Loads the next cells, which lie one behind the other from a word of the block on: eight by eight, so that the compiler unrolls them, and then the rest.
+    fn load_run<L: Ledger>(
+        &self,
+        pass: &mut ServerPass,
+        first: usize,
+        into: &mut [Frame],
+        steps: &mut Steps<L>,
+    )
+        requires made { server_made pass.old ≡ self.now }
+        requires shape { IsShape self.now.shape }
+        requires next { first ≡ 7 + wrapped (next_position pass.old.part) % self.now.shape.cells }
+        requires within { first + length into.old ≤ 7 + self.now.shape.cells }
+        ensures made { server_made pass.new ≡ self.now }
+        ensures saw { ServerIs (saw_next pass.old.part (map packed_word into.new)) pass.old pass.new }
+        ensures steps { steps.new ≡ steps.old + length into.old }
+    {
+        let mut done = 0;
+        while into.len() - done >= 8 {
+            self.load_few(pass, first + done, &mut into[done..done + 8], steps);
+            done += 8;
+        }
+        if done < into.len() {
+            self.load_few(pass, first + done, &mut into[done..], steps);
         }
     }
 

@@ -1,17 +1,24 @@
-use Rattle.std.proofs.Common.{arith, ◌≡◌, ◌<◌, ◌+◌, length, ap}
+use Rattle.std.proofs.Common.{arith, ◌≡◌, ◌+◌, ◌-◌, ℕ, length, ap}
 use Rattle.af_cblk.specs.Sides.{Made}
-use Rattle.af_cblk.proofs.Runs.{run_on}
+use Rattle.af_cblk.proofs.Runs.{runs_join, run_follows}
 use Rattle.af_cblk.proofs.block.Block.load_run.Goals as goal
 
-pub loop-i-preserved : goal.loop-i-preserved
-loop-i-preserved g c =
-    let i = c.loop-i.invariant in
-    let e = c.load_word-word.ensures in
-    let u = c.unpack.ensures in
-    let need = c.requires in
-    let same : c.args.pass.now.part.shape ≡ c.args.self.now.shape = ap (λ (m : Made). m.shape) need.made in
-    let here : c.loop-i.i < length c.loop-i.into = (let a = c.loop-i-test.true in let b = c.loop-i.auto.into in omega arith) in
-    let inside : c.args.first + c.loop-i.i < 7 + c.args.self.now.shape.cells = (let a = need.within in let b = c.loop-i.auto.into in omega arith) in (
-      run_on c.args.self.now.shape c.args.pass.now c.loop-i.pass c.load_word-word.new.pass c.loop-i.into c.loop-i.i c.args.first c.load_word-word.result c.unpack.result need.shape same i.0 here need.next inside u.packed e.saw,
-      (let a = e.steps in let b = i.1 in omega arith),
+pub loop-into-preserved : goal.loop-into-preserved
+loop-into-preserved g c =
+    let i = c.loop-into.invariant in
+    let done : ℕ = c.loop-into.done in
+    let long : length c.load_few.new.into ≡ 8 = omega arith in (
+      runs_join c.args.pass.now c.loop-into.pass c.load_few.new.pass c.loop-into.into c.load_few.new.into done 8 (done + 8 - done) i.0 c.load_few.ensures.saw long i.2,
+      omega arith,
+      omega arith,
     )
+
+pub load_few-requires-clause-next : goal.load_few-requires-clause-next
+load_few-requires-clause-next g c =
+    let i = c.loop-into.invariant in
+    run_follows c.args.self.now.shape c.args.pass.now c.loop-into.pass c.loop-into.into c.loop-into.done c.args.first c.requires.shape (ap (λ (m : Made). m.shape) c.requires.made) i.0 c.requires.next i.2 (omega (arith, c.requires.within, c.loop-into.auto.into))
+
+pub load_few-requires-then-done-into-clause-next : goal.load_few-requires-then-done-into-clause-next
+load_few-requires-then-done-into-clause-next g c =
+    let i = c.loop-into.invariant in
+    run_follows c.args.self.now.shape c.args.pass.now c.loop-into.pass c.loop-into.into c.loop-into.done c.args.first c.requires.shape (ap (λ (m : Made). m.shape) c.requires.made) i.0 c.requires.next i.2 (omega (arith, c.requires.within, c.loop-into.auto.into))
