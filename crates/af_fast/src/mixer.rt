@@ -113,6 +113,21 @@ impl FastMixer {
         &self.log
     }
 
+    /// Whether Exit was answered.
+    pub fn has_exited(&self) -> bool
+        ensures { result ≡ self.now.exited }
+    {
+        self.exited
+    }
+
+    /// Ends the mixer. What is left is its log.
+    pub fn into_log(self) -> FastLog
+        ensures { result ≡ self.log }
+    {
+        let FastMixer { log, .. } = self;
+        log
+    }
+
     /// Lends the observer to a meeting.
     pub fn observer(&mut self) -> &mut Observer<Server, StreamNames>
         ensures value { result.now ≡ self.entry.now.observer }

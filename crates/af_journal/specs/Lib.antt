@@ -1,4 +1,5 @@
 pub mod Clients
+pub mod ClientTurns
 pub mod Kept
 pub mod Lines
 pub mod Texts

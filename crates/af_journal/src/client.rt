@@ -1,5 +1,5 @@
 //! A client of a session: what it wants next, by its ops, and what each answer of its proxies makes of it.
-ghost use Rattle.std.specs.Prelude.{◌≡◌, ◌<◌, ◌≤◌, ◌∷◌, [], true, None, Some, Option, List, length, drop};
+ghost use Rattle.std.specs.Prelude.{◌≡◌, ◌<◌, ◌≤◌, ◌||◌, ◌∷◌, [], true, None, Some, Option, List, length, drop};
 ghost use Rattle.af_journal.specs.Clients.{after_answer, after_clear, after_put, after_send, after_sent, after_status, after_write, asked_first, at_next_turn, begun, due_of, goes_on, mode_after, new_client, next_want, rest_of, rested, wants_of};
 ghost use Rattle.af_journal.specs.declared.want.Want.TheVariants.{Send};
 ghost use Rattle.af_journal.specs.declared.want.ClientCommand.TheVariants.{Start};
@@ -146,6 +146,20 @@ impl Client {
         ensures { result ≡ self.now.ended }
     {
         self.ended
+    }
+
+    /// Whether it makes no more calls in this turn: it waits for the other parties, or has ended.
+    pub fn is_halted(&self) -> bool
+        ensures { result ≡ (self.now.waiting || self.now.ended) }
+    {
+        self.waiting || self.ended
+    }
+
+    /// Ends it: its track is no more.
+    pub fn end(&mut self)
+        ensures { self.new ≡ record self.old { ended = true } }
+    {
+        self.ended = true;
     }
 
     /// Begins its next op, where nothing is left of the one in work. Ops that want nothing are done at once.

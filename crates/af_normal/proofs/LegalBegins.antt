@@ -125,6 +125,7 @@ module _ (x y z : NormalState) (o : Outside) (b : BegunBy x y) where
   pub begun_legally : IsLegal o y z → IsLegal o x z
   begun_legally l = record {
     commands = (λ i s is. l.commands i s (ap (λ (w : NormalState). slice_get w.commands i) b.same ∙ is));
+    setup = l.setup ∙ ap setup_of b.same;
     legal = subst (λ (w : NormalState). LegalTurn (setup_of w) o (kept_of w) (turn_of z.entry)) b.same l.legal;
     leaves = l.leaves ∙ ap (λ (w : NormalState). turn_after (setup_of w) (learnt o) (kept_of w) (turn_of z.entry)) b.same;
     lists = begun_grows (setup_of x) (kept_of x) (turn_of z.entry) (subst (λ (w : NormalState). Grows (setup_of w) (kept_of w) o (turn_of z.entry) y z) b.same l.lists);

@@ -295,6 +295,7 @@ module _ (links : Links) (t : ℕ) (x : NormalState) (ack : Bool) (report : Repo
   pub made_legally : x.ended ≡ false → (is_exit x.mutator.past.last && ack) ≡ false → IsLegal (outside links t x ack report room push y made) x y
   made_legally lives no_exit = record {
     commands = (λ i r is. ap (λ (rs : List ServerState). listed_at (slice_get rs i)) (commands_l links t x ack report room push y made) ∙ ap listed_at is);
+    setup = ap setup_of made.goes_on.rest.leaves ∙ ap setup_of made.goes_on.rest.plays.same ∙ setup_of_p links t x ack report room push y made ∙ setup_of_l links t x ack report room push y made;
     legal = turn_legal links t x ack report room push y made lives no_exit;
     leaves = turn_kept links t x ack report room push y made lives no_exit;
     lists = subst (λ (d : Setup × Turn). Grows d.0 (kept_of x) (outside links t x ack report room push y made) d.1 x y) (λ i. (setup_of_l links t x ack report room push y made i, sym (tells links t x ack report room push y made) i)) (grows_told lives);

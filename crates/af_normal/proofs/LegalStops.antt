@@ -115,6 +115,7 @@ module _ (x y : NormalState) (stops : Stops x y) where
   pub stopped_legally : IsLegal seen x y
   stopped_legally = record {
     commands = (λ i s is. ap listed_at is);
+    setup = ap setup_of stops.leaves;
     legal = subst (λ (e : Turn). LegalTurn (setup_of x) seen (kept_of x) e) (sym stops.tells) legal_ended;
     leaves = after_ended ∙ ap (turn_after (setup_of x) (learnt seen) (kept_of x)) (sym stops.tells);
     lists = subst (λ (e : Turn). Grows (setup_of x) (kept_of x) seen e x y) (sym stops.tells) grows_ended;

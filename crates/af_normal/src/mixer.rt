@@ -74,6 +74,13 @@ impl NormalMixer {
         &self.entry
     }
 
+    /// Whether a turn answered that it has ended.
+    pub fn has_ended(&self) -> bool
+        ensures { result ≡ self.now.ended }
+    {
+        self.ended
+    }
+
     /// How many turns were made.
     pub fn turns(&self) -> u32
         ensures { result ≡ self.now.turns }
