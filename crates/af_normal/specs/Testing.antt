@@ -22,9 +22,14 @@ use Rattle.af_normal.specs.Turning.{stream_fits}
 abbrev pub AreClients : List Made → List ClientState → Type 0
 AreClients = AllZip IsClientOf
 
+-- the key names these blocks
+abbrev pub NamesBlocks : Option StreamNames → List Made → Type 0
+NamesBlocks key blocks = (names : StreamNames) × (key ≡ Some names) × (names.blocks ≡ blocks)
+
 -- the ends of the other mixer, and the clients, are of these links; the report stored last has the cycle of this one
 pub record AreOthers (links : Links) (o : Observes ServerState StreamNames) (w : WriterSide) (p : OutSide) (last : Report) (streams commands : List ClientState) : Type 0 where
   pub queue_is : o.past.queue ≡ links.queue.now
+  pub names : NamesBlocks o.past.key links.streams.now
   pub polls : InOrder stream_fits o
   pub report_is : w.cell ≡ links.report.now
   pub cycle_is : last_cycle w.events ≡ last.cycle

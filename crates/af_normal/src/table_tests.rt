@@ -4,6 +4,7 @@ ghost use Rattle.af_link.specs.declared.links.Links.{Links as Linked};
 ghost use Rattle.af_normal.specs.Making.{AreNew};
 ghost use Rattle.af_normal.specs.Testing.{AreLines, AreOthers, IsLine, IsWorld};
 
+use crate::stream_tests::new_block;
 use crate::tests::{NO_FRAME, Others, Step, Told, World};
 use crate::{NormalMixer, TrackSetup, Tracks, Turn};
 use af_base::{Frame, Memory, Push, Steps};
@@ -26,6 +27,8 @@ pub(crate) struct Kind {
     pub fast: bool,
     pub mono: bool,
     pub frames: u32,
+    /// A flush of its stream block carries its position.
+    pub positional: bool,
 }
 
 /// A fast track of eight frames.
@@ -33,6 +36,7 @@ pub(crate) const FAST: Kind = Kind {
     fast: true,
     mono: false,
     frames: 8,
+    positional: false,
 };
 
 /// What the parties of a test share.
@@ -75,10 +79,10 @@ pub(crate) struct Parts {
 }
 
 // A block of some frames with its proxies.
-fn line(alloc: Global, frames: u32) -> Result<(Block, Client, Server), Memory>
+fn line(alloc: Global, frames: u32, positional: bool) -> Result<(Block, Client, Server), Memory>
     ensures { IfOk result (λ l. IsLine l.0 l.1 l.2) }
 {
-    let (block, client, server) = Block::make(alloc, frames.max(1).min(65536), 0)?;
+    let (block, client, server) = new_block(alloc, frames, positional)?;
     let client = Client::with(client, &block);
     let server = Server::with(server, &block);
     Ok((block, client, server))
@@ -103,8 +107,8 @@ fn make_lines(alloc: Global, kinds: &[Kind]) -> Result<Lines, Memory>
     let mut senders = Vec::new(alloc);
     let mut tracks = Tracks::empty(alloc);
     for kind in kinds {
-        let (block, client, stream) = line(alloc, kind.frames)?;
-        let (control, sender, command) = line(alloc, 128)?;
+        let (block, client, stream) = line(alloc, kind.frames, kind.positional)?;
+        let (control, sender, command) = line(alloc, 128, false)?;
         streams.push(block)?;
         commands.push(control)?;
         clients.push(client)?;

@@ -5,8 +5,10 @@ ghost use Rattle.af_link.specs.PipeEnds.{out_made};
 ghost use Rattle.af_link.specs.Reports.{last_cycle};
 ghost use Rattle.af_normal.specs.Testing.{AreClients, AreOthers, IsWorld};
 
+use crate::held_tests::{command_of, plays_slot};
+use crate::meeting_tests::disables;
 use crate::{NormalMixer, Turn};
-use af_base::{FastTrack, Frame, Report, SLOTS, SlotReport, Steps, TurnEntry};
+use af_base::{Command, FastTrack, Frame, Report, SLOTS, Seen, SlotReport, Steps, TurnEntry};
 use af_cblk::Block;
 use af_client::{Client, Sent};
 use af_link::{Links, PipeOut, ReportWriter, StreamNames};
@@ -48,6 +50,10 @@ pub(crate) enum Step {
     Flush {
         track: usize,
     },
+    /// Flushes the command block.
+    FlushCommands {
+        track: usize,
+    },
     /// Stores a rear out of turn.
     Poke {
         track: usize,
@@ -64,6 +70,11 @@ pub(crate) enum Step {
     },
     /// The fast mixer polls.
     Poll,
+    /// The fast mixer plays a slot for so many frames, from one to four.
+    Play {
+        slot: usize,
+        count: usize,
+    },
     /// The fast mixer reports this of a slot, and of the others what it did before.
     Report {
         slot: usize,
@@ -74,6 +85,16 @@ pub(crate) enum Step {
     /// Tells a slot of the state that the fast mixer has.
     Slot {
         slot: usize,
+    },
+    /// Tells what the fast mixer is to do, and the count of cold idles.
+    Command,
+    /// A track's clients meet its proxies; tells whether the stream proxy is home.
+    Meet {
+        track: usize,
+    },
+    /// DISABLED is set by the hand of a track, which meets the client; tells whether there is a hand.
+    Disable {
+        track: usize,
     },
     /// A turn of the mixer, and what it stored of a track.
     Turn {
@@ -99,6 +120,14 @@ pub(crate) enum Told {
     Heard {
         count: u32,
         frames: [Frame; 4],
+    },
+    Played {
+        seen: Seen,
+        frames: [Frame; 4],
+    },
+    Commanded {
+        command: Command,
+        cold: u32,
     },
     Slot {
         carried: bool,
@@ -153,7 +182,7 @@ fn client_does<L: Ledger>(
                 so: matches!(sent, Sent::Sent { .. }),
             };
         }
-        Step::Flush { .. } if client.flushes() < 60_000 => {
+        Step::Flush { .. } | Step::FlushCommands { .. } if client.flushes() < 60_000 => {
             client.flush(block, steps);
         }
         Step::Poke { rear, .. } => client.poke(block, 1, rear, steps),
@@ -278,6 +307,10 @@ impl Others {
             }
             Step::Hear => hears(&mut self.pipe, links, steps),
             Step::Slot { slot } => slot_of(&self.observer, slot),
+            Step::Play { slot, count } => {
+                plays_slot(&mut self.observer, links, slot, count, steps)
+            }
+            Step::Command => command_of(&self.observer),
             _ => Told::Done,
         }
     }
@@ -290,6 +323,7 @@ impl Others {
         match step {
             Step::Send { track, .. }
             | Step::Status { track }
+            | Step::FlushCommands { track }
             | Step::Poke {
                 track,
                 command: true,
@@ -326,6 +360,11 @@ impl World {
                 ack: self.mixer.last().ack,
                 room: self.mixer.last().room,
             },
+            Step::Meet { track } => self.meets(links, track, steps),
+            Step::Disable { track } => {
+                let World { mixer, others } = self;
+                disables(mixer, links, &mut others.streams, track, steps)
+            }
             _ => self.others.does(links, step, steps),
         }
     }

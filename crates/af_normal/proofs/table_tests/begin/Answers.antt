@@ -32,6 +32,7 @@ returns c =
       lines.scales,
       record {
         queue_is = q.together.1 ∙ sym queue_is;
+        names = (_, q.observer.0.has_key, c.stream_names-names.ensures ∙ c.deref.ensures.value ∙ sym streams_is);
         polls = q.observer.1;
         report_is = r.together.0 ∙ sym report_is;
         cycle_is = ap last_cycle r.lists.0 ∙ sym (ap (λ (x : Report). x.cycle) c.first_report.ensures);

@@ -1,0 +1,75 @@
+-- The ends of a test's fast mixer that met those of the mixer are in order, and so is a mixer whose hand told something.
+use Rattle.std.proofs.Common.{◌≡◌, ◌≢◌, ℕ, zero, suc, ◌<◌, ◌++◌, true≢false, is_some, List, [], ◌∷◌, length, length-set, slice_set, slice_get, Option, Some, ⊎_elim, refl, sym, ap, subst, ◌∙◌, arith}
+use Rattle.std.proofs.lemmas.Bool.{cases_eq}
+use Rattle.std.proofs.lemmas.Option.{slice_get_within}
+use Rattle.af_base.specs.declared.report.Report.{Report}
+use Rattle.af_cblk.specs.Sides.{HandSide, Made, hand_made}
+use Rattle.af_client.specs.Order.{ClientState}
+use Rattle.af_latest.specs.Laws.{last_of}
+use Rattle.af_model.specs.Reports.{no_report}
+use Rattle.af_model.specs.declared.newest.WriterEvent.{WriterEvent}
+use Rattle.af_model.specs.declared.newest.WriterEvent.TheVariants.{Store}
+use Rattle.af_model.specs.declared.newest.WriterEvent.TheVariants as writes
+use Rattle.af_server.specs.Order.{ServerState}
+use Rattle.af_stateq.specs.Observes.{Observes}
+use Rattle.af_stateq.proofs.Told.{order_learns}
+use Rattle.af_link.specs.PipeEnds.{OutSide}
+use Rattle.af_link.specs.Reports.{WriterSide}
+use Rattle.af_link.specs.declared.links.Links.{Links}
+use Rattle.af_link.specs.declared.names.StreamNames.{StreamNames}
+use Rattle.af_normal.specs.Meeting.{observer_met, out_met, writer_met}
+use Rattle.af_normal.specs.Order.{IsInOrder}
+use Rattle.af_normal.specs.State.{NormalState}
+use Rattle.af_normal.specs.Testing.{AreOthers}
+use Rattle.af_normal.specs.Turning.{stream_fits}
+use Rattle.af_normal.proofs.LegalLists.{get_set_same, get_set_other}
+
+-- what a writer learns stores nothing
+last_of-learn : (x : Report) (ws : List (WriterEvent Report)) (k : ℕ) → last_of x (ws ++ writes.Learn k ∷ []) ≡ last_of x ws
+last_of-learn x [] k = refl
+last_of-learn x (Store y ∷ ws) k = last_of-learn y ws k
+last_of-learn x (writes.Learn c ∷ ws) k = last_of-learn x ws k
+
+pub others_met : (links : Links) (m n : NormalState) (o : Observes ServerState StreamNames) (w : WriterSide) (p : OutSide) (last : Report) (streams commands : List ClientState)
+    → AreOthers links o w p last streams commands → AreOthers links (observer_met m o) (writer_met n w) (out_met n p) last streams commands
+others_met links m n o w p last streams commands a = record {
+  queue_is = a.queue_is;
+  names = a.names;
+  polls = order_learns stream_fits o (observer_met m o) (length m.mutator.past.events) a.polls refl;
+  report_is = a.report_is;
+  cycle_is = ap (λ (x : Report). x.cycle) (last_of-learn no_report w.events (length n.reader.events)) ∙ a.cycle_is;
+  pipe_is = a.pipe_is;
+  streams_are = a.streams_are;
+  commands_are = a.commands_are;
+}
+
+module _ (links : Links) (m : NormalState) (i : ℕ) (h g : HandSide) (o : IsInOrder links m) (is : slice_get m.hands i ≡ Some h) where
+  -- a hand that is there is of its track's block
+  pub of_block : slice_get links.streams.now i ≡ Some (hand_made h)
+  of_block = by_turns m.turns refl
+    where
+      by_turns : (n : ℕ) → m.turns ≡ n → slice_get links.streams.now i ≡ Some (hand_made h)
+      by_turns zero e = absurd (true≢false (sym (ap is_some (sym (ap (λ (hs : List HandSide). slice_get hs i) (o.none_yet e).none) ∙ is))))
+      by_turns (suc n) e = (o.hands (omega arith)).flags_of i h is
+
+  -- and another one of that block may stand there
+  pub hand_order : hand_made g ≡ hand_made h → IsInOrder links (record m { hands = slice_set m.hands i g })
+  hand_order same = record {
+    tied = record { sound = o.tied.sound; sizes = o.tied.sizes; proxies = o.tied.proxies; out = o.tied.out; linked = o.tied.linked };
+    small = o.small;
+    none_yet = (λ e. absurd (true≢false (sym (ap is_some (sym (ap (λ (hs : List HandSide). slice_get hs i) (o.none_yet e).none) ∙ is)))));
+    hands = (λ z. let old = o.hands z in record {
+      whole = length-set m.hands i g ∙ old.whole;
+      flags_of = (λ j f at_j. ⊎_elim
+          (λ (e : j ≡ i). subst (λ (n : ℕ). slice_get links.streams.now n ≡ Some (hand_made f)) (sym e)
+          (of_block ∙ ap (λ (b : Made). Some b) (sym same ∙ ap hand_made (same_hand g f (sym (get_set_same m.hands i g (slice_get_within m.hands i h is)) ∙ ap (λ (n : ℕ). slice_get (slice_set m.hands i g) n) (sym e) ∙ at_j)))))
+          (λ (ne : j ≢ i). old.flags_of j f (sym (get_set_other m.hands i j g ne) ∙ at_j))
+          (cases_eq j i));
+    });
+    turns = o.turns;
+    takes = o.takes;
+    idle = o.idle;
+  }
+    where
+      same_hand : (x y : HandSide) → Some x ≡ Some y → x ≡ y
+      same_hand x y e = cc
