@@ -9,7 +9,6 @@ use Rattle.af_life.specs.Turn.{turn_after}
 use Rattle.af_normal.specs.LegalTurned.{IsLegal}
 use Rattle.af_normal.specs.State.{NormalState, setup_of, kept_of}
 use Rattle.af_normal.specs.TurnMade.{answer_of}
-use Rattle.af_normal.specs.declared.turn.Turn.{Turn as Answer}
 use Rattle.af_normal.specs.declared.turn.Turn.TheVariants.{Turned, Ended}
 
 -- an ended turn leaves an ended mixer

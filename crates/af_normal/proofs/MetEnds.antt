@@ -1,7 +1,7 @@
 -- The ends of a test's fast mixer that met those of the mixer are in order, and so is a mixer whose hand told something.
-use Rattle.std.proofs.Common.{◌≡◌, ◌≢◌, ℕ, zero, suc, ◌<◌, ◌++◌, true≢false, is_some, List, [], ◌∷◌, length, length-set, slice_set, slice_get, Option, Some, ⊎_elim, refl, sym, ap, subst, ◌∙◌, arith}
+use Rattle.std.proofs.Common.{◌≡◌, ◌≢◌, ℕ, zero, suc, ◌++◌, true≢false, is_some, List, [], ◌∷◌, length, length-set, slice_set, slice_get, slice_index_or, Some, ⊎_elim, refl, sym, ap, subst, ◌∙◌, arith}
 use Rattle.std.proofs.lemmas.Bool.{cases_eq}
-use Rattle.std.proofs.lemmas.Option.{slice_get_within}
+use Rattle.std.proofs.lemmas.Option.{slice_get_within, get_or_from_slice_get}
 use Rattle.af_base.specs.declared.report.Report.{Report}
 use Rattle.af_cblk.specs.Sides.{HandSide, Made, hand_made}
 use Rattle.af_client.specs.Order.{ClientState}
@@ -43,7 +43,7 @@ others_met links m n o w p last streams commands a = record {
   commands_are = a.commands_are;
 }
 
-module _ (links : Links) (m : NormalState) (i : ℕ) (h g : HandSide) (o : IsInOrder links m) (is : slice_get m.hands i ≡ Some h) where
+module _ (links : Links) (m : NormalState) (i : ℕ) (h : HandSide) (o : IsInOrder links m) (is : slice_get m.hands i ≡ Some h) where
   -- a hand that is there is of its track's block
   pub of_block : slice_get links.streams.now i ≡ Some (hand_made h)
   of_block = by_turns m.turns refl
@@ -52,9 +52,13 @@ module _ (links : Links) (m : NormalState) (i : ℕ) (h g : HandSide) (o : IsInO
       by_turns zero e = absurd (true≢false (sym (ap is_some (sym (ap (λ (hs : List HandSide). slice_get hs i) (o.none_yet e).none) ∙ is))))
       by_turns (suc n) e = (o.hands (omega arith)).flags_of i h is
 
+  -- where one stands at its place
+  pub block_is : (b : Made) → b ≡ slice_index_or links.streams.now i b → hand_made h ≡ b
+  block_is b e = sym (get_or_from_slice_get links.streams.now i (hand_made h) b of_block) ∙ sym e
+
   -- and another one of that block may stand there
-  pub hand_order : hand_made g ≡ hand_made h → IsInOrder links (record m { hands = slice_set m.hands i g })
-  hand_order same = record {
+  pub hand_order : (g : HandSide) → hand_made g ≡ hand_made h → IsInOrder links (record m { hands = slice_set m.hands i g })
+  hand_order g same = record {
     tied = record { sound = o.tied.sound; sizes = o.tied.sizes; proxies = o.tied.proxies; out = o.tied.out; linked = o.tied.linked };
     small = o.small;
     none_yet = (λ e. absurd (true≢false (sym (ap is_some (sym (ap (λ (hs : List HandSide). slice_get hs i) (o.none_yet e).none) ∙ is)))));

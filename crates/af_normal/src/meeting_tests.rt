@@ -63,22 +63,23 @@ fn tells<L: Ledger>(hand: &mut TrackHand, block: &Block, client: &mut Client, st
 pub(crate) fn disables<L: Ledger>(
     mixer: &mut NormalMixer,
     links: &Links<'_>,
-    streams: &mut [Client],
+    clients: &mut [Client],
     track: usize,
     steps: &mut Steps<L>,
 ) -> Told
     requires order { IsInOrder links.now mixer.old }
-    requires streams { AreClients links.now.streams.now streams.old }
+    requires clients { AreClients links.now.streams.now clients.old }
     ensures order { IsInOrder links.now mixer.new }
-    ensures streams { AreClients links.now.streams.now streams.new }
+    ensures clients { AreClients links.now.streams.now clients.new }
 {
+    let blocks = links.streams;
     if track >= 32 {
         return Told::Done;
     }
     let Some(hand) = mixer.hand(track as u32) else {
         return Told::Is { so: false };
     };
-    tells(hand, &links.streams[track], &mut streams[track], steps);
+    tells(hand, &blocks[track], &mut clients[track], steps);
     Told::Is { so: true }
 }
 

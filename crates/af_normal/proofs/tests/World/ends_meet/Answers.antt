@@ -6,7 +6,7 @@ use Rattle.af_link.specs.Reports.{WriterSide}
 use Rattle.af_link.specs.declared.names.StreamNames.{StreamNames}
 use Rattle.af_normal.specs.Testing.{AreOthers}
 use Rattle.af_normal.proofs.MetEnds.{others_met}
-use Rattle.af_normal.proofs.meeting_tests.World.ends_meet.Goals as goal
+use Rattle.af_normal.proofs.tests.World.ends_meet.Goals as goal
 
 pub returns : goal.returns
 returns g c =

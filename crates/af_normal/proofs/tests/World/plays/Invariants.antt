@@ -1,5 +1,5 @@
 use Rattle.af_normal.specs.Testing.{IsWorld}
-use Rattle.af_normal.proofs.meeting_tests.World.plays.Given as goal
+use Rattle.af_normal.proofs.tests.World.plays.Given as goal
 
 abbrev pub invariant-loop-step : goal.invariant-loop-step
 invariant-loop-step g l =
