@@ -83,8 +83,15 @@ pub(crate) fn disables<L: Ledger>(
     Told::Is { so: true }
 }
 
+// How many tracks the last turn told of: none before the first turn and after the end.
+fn tracks_told(mixer: &NormalMixer) -> usize
+    ensures { result ≡ length mixer.now.entry.tracks.items }
+{
+    mixer.last().tracks.as_slice().len()
+}
+
 impl World {
-    /// The clients of a track meet its proxies; tells whether the stream proxy is home. Before the first turn and after the last one nothing is done.
+    /// The clients of a track meet its proxies; tells whether the stream proxy is home. Before the first turn and after the end nothing is done.
     pub(crate) fn meets<L: Ledger>(
         &mut self,
         links: &Links<'_>,
@@ -94,7 +101,7 @@ impl World {
         requires { IsWorld links.now self.old.mixer self.old.others.observer self.old.others.writer self.old.others.pipe self.old.others.report self.old.others.streams.items self.old.others.commands.items }
         ensures { IsWorld links.now self.new.mixer self.new.others.observer self.new.others.writer self.new.others.pipe self.new.others.report self.new.others.streams.items self.new.others.commands.items }
     {
-        if track >= self.mixer.last().tracks.as_slice().len() {
+        if track >= tracks_told(&self.mixer) {
             return Told::Done;
         }
         let World { mixer, others } = self;

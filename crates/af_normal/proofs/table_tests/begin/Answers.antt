@@ -1,4 +1,4 @@
-use Rattle.std.proofs.Common.{◌≡◌, ℕ, List, Option, sym, ap, subst, ◌∙◌, arith}
+use Rattle.std.proofs.Common.{List, sym, ap, subst, ◌∙◌}
 use Rattle.af_base.specs.declared.report.Report.{Report}
 use Rattle.af_cblk.specs.Sides.{Made}
 use Rattle.af_cblk.specs.declared.view.ClientPart.{ClientPart}
