@@ -1,0 +1,22 @@
+-- The parties of a session, and when they belong together.
+use Rattle.std.specs.Prelude.{◌≡◌, ℕ, List, length, slice_get, Some}
+use Rattle.af_fast.specs.Mixer.{MixerState, IsLinked, IsInOrder as IsFastInOrder}
+use Rattle.af_link.specs.declared.links.Links.{Links}
+use Rattle.af_normal.specs.Meeting.{AreClientsOf}
+use Rattle.af_normal.specs.Order.{IsInOrder as IsNormalInOrder}
+use Rattle.af_normal.specs.State.{NormalState}
+use Rattle.af_session.specs.Parties.{PartyState}
+
+-- the clients in order of tracks, the normal mixer and the fast mixer
+pub record SessionState : Type 0 where
+  pub clients : List PartyState
+  pub normal : NormalState
+  pub fast : MixerState
+
+-- The mixers are in order over these links, and the client of each track has the proxies of its two blocks, in order
+pub record AreTogether (links : Links) (s : SessionState) : Type 0 where
+  pub normal : IsNormalInOrder links s.normal
+  pub fast : IsFastInOrder s.fast × IsLinked links s.fast
+  pub count : length s.clients ≡ length s.normal.tracks
+  pub tracks : (i : ℕ) (p : PartyState) → slice_get s.clients i ≡ Some p → p.track ≡ i
+  pub clients : (i : ℕ) (p : PartyState) → slice_get s.clients i ≡ Some p → AreClientsOf links i p.stream p.command

@@ -1,0 +1,6 @@
+//! Sessions: the clients, the normal mixer and the fast mixer of a run, their turns, and how they meet.
+#![tactic(auto)]
+
+mod party;
+
+pub use party::Party;

@@ -1,0 +1,34 @@
+//! A client of a session.
+ghost use Rattle.std.specs.Prelude.{◌≡◌};
+
+use af_base::{ClientCall, Items};
+use af_client::Client as Proxy;
+use af_journal::Client;
+use std::marker::Model;
+
+/// A client of a session: the number of its track, what it wants by its ops, its proxies of the stream's block and of the command block, and the calls of its last turn.
+#[derive(Drop)]
+pub struct Party {
+    pub(crate) track: u32,
+    pub(crate) client: Client,
+    pub(crate) stream: Proxy,
+    pub(crate) command: Proxy,
+    pub(crate) calls: Items<ClientCall>,
+}
+
+impl Model for Party {
+    ghost use Rattle.af_session.specs.Parties.{PartyState};
+
+    ghost Value = { PartyState };
+
+    ghost view = { λ p. record { track = p.track; client = p.client; stream = p.stream; command = p.command; calls = p.calls } };
+}
+
+impl Party {
+    /// Whether it has ended.
+    pub fn has_ended(&self) -> bool
+        ensures { result ≡ self.now.client.ended }
+    {
+        self.client.has_ended()
+    }
+}
