@@ -1,0 +1,6 @@
+mod Asks
+mod MadeCalls
+mod WorkLeft
+pub mod CanWorkOn
+mod Legal
+mod StepMade

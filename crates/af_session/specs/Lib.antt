@@ -1,3 +1,5 @@
 pub mod Parties
 pub mod Together
 pub mod Works
+pub mod Asking
+pub mod Turning

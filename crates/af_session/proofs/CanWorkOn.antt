@@ -1,0 +1,105 @@
+-- A client that can do its work goes on so.
+use Rattle.std.proofs.Common.{◌≡◌, ℕ, ◌+◌, ◌<◌, ◌≤◌, Bool, true, false, List, [], ◌∷◌, Option, Some, None, All, drop, refl, ap, sym, ◌∙◌, subst, arith}
+use Rattle.std.proofs.lemmas.List.Elements.{All-head}
+use Rattle.af_base.specs.declared.event.ClientCall.{ClientCall}
+use Rattle.af_model.specs.declared.shape.Shape.{Shape}
+use Rattle.af_cblk.specs.Shape.{most_flushes}
+use Rattle.af_cblk.specs.Sides.{Made}
+use Rattle.af_client.specs.Order.{ClientState}
+use Rattle.af_normal.specs.Meeting.{client_knows}
+use Rattle.af_server.specs.Order.{ServerState}
+use Rattle.af_script.specs.declared.op.Op.{Op}
+use Rattle.af_journal.specs.declared.want.Want.{Want}
+use Rattle.af_journal.specs.declared.want.Want.TheVariants as want
+use Rattle.af_journal.specs.Clients.{Client, asked_first, next_want, rest_of}
+use Rattle.af_journal.specs.Kept.{client_of}
+use Rattle.af_session.specs.Asking.{CanMake, CanSend}
+use Rattle.af_session.specs.Parties.{PartyState}
+use Rattle.af_session.specs.Works.{CanWork, IsFitting, IsFittingOp, flushes_due, flushes_to_come, frames_due, frames_to_come}
+use Rattle.af_session.proofs.WorkLeft.{Left, LeftBy}
+
+-- after so many frames were written and flushes asked for
+pub work_on : (ops : List Op) (frames x y : ℕ) (p q : PartyState) → CanWork ops frames p
+    → LeftBy p.stream.pass.part.shape.cells p.command.pass.part.shape.cells x y (client_of ops p.client) (client_of ops q.client)
+    → q.stream.released ≡ p.stream.released + x → q.stream.flushes ≡ p.stream.flushes + y → q.stream.pass.part.shape ≡ p.stream.pass.part.shape → q.command.pass.part.shape ≡ p.command.pass.part.shape
+    → q.calls.room ≡ p.calls.room → CanWork ops frames q
+work_on ops frames x y p q can left written flushed stream command room =
+    let fit = left.fits (can.due_fits, can.ops_fit) in
+    let s = p.stream.pass.part.shape in let k = p.command.pass.part.shape in
+    let flushes : q.stream.flushes + (flushes_due q.client.due + flushes_to_come (drop q.client.at ops)) ≤ most_flushes s.wrap = omega (arith, left.flushes, can.flushes, flushed) in
+    record {
+      file = omega (arith, left.frames, can.file, written);
+      few_frames = can.few_frames;
+      flushes = subst (λ (z : Shape). q.stream.flushes + (flushes_due q.client.due + flushes_to_come (drop q.client.at ops)) ≤ most_flushes z.wrap) (sym stream) flushes;
+      due_fits = subst (λ (z : Shape × Shape). All (IsFitting z.0.cells z.1.cells) q.client.due) (λ i. (sym stream i, sym command i)) fit.0;
+      ops_fit = subst (λ (z : Shape × Shape). All (IsFittingOp z.0.cells z.1.cells) (drop q.client.at ops)) (λ i. (sym stream i, sym command i)) fit.1;
+      commands = (ap (λ (z : Shape). z.frames) command ∙ can.commands.0, ap (λ (z : Shape). z.base) command ∙ can.commands.1);
+      room = room ∙ can.room;
+    }
+
+-- its proxies learnt what the servers have done
+pub work_met : (ops : List Op) (frames : ℕ) (p : PartyState) (s k : ServerState) → CanWork ops frames p → CanWork ops frames (record p { stream = client_knows p.stream s; command = client_knows p.command k })
+work_met ops frames p s k can = record {
+  file = can.file;
+  few_frames = can.few_frames;
+  flushes = can.flushes;
+  due_fits = can.due_fits;
+  ops_fit = can.ops_fit;
+  commands = can.commands;
+  room = can.room;
+}
+
+-- the stream's proxy alone learnt nothing
+pub work_met_command : (ops : List Op) (frames : ℕ) (p : PartyState) (k : ServerState) → CanWork ops frames p → CanWork ops frames (record p { command = client_knows p.command k })
+work_met_command ops frames p k can = record {
+  file = can.file;
+  few_frames = can.few_frames;
+  flushes = can.flushes;
+  due_fits = can.due_fits;
+  ops_fit = can.ops_fit;
+  commands = can.commands;
+  room = can.room;
+}
+
+-- ## What is wanted next
+
+-- it wants something that a call does
+abbrev pub IsCall : Want → Type 0
+IsCall want.Rest = ⊥
+IsCall _ = Unit {0}
+
+asked-some : (wants : List Want) (w : Want) → asked_first wants ≡ Some w → (wants ≡ w ∷ rest_of wants) × IsCall w
+asked-some [] w h = absurd (let e : ⊥ = cc in e)
+asked-some (want.Rest ∷ wants) w h = absurd (let e : ⊥ = cc in e)
+asked-some (v ∷ wants) w h =
+    let same : v ≡ w = cc in
+    (ap (λ (z : Want). z ∷ wants) same, subst IsCall same tt)
+
+next-some : (b : Bool) (wants : List Want) (w : Want) → (if b then None else asked_first wants) ≡ Some w → (b ≡ false) × (wants ≡ w ∷ rest_of wants) × IsCall w
+next-some true wants w h = absurd (let e : ⊥ = cc in e)
+next-some false wants w h = let first = asked-some wants w h in (refl, first.0, first.1)
+
+-- what is wanted stands first, and is one that a call does
+pub first_wanted : (c : Client) (w : Want) → next_want c ≡ Some w → (c.due ≡ w ∷ rest_of c.due) × IsCall w
+first_wanted c w h = let found = next-some (c.waiting || c.ended) c.due w h in (found.1, found.2)
+
+-- what a want needs, from what the first of the wants has
+can_first : (ops : List Op) (frames : ℕ) (p : PartyState) (w : Want) (wants : List Want) → CanWork ops frames p → p.client.due ≡ w ∷ wants → IsCall w
+    → IsFitting p.stream.pass.part.shape.cells p.command.pass.part.shape.cells w → CanMake frames p w
+can_first ops frames p (want.Write count) wants can is is_call fit = (fit.0, omega (arith, can.file, ap frames_due is), can.few_frames)
+can_first ops frames p want.Flush wants can is is_call fit = omega (arith, can.flushes, ap flushes_due is)
+can_first ops frames p (want.Gain left right) wants can is is_call fit = fit
+can_first ops frames p (want.Poke false word value) wants can is is_call fit = fit
+can_first ops frames p (want.Poke true word value) wants can is is_call fit = fit
+can_first ops frames p want.Rest wants can is is_call fit = is_call
+can_first ops frames p _ wants can is is_call fit = tt
+
+pub can_next : (ops : List Op) (frames : ℕ) (p : PartyState) (w : Want) → CanWork ops frames p → next_want (client_of ops p.client) ≡ Some w → CanMake frames p w
+can_next ops frames p w can h =
+    let first = first_wanted (client_of ops p.client) w h in
+    let s = p.stream.pass.part.shape.cells in let k = p.command.pass.part.shape.cells in
+    can_first ops frames p w (rest_of p.client.due) can first.0 first.1 (All-head (IsFitting s k) w (rest_of p.client.due) (subst (All (IsFitting s k)) first.0 can.due_fits))
+
+-- a command can be sent
+pub can_send : (ops : List Op) (frames : ℕ) (p : PartyState) → CanWork ops frames p → p.command.released < 4611686018427387904 → CanSend p
+can_send ops frames p can few = (can.commands.0, can.commands.1, few, omega (arith, can.file, can.few_frames))
