@@ -1,5 +1,5 @@
 -- A client that can do its work goes on so.
-use Rattle.std.proofs.Common.{◌≡◌, ℕ, ◌+◌, ◌<◌, ◌≤◌, Bool, true, false, List, [], ◌∷◌, Option, Some, None, All, drop, refl, ap, sym, ◌∙◌, subst, arith}
+use Rattle.std.proofs.Common.{◌≡◌, ℕ, ◌+◌, ◌<◌, ◌≤◌, ◌||◌, if◌then◌else◌, Bool, true, false, List, [], ◌∷◌, Option, Some, None, All, drop, refl, ap, sym, ◌∙◌, subst, arith}
 use Rattle.std.proofs.lemmas.List.Elements.{All-head}
 use Rattle.af_base.specs.declared.event.ClientCall.{ClientCall}
 use Rattle.af_model.specs.declared.shape.Shape.{Shape}
@@ -49,7 +49,7 @@ work_met ops frames p s k can = record {
   room = can.room;
 }
 
--- the stream's proxy alone learnt nothing
+-- its command proxy alone did
 pub work_met_command : (ops : List Op) (frames : ℕ) (p : PartyState) (k : ServerState) → CanWork ops frames p → CanWork ops frames (record p { command = client_knows p.command k })
 work_met_command ops frames p k can = record {
   file = can.file;

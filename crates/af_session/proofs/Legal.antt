@@ -8,6 +8,7 @@ use Rattle.af_journal.specs.declared.want.Want.TheVariants as want
 use Rattle.af_journal.specs.Clients.{Client, after_answer, asked_first, at_next_turn, begins, begun, next_want, rest_of, rested, wants_of}
 use Rattle.af_journal.specs.ClientTurns.{AreCalls, IsMade, IsWanted, LegalClientTurn, Track, after_call, after_calls, answered, asked_by, commands_sent, is_of_commands, is_send, most_calls, side_of, wanted_of, with_call}
 use Rattle.af_session.specs.Asking.{flushed_by, written_by}
+use Rattle.af_session.specs.Turning.{WantsNext}
 use Rattle.af_session.proofs.MadeCalls.{few_written}
 use Rattle.af_session.proofs.WorkLeft.{flush_of}
 
@@ -19,10 +20,10 @@ AreMade t (answer ∷ calls) u = (wanted : Want) × (wanted_of t ≡ Some wanted
 -- one call more
 pub made_more : (t u v : Track) (calls : List ClientCall) (wanted : Want) (answer : ClientCall) → AreMade t calls u → wanted_of u ≡ Some wanted → IsMade u wanted answer → v ≡ after_call u answer
     → AreMade t (calls ++ answer ∷ []) v
-made_more t u v [] wanted answer made is does then =
+made_more t u v [] wanted answer made is does goes =
     let P : Track → Type 0 = λ x. (w : Want) × (wanted_of x ≡ Some w) × IsMade x w answer × (v ≡ after_call x answer) in
-    subst P made (wanted, is, does, then)
-made_more t u v (c ∷ calls) wanted answer made is does then = (made.0, made.1, made.2, made_more (after_call t c) u v calls wanted answer made.3 is does then)
+    subst P made (wanted, is, does, goes)
+made_more t u v (c ∷ calls) wanted answer made is does goes = (made.0, made.1, made.2, made_more (after_call t c) u v calls wanted answer made.3 is does goes)
 
 -- they lead where they go
 pub made_fold : (t u : Track) (calls : List ClientCall) → AreMade t calls u → u ≡ fold after_call t calls
@@ -32,9 +33,13 @@ made_fold t u (c ∷ calls) made = made_fold (after_call t c) u calls made.3
 -- the calls of a turn that ends where nothing is wanted, or where no call is left
 pub made_calls : (left : ℕ) (t u : Track) (calls : List ClientCall) → AreMade t calls u → length calls ≤ left → (left ≡ length calls) ⊎ (wanted_of u ≡ None) → AreCalls left t calls
 made_calls left t u [] made few ends = elim ends [ inl e ↦ inl e | inr none ↦ inr (ap wanted_of (sym made) ∙ none) ]
-made_calls left t u (c ∷ calls) made few ends =
-    (omega (arith, few), made.0, made.1, made.2,
-    made_calls (left - 1) (after_call t c) u calls made.3 (omega (arith, few)) (elim ends [ inl e ↦ inl (omega (arith, e)) | inr none ↦ inr none ]))
+made_calls left t u (c ∷ calls) made few ends = (
+  omega (arith, few),
+  made.0,
+  made.1,
+  made.2,
+  made_calls (left - 1) (after_call t c) u calls made.3 (omega (arith, few)) (elim ends [ inl e ↦ inl (omega (arith, e)) | inr none ↦ inr none ]),
+)
 
 -- ## A client that has ended
 
@@ -44,7 +49,7 @@ begins-halts c [] [] = refl
 begins-halts c [] (o ∷ ops) = begins-halts c (wants_of c.mode o) ops
 
 halts-none : (c : Client) → (c.waiting || c.ended) ≡ true → next_want c ≡ None
-halts-none c h = ap (λ (b : Bool). if b then None {A = Want} else asked_first c.due) h
+halts-none c h = let P : Bool → Option Want = λ b. if b then None else asked_first c.due in ap P h
 
 -- a client that waits or has ended wants nothing
 pub halted_none : (c : Client) → (c.waiting || c.ended) ≡ true → next_want (begun c) ≡ None
@@ -85,6 +90,11 @@ goes-end c h = ap (λ (b : Bool). if b || false then record c { waiting = false 
 pub end_begun : (c : Client) → (c.waiting || c.ended) ≡ false → at_next_turn false (begun c) ≡ at_next_turn false c
 end_begun c h = goes-end (begun c) (begins-halts c c.due c.ops ∙ h) ∙ ap (λ (d : Client). let r : Client = record d { due = rested d.due } in r) (begun_again c) ∙ sym (goes-end c h)
 
+-- what is wanted, as the program finds it
+pub wants_next : (o : Option Want) (c d : Client) → o ≡ next_want d → d ≡ begun c → (c.waiting || c.ended) ≡ false → WantsNext c o d
+wants_next None c d is begins goes = (ap next_want (sym begins) ∙ sym is, ap (at_next_turn false) begins ∙ end_begun c goes)
+wants_next (Some w) c d is begins goes = (ap next_want (sym begins) ∙ sym is, begins)
+
 -- ## A call, as the program notes it
 
 answer-some : (t : Track) (answer : ClientCall) (wanted : Want) → wanted_of t ≡ Some wanted
@@ -97,7 +107,7 @@ pub call_noted : (t u : Track) (answer : ClientCall) (wanted : Want) (sent : ℕ
     → c ≡ after_answer sent wanted (rest_of (begun t.client).due) (begun t.client) answer → (record u { client = c }) ≡ after_call t answer
 call_noted t u answer wanted sent c is sides count noted =
     let noted' : c ≡ answered t answer =
-      noted ∙ ap (λ (n : ℕ). after_answer n wanted (rest_of (begun t.client).due) (begun t.client) answer) (count ∙ ap commands_sent sides) ∙ sym (answer-some t answer wanted is) in
+    noted ∙ ap (λ (n : ℕ). after_answer n wanted (rest_of (begun t.client).due) (begun t.client) answer) (count ∙ ap commands_sent sides) ∙ sym (answer-some t answer wanted is) in
     λ i. record (sides i) { client = noted' i }
 
 -- ## What a call writes and flushes

@@ -113,7 +113,7 @@ work_called ops file stream command p p1 p2 p3 wanted answer old new same1 wants
     let t : Track = track_with c file p1 in
     let after = answer_left s k (p2.command.released / 2) wanted rest (begun c) answer (first_wanted (begun c) wanted wants.0).0 (few_put t wanted answer (made c)) (few_flushed t wanted answer (made c).0) in
     let P : Client → Type 0 = λ x. LeftBy s k (written_by answer) (flushed_by answer) c x in
-    let left : P (client_of ops p3.client) = subst P (sym (noted-now ops p p1 p2 p3 wanted answer wants kept noted)) (left_then s k (written_by answer) (flushed_by answer) c (begun c) _ (begun_left s k c) after) in
+    let left : P (client_of ops p3.client) = subst P (sym (noted-now ops p p1 p2 p3 wanted answer wants kept noted)) (left_then s k (written_by answer) (flushed_by answer) c (begun c) (after_answer (p2.command.released / 2) wanted rest (begun c) answer) (begun_left s k c) after) in
     let stream_is : p3.stream ≡ p2.stream = ap (λ (x : PartyState). x.stream) same3 in
     let command_is : p3.command ≡ p2.command = ap (λ (x : PartyState). x.command) same3 in
     let began : p1.stream ≡ p.stream = ap (λ (x : PartyState). x.stream) same1 in

@@ -39,7 +39,7 @@ LeftBy s k written flushed c d = Left s k written flushed c.due c.ops d.due d.op
 
 -- nothing changed
 left_same : (s k x y : ℕ) (due : List Want) (ops : List Op) → x ≤ 0 → y ≤ 0 → Left s k x y due ops due ops
-left_same s k x y due ops no none = record { frames = omega arith; flushes = omega arith; fits = λ h. h }
+left_same s k x y due ops few flushed = record { frames = omega arith; flushes = omega arith; fits = λ h. h }
 
 pub left_then : (s k x y : ℕ) (c d e : Client) → LeftBy s k 0 0 c d → LeftBy s k x y d e → LeftBy s k x y c e
 left_then s k x y c d e first second = record {
@@ -50,8 +50,8 @@ left_then s k x y c d e first second = record {
 
 -- one of two
 left_either : (s k x y : ℕ) (b : Bool) (c d e : Client) → LeftBy s k x y c d → LeftBy s k x y c e → LeftBy s k x y c (if b then d else e)
-left_either s k x y true c d e yes no = yes
-left_either s k x y false c d e yes no = no
+left_either s k x y true c d e one other = one
+left_either s k x y false c d e one other = other
 
 -- ## An op is begun
 
@@ -199,7 +199,7 @@ flushes-more : (left : ℕ) (rest : List Want) → flushes_due (more left rest) 
 flushes-more left rest = flushes-if (left == 0) left rest
 
 fits-more : (s k left : ℕ) (rest : List Want) → left < 4294967296 → All (IsFitting s k) rest → All (IsFitting s k) (more left rest)
-fits-more s k left rest few h = fits-if s k (left == 0) left rest (λ no. let ne = eqb-false left 0 no in omega arith) few h
+fits-more s k left rest few h = fits-if s k (left == 0) left rest (λ h. let ne = eqb-false left 0 h in omega arith) few h
 
 -- a Clear goes before these, where the client is active
 put_left : (s k x y : ℕ) (b : Bool) (asked left : ℕ) (rest : List Want) (c : Client) → c.due ≡ want.Write asked ∷ rest → left + x ≤ asked → y ≤ 0

@@ -1,5 +1,5 @@
 //! A client's turn: the calls that it wants, one after the other.
-ghost use Rattle.std.specs.Prelude.{◌≡◌, ◌+◌, ◌/◌, ◌^◌, ◌<◌, ◌≤◌, List, [], ◌∷◌, ◌++◌, length};
+ghost use Rattle.std.specs.Prelude.{◌≡◌, ◌+◌, ◌/◌, ◌^◌, ◌<◌, ◌≤◌, true, List, [], ◌∷◌, ◌++◌, length};
 ghost use Rattle.af_base.specs.declared.frame.Frame.{Frame as FrameSeen};
 ghost use Rattle.af_client.specs.Order.{IsInOrder};
 ghost use Rattle.af_journal.specs.Clients.{Client as ClientSeen, after_answer, at_next_turn};
@@ -13,9 +13,7 @@ ghost use Rattle.af_session.specs.Parties.{track_of};
 ghost use Rattle.af_session.specs.Turning.{IsMadeBy, IsTurned, Steps as StepsOf, WantsNext};
 ghost use Rattle.af_session.specs.Works.{CanWork};
 
-use crate::asking::{
-    ask_clear, ask_flush, ask_gains, ask_poke, ask_send, ask_status, ask_write,
-};
+use crate::asking::{ask_clear, ask_flush, ask_gains, ask_poke, ask_send, ask_status, ask_write};
 use crate::party::Party;
 use af_base::{ClientCall, Frame, Steps};
 use af_cblk::Block;
