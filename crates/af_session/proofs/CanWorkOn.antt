@@ -1,11 +1,8 @@
 -- A client that can do its work goes on so.
-use Rattle.std.proofs.Common.{◌≡◌, ℕ, ◌+◌, ◌<◌, ◌≤◌, ◌||◌, if◌then◌else◌, Bool, true, false, List, [], ◌∷◌, Option, Some, None, All, drop, refl, ap, sym, ◌∙◌, subst, arith}
+use Rattle.std.proofs.Common.{◌≡◌, ℕ, ◌+◌, ◌<◌, ◌≤◌, ◌||◌, if◌then◌else◌, Bool, true, false, List, [], ◌∷◌, Some, None, All, drop, refl, ap, sym, ◌∙◌, subst, arith}
 use Rattle.std.proofs.lemmas.List.Elements.{All-head}
-use Rattle.af_base.specs.declared.event.ClientCall.{ClientCall}
 use Rattle.af_model.specs.declared.shape.Shape.{Shape}
 use Rattle.af_cblk.specs.Shape.{most_flushes}
-use Rattle.af_cblk.specs.Sides.{Made}
-use Rattle.af_client.specs.Order.{ClientState}
 use Rattle.af_normal.specs.Meeting.{client_knows}
 use Rattle.af_server.specs.Order.{ServerState}
 use Rattle.af_script.specs.declared.op.Op.{Op}
@@ -15,8 +12,8 @@ use Rattle.af_journal.specs.Clients.{Client, asked_first, next_want, rest_of}
 use Rattle.af_journal.specs.Kept.{client_of}
 use Rattle.af_session.specs.Asking.{CanMake, CanSend}
 use Rattle.af_session.specs.Parties.{PartyState}
-use Rattle.af_session.specs.Works.{CanWork, IsFitting, IsFittingOp, flushes_due, flushes_to_come, frames_due, frames_to_come}
-use Rattle.af_session.proofs.WorkLeft.{Left, LeftBy}
+use Rattle.af_session.specs.Works.{CanWork, IsFitting, IsFittingOp, flushes_due, flushes_to_come, frames_due}
+use Rattle.af_session.proofs.WorkLeft.{LeftBy}
 
 -- after so many frames were written and flushes asked for
 pub work_on : (ops : List Op) (frames x y : ℕ) (p q : PartyState) → CanWork ops frames p

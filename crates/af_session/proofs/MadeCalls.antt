@@ -1,5 +1,5 @@
 -- A call of a proxy, as one of its party.
-use Rattle.std.proofs.Common.{◌≡◌, ℕ, ◌+◌, ◌≤◌, Bool, true, false, if◌then◌else◌, List, [], ◌++◌, map, take, drop, length, refl, ap, sym, ◌∙◌, subst, arith}
+use Rattle.std.proofs.Common.{◌≡◌, ℕ, ◌≤◌, Bool, true, false, if◌then◌else◌, List, map, take, drop, length, refl, ap, sym, ◌∙◌, subst, arith}
 use Rattle.std.proofs.lemmas.Bool.{false≢true, true≢false}
 use Rattle.std.proofs.lemmas.List.{drop-map, take-map, take-take}
 use Rattle.af_base.specs.declared.event.ClientCall.{ClientCall}
@@ -9,7 +9,7 @@ use Rattle.af_base.specs.Sample.{packed_word}
 use Rattle.af_client.specs.Order.{ClientState}
 use Rattle.af_journal.specs.declared.want.Want.{Want}
 use Rattle.af_journal.specs.Clients.{Client}
-use Rattle.af_journal.specs.ClientTurns.{AnswersOn, IsMade, IsWanted, Side, Track, asked_by, called, is_of_commands, is_write, released_by, with_call}
+use Rattle.af_journal.specs.ClientTurns.{AnswersOn, IsWanted, Side, Track, asked_by, called, is_of_commands, is_write, released_by, with_call}
 use Rattle.af_session.specs.Asking.{Asked, Makes, flushed_by, grown_by, track_with, written_by}
 use Rattle.af_session.specs.Parties.{PartyState, side_of_proxy}
 use Rattle.af_session.specs.Turning.{IsMadeBy}

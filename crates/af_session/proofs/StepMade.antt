@@ -1,15 +1,14 @@
 -- One step of a turn.
-use Rattle.std.proofs.Common.{◌≡◌, ℕ, ◌+◌, ◌/◌, ◌<◌, ◌≤◌, Bool, false, List, [], ◌∷◌, ◌++◌, length, Option, Some, None, refl, ap, sym, ◌∙◌, subst, arith}
+use Rattle.std.proofs.Common.{◌≡◌, ℕ, ◌+◌, ◌/◌, Bool, false, List, [], ◌∷◌, ◌++◌, length, Some, None, refl, ap, sym, ◌∙◌, subst, arith}
 use Rattle.af_base.specs.declared.event.ClientCall.{ClientCall}
 use Rattle.af_base.specs.declared.frame.Frame.{Frame}
 use Rattle.af_base.specs.Roomy.{Roomy}
-use Rattle.af_model.specs.declared.shape.Shape.{Shape}
 use Rattle.af_cblk.specs.Sides.{Made, client_made}
 use Rattle.af_client.specs.Order.{ClientState}
 use Rattle.af_script.specs.declared.op.Op.{Op}
 use Rattle.af_journal.specs.declared.want.Want.{Want}
-use Rattle.af_journal.specs.Clients.{Client, after_answer, at_next_turn, begun, next_want, rest_of}
-use Rattle.af_journal.specs.ClientTurns.{IsMade, Track, after_call, with_call}
+use Rattle.af_journal.specs.Clients.{Client, after_answer, at_next_turn, begun, rest_of}
+use Rattle.af_journal.specs.ClientTurns.{IsMade, Track, with_call}
 use Rattle.af_journal.specs.Kept.{ClientKept, client_of}
 use Rattle.af_session.specs.Asking.{HasBlocks, Makes, flushed_by, track_with, written_by}
 use Rattle.af_session.specs.Parties.{PartyState, track_of}

@@ -1,11 +1,11 @@
 -- A whole turn, from its steps.
-use Rattle.std.proofs.Common.{◌≡◌, ◌⊎◌, inl, inr, ℕ, ◌+◌, ◌-◌, ◌==◌, ◌<◌, ◌≤◌, Bool, true, false, List, [], ◌∷◌, ◌++◌, fold, length, take, drop, None, refl, ap, sym, ◌∙◌, subst, arith, length-take, eq-eqb}
+use Rattle.std.proofs.Common.{◌≡◌, ◌⊎◌, inl, inr, ℕ, ◌+◌, ◌-◌, ◌==◌, ◌<◌, ◌≤◌, Bool, true, false, List, fold, length, take, drop, None, ap, sym, ◌∙◌, subst, arith, length-take, eq-eqb}
 use Rattle.std.proofs.lemmas.Bool.{ne_eqb}
 use Rattle.af_base.specs.declared.event.ClientCall.{ClientCall}
 use Rattle.af_base.specs.declared.frame.Frame.{Frame}
 use Rattle.af_base.specs.Roomy.{Roomy}
 use Rattle.af_script.specs.declared.op.Op.{Op}
-use Rattle.af_journal.specs.Clients.{Client, at_next_turn}
+use Rattle.af_journal.specs.Clients.{at_next_turn}
 use Rattle.af_journal.specs.ClientTurns.{LegalClientTurn, Track, after_call, after_calls, most_calls, wanted_of}
 use Rattle.af_journal.specs.Kept.{client_of}
 use Rattle.af_session.specs.Parties.{PartyState, track_of}

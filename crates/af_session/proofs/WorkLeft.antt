@@ -1,7 +1,7 @@
 -- What is left to write and to flush never grows.
-use Rattle.std.proofs.Common.{◌≡◌, ℕ, ◌+◌, ◌-◌, ◌%◌, ◌/◌, ◌<◌, ◌≤◌, ◌==◌, ◌&&◌, ◌||◌, nat_le, not, bit_and, Bool, true, false, if◌then◌else◌, List, [], ◌∷◌, All, refl, ap, sym, ◌∙◌, subst, arith}
+use Rattle.std.proofs.Common.{◌≡◌, ℕ, ◌+◌, ◌-◌, ◌<◌, ◌≤◌, ◌==◌, ◌&&◌, ◌||◌, nat_le, not, bit_and, Bool, true, false, if◌then◌else◌, List, [], ◌∷◌, All, refl, ap, subst, arith}
 use Rattle.std.proofs.lemmas.Bool.{eqb-false, eqb-true}
-use Rattle.std.proofs.lemmas.List.Elements.{All-nil, All-cons, All-head, All-tail, All-rest}
+use Rattle.std.proofs.lemmas.List.Elements.{All-nil, All-cons, All-head, All-tail}
 use Rattle.af_base.specs.declared.event.ClientCall.{ClientCall}
 use Rattle.af_base.specs.declared.event.ClientCall.TheVariants as call
 use Rattle.af_script.specs.declared.op.Op.{Op}
@@ -11,7 +11,7 @@ use Rattle.af_journal.specs.declared.want.ClientCommand.TheVariants as command
 use Rattle.af_journal.specs.declared.want.Mode.{Mode}
 use Rattle.af_journal.specs.declared.want.Want.{Want}
 use Rattle.af_journal.specs.declared.want.Want.TheVariants as want
-use Rattle.af_journal.specs.Clients.{Client, after_answer, at_next_turn, begins, begun, is_active, is_last, is_stoppable, is_stopped, more, only, rested, settled_in, state_in, wants_of}
+use Rattle.af_journal.specs.Clients.{Client, after_answer, at_next_turn, begins, begun, is_active, is_stoppable, is_stopped, more, only, rested, settled_in, state_in, wants_of}
 use Rattle.af_journal.specs.ClientTurns.{asked_by}
 use Rattle.af_session.specs.Asking.{flushed_by, written_by}
 use Rattle.af_session.specs.Works.{IsFitting, IsFittingOp, flushes_due, flushes_to_come, frames_due, frames_to_come}

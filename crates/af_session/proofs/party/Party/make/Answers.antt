@@ -1,4 +1,4 @@
-use Rattle.std.proofs.Common.{◌≡◌, inl, inr, sym, subst}
+use Rattle.std.proofs.Common.{inl, inr, sym, subst}
 use Rattle.af_journal.specs.declared.want.Want.{Want}
 use Rattle.af_journal.specs.declared.want.Want.TheVariants as want
 use Rattle.af_session.specs.Turning.{IsMadeBy}

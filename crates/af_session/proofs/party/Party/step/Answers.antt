@@ -1,4 +1,4 @@
-use Rattle.std.proofs.Common.{◌≡◌, ◌∙◌, Option, Some, None, false, length, ap, subst}
+use Rattle.std.proofs.Common.{◌∙◌, Option, Some, None, false, length, ap, subst}
 use Rattle.af_journal.specs.declared.want.Want.{Want}
 use Rattle.af_journal.specs.Clients.{next_want}
 use Rattle.af_journal.specs.Kept.{client_of}

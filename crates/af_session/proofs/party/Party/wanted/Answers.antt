@@ -1,4 +1,4 @@
-use Rattle.std.proofs.Common.{◌≡◌, ap, sym, ◌∙◌, refl, subst, None}
+use Rattle.std.proofs.Common.{sym, ◌∙◌, refl, subst, None}
 use Rattle.af_journal.specs.Kept.{client_of}
 use Rattle.af_session.specs.Parties.{PartyState}
 use Rattle.af_session.specs.Turning.{WantsNext}

@@ -1,4 +1,4 @@
-use Rattle.std.proofs.Common.{◌≡◌, ◌∙◌, length, ap, refl, subst, sym}
+use Rattle.std.proofs.Common.{◌≡◌, ◌∙◌, length, refl, subst, sym}
 use Rattle.af_session.specs.Asking.{Makes, track_with}
 use Rattle.af_session.specs.Parties.{PartyState, side_of_proxy}
 use Rattle.af_session.proofs.MadeCalls.{few_written, made_on_stream, write_words}
