@@ -1,0 +1,3 @@
+mod MetSlots
+mod MetSpot
+mod MetTracks

@@ -1,3 +1,4 @@
 pub mod Parties
 pub mod Together
 pub mod Works
+pub mod Met

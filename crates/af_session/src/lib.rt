@@ -1,6 +1,7 @@
 //! Sessions: the clients, the normal mixer and the fast mixer of a run, their turns, and how they meet.
 #![tactic(auto)]
 
+mod meetings;
 mod party;
 
 pub use party::Party;
