@@ -1,3 +1,4 @@
+mod EndsMeet
 mod MetSlots
 mod MetSpot
 mod MetTracks

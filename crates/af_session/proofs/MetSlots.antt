@@ -26,25 +26,29 @@ module _ (x : FastState) (track : ℕ) where
   below_is zero k is = absurd (none-some k is)
   below_is (suc n) k is = below_or_last n k (below_is n k) (by_last n k (slot_below x track n) (is_slot_of x track n) refl refl is)
 
+  or_before : (n k j : ℕ) → slot_below x track k ≡ Some j → (slot_below x track (suc n) ≡ Some j) ⊎ (k ≤ n) → (k ≤ n → slot_below x track n ≡ Some j) → slot_below x track (suc n) ≡ Some j
+  or_before n k j found (inl e) before = e
+  or_before n k j found (inr le) before = ap (λ (o : Option ℕ). or_else o (if is_slot_of x track n then Some n else None)) (before le)
+
+  at_end : (n k j : ℕ) → slot_below x track k ≡ Some j → k ≤ suc n → (k ≡ suc n) ⊎ (k ≡ suc n → ⊥) → (slot_below x track (suc n) ≡ Some j) ⊎ (k ≤ n)
+  at_end n k j found le (inl e) = inl (subst (λ (m : ℕ). slot_below x track m ≡ Some j) e found)
+  at_end n k j found le (inr ne) = inr (omega (arith, le, ne))
+
   -- and it is found among more slots
   below_stays : (n k j : ℕ) → slot_below x track k ≡ Some j → k ≤ n → slot_below x track n ≡ Some j
   below_stays zero k j found le = subst (λ (m : ℕ). slot_below x track m ≡ Some j) (let e : k ≡ 0 = omega arith in e) found
-  below_stays (suc n) k j found le = last (cases_eq k (suc n))
-    where
-      last : (k ≡ suc n) ⊎ (k ≡ suc n → ⊥) → slot_below x track (suc n) ≡ Some j
-      last (inl e) = subst (λ (m : ℕ). slot_below x track m ≡ Some j) e found
-      last (inr ne) = ap (λ (o : Option ℕ). or_else o (if is_slot_of x track n then Some n else None)) (below_stays n k j found (omega (arith, le, ne)))
+  below_stays (suc n) k j found le = or_before n k j found (at_end n k j found le (cases_eq k (suc n))) (λ fits. below_stays n k j found fits)
 
   -- one slot more, which carries it or not
   pub none_more : (k : ℕ) → slot_below x track k ≡ None → is_slot_of x track k ≡ false → slot_below x track (suc k) ≡ None
   none_more k none not = λ i. or_else (none i) (if not i then Some k else None)
 
   found_more : (k : ℕ) → slot_below x track k ≡ None → is_slot_of x track k ≡ true → slot_below x track (suc k) ≡ Some k
-  found_more k none yes = λ i. or_else (none i) (if yes i then Some k else None)
+  found_more k none carried = λ i. or_else (none i) (if carried i then Some k else None)
 
   pub found_at : (k : ℕ) → k < slots → slot_below x track k ≡ None → is_slot_of x track k ≡ true → slot_for x track ≡ Some k
   unfolding slot_for
-  found_at k lt none yes = below_stays slots (suc k) k (found_more k none yes) (omega (arith, lt))
+  found_at k lt none carried = below_stays slots (suc k) k (found_more k none carried) (omega (arith, lt))
 
   pub none_found : slot_below x track slots ≡ None → slot_for x track ≡ None
   unfolding slot_for

@@ -27,17 +27,17 @@ has_hand links m i o inside away = by_turns m.turns refl
 
 -- at home
 at_home : (block : Made) (o : Option ServerState) (a b : Spot) (c d : ClientState) → is_some o ≡ true → b.held ≡ a.held → MeetsStream block o a.hand c b.stream b.hand d → SpotMet block o a c b d
-at_home block None a b c d yes held m = absurd (true≢false (sym yes))
-at_home block (Some s) a b c d yes held m = (m, held)
+at_home block None a b c d there held m = absurd (true≢false (sym there))
+at_home block (Some s) a b c d there held m = (m, held)
 
 -- where none was home the meetings of home left all as it was
 stayed : (block : Made) (o : Option ServerState) (h : Option HandSide) (c d : ClientState) (o' : Option ServerState) (h' : Option HandSide) → is_some o ≡ false → MeetsStream block o h c o' h' d → (o' ≡ None) × (h' ≡ h) × (d ≡ c)
-stayed block None h c d o' h' no m = m
-stayed block (Some s) h c d o' h' no m = absurd (true≢false no)
+stayed block None h c d o' h' gone m = m
+stayed block (Some s) h c d o' h' gone m = absurd (true≢false gone)
 
 at_away : (block : Made) (o : Option ServerState) (a b : Spot) (c d : ClientState) (h g : HandSide) → is_some o ≡ false → b.stream ≡ None → a.hand ≡ Some h → b.hand ≡ Some g → MeetsAway block a.held h c b.held g d → SpotMet block o a c b d
-at_away block None a b c d h g no stream was now m = (stream, h, g, was, now, m)
-at_away block (Some s) a b c d h g no stream was now m = absurd (true≢false no)
+at_away block None a b c d h g gone stream was now m = record { still_away = stream; hand = h; has_hand = was; hand' = g; has_hand' = now; met = m }
+at_away block (Some s) a b c d h g gone stream was now m = absurd (true≢false gone)
 
 module _ (x : FastState) (i : ℕ) (links : Links) (streams streams' : List (Option ServerState)) (commands commands' : List ServerState) (hands hands' : List HandSide) (items : List (Option ServerState)) (p : PartyState) (d f : ClientState)
     (t : MeetsTrack links i streams streams' commands commands' hands hands' p.stream d p.command f) (inside : i < length commands) where
@@ -58,14 +58,14 @@ module _ (x : FastState) (i : ℕ) (links : Links) (streams streams' : List (Opt
 
   -- the stream proxy is home
   pub met_home : is_some (stream_at streams i) ≡ true → TrackMet (spot_of x before i) (spot_of x (at_hands hands' items) i) p (record p { stream = d; command = f })
-  met_home yes = record {
+  met_home there = record {
     same = refl;
     command = t.command;
     has_command = t.has_command;
     command' = t.command';
     has_command' = has_command;
     commanded = t.commanded;
-    streamed = at_home (client_made p.stream.pass) (stream_at streams i) (spot_of x before i) (spot_of x (at_hands hands' items) i) p.stream d yes refl t.streamed;
+    streamed = at_home (client_made p.stream.pass) (stream_at streams i) (spot_of x before i) (spot_of x (at_hands hands' items) i) p.stream d there refl t.streamed;
   }
 
   pub others_home : (j : ℕ) → j ≢ i → spot_of x (at_hands hands' items) j ≡ spot_of x before j
@@ -76,13 +76,13 @@ module _ (x : FastState) (i : ℕ) (links : Links) (streams streams' : List (Opt
       λ k. record { stream = stream k; held = item_at items (slot_for x j); hand = hand k; command = command k }
 
   -- it isn't: the hand at the track, and what is held for it, met the client after that
-  module _ (h g : HandSide) (items' : List (Option ServerState)) (c : ClientState) (no : is_some (stream_at streams i) ≡ false) (is : slice_get hands' i ≡ Some h) where
+  module _ (h g : HandSide) (items' : List (Option ServerState)) (c : ClientState) (away_is : is_some (stream_at streams i) ≡ false) (is : slice_get hands' i ≡ Some h) where
     abbrev after : Proxies
     after = at_hands (slice_set hands' i g) items'
 
     pub met_away : MeetsAway (client_made d.pass) (item_at items (slot_for x i)) h d (item_at items' (slot_for x i)) g c → TrackMet (spot_of x before i) (spot_of x after i) p (record p { stream = c; command = f })
     met_away away =
-        let stay = stayed (client_made p.stream.pass) (stream_at streams i) (slice_get hands i) p.stream d (stream_at streams' i) (slice_get hands' i) no t.streamed in
+        let stay = stayed (client_made p.stream.pass) (stream_at streams i) (slice_get hands i) p.stream d (stream_at streams' i) (slice_get hands' i) away_is t.streamed in
         record {
           same = refl;
           command = t.command;
@@ -90,7 +90,7 @@ module _ (x : FastState) (i : ℕ) (links : Links) (streams streams' : List (Opt
           command' = t.command';
           has_command' = has_command;
           commanded = t.commanded;
-          streamed = at_away (client_made p.stream.pass) (stream_at streams i) (spot_of x before i) (spot_of x after i) p.stream c h g no stay.0 (sym stay.1 ∙ is) (get_set_same hands' i g (slice_get_within hands' i h is))
+          streamed = at_away (client_made p.stream.pass) (stream_at streams i) (spot_of x before i) (spot_of x after i) p.stream c h g away_is stay.0 (sym stay.1 ∙ is) (get_set_same hands' i g (slice_get_within hands' i h is))
               (subst (λ (y : ClientState). MeetsAway (client_made y.pass) (item_at items (slot_for x i)) h y (item_at items' (slot_for x i)) g c) stay.2 away);
         }
 

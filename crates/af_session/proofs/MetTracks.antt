@@ -44,12 +44,12 @@ module _ (x : FastState) (n : ℕ) (clients clients' : List PartyState) (a b c :
   item_more k same (inr t) = inr (t.0, omega (arith, t.1), t.2)
 
   item_by : (k : ℕ) (o : Option ℕ) → slot_for x n ≡ o → ItemStays x (n + 1) a.items c.items k
-  item_by k None no = item_more k (items k (λ e. none-some k (sym no ∙ e))) (so_far.items k)
-  item_by k (Some j) yes = by_number (cases_eq j k)
+  item_by k None none = item_more k (items k (λ e. none-some k (sym none ∙ e))) (so_far.items k)
+  item_by k (Some j) found = by_number (cases_eq j k)
     where
       by_number : (j ≡ k) ⊎ (j ≡ k → ⊥) → ItemStays x (n + 1) a.items c.items k
-      by_number (inl e) = inr (n, omega arith, yes ∙ ap (λ (m : ℕ). Some m) e)
-      by_number (inr ne) = item_more k (items k (λ e. ne (same_Some j k (sym yes ∙ e)))) (so_far.items k)
+      by_number (inl e) = inr (n, omega arith, found ∙ ap (λ (m : ℕ). Some m) e)
+      by_number (inr ne) = item_more k (items k (λ e. ne (same_Some j k (sym found ∙ e)))) (so_far.items k)
 
   -- one track more met
   pub one_met : TracksMet x (n + 1) clients (slice_set clients' n q) a c

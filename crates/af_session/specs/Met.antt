@@ -94,10 +94,19 @@ abbrev pub MeetsAway : Made → Option ServerState → HandSide → ClientState 
 MeetsAway block None h c s' g d = (s' ≡ None) × MeetsFlag block c d h g
 MeetsAway block (Some s) h c s' g d = (t : ServerState) × (s' ≡ Some t) × MeetsAll block s t c d h g
 
--- the stream's client c, which is d then, met what the track has: the proxy at home, the one that is held, or the hand alone
+-- the stream's client c, which is d then, met what the track has while its proxy isn't home
+pub record AwayMet (block : Made) (a : Spot) (c : ClientState) (b : Spot) (d : ClientState) : Type 0 where
+  pub still_away : b.stream ≡ None
+  pub hand : HandSide
+  pub has_hand : a.hand ≡ Some hand
+  pub hand' : HandSide
+  pub has_hand' : b.hand ≡ Some hand'
+  pub met : MeetsAway block a.held hand c b.held hand' d
+
+-- it met the proxy at home, with the hand once that was split off, or the one that is held, or the hand alone
 abbrev pub SpotMet : Made → Option ServerState → Spot → ClientState → Spot → ClientState → Type 0
 SpotMet block (Some s) a c b d = MeetsStream block (Some s) a.hand c b.stream b.hand d × (b.held ≡ a.held)
-SpotMet block None a c b d = (b.stream ≡ None) × ((h : HandSide) × (g : HandSide) × (a.hand ≡ Some h) × (b.hand ≡ Some g) × MeetsAway block a.held h c b.held g d)
+SpotMet block None a c b d = AwayMet block a c b d
 
 -- the client p of a track, which is q then, met the command proxy and what the stream has, and stays in all else
 pub record TrackMet (a b : Spot) (p q : PartyState) : Type 0 where
