@@ -1,4 +1,5 @@
 mod EndsMeet
+mod MetAway
 mod MetSlots
 mod MetSpot
 mod MetTracks
