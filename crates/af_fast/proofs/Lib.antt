@@ -7,7 +7,7 @@ mod Parts
 mod Adopted
 mod Noted
 mod Added
-mod Meeting
+pub mod Meeting
 mod Zips
 mod OneBlock
 mod Waiting

@@ -4,3 +4,8 @@ pub mod CanWorkOn
 mod Legal
 mod StepMade
 mod TurnMade
+mod EndsMeet
+mod MetAway
+mod MetSlots
+mod MetSpot
+mod MetTracks

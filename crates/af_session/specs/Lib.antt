@@ -3,3 +3,4 @@ pub mod Together
 pub mod Works
 pub mod Asking
 pub mod Turning
+pub mod Met

@@ -3,6 +3,7 @@
 
 mod asking;
 mod client_turn;
+mod meetings;
 mod party;
 
 pub use party::Party;
