@@ -1,0 +1,3 @@
+mod FastAdds
+mod FastChains
+mod Sounding

@@ -1,3 +1,5 @@
+pub mod FastTurns
 pub mod Parties
+pub mod Sound
 pub mod Together
 pub mod Works
