@@ -12,14 +12,15 @@ use Rattle.af_base.specs.declared.log.CycleEntry.{CycleEntry}
 use Rattle.af_base.specs.declared.state.FastState.{FastState}
 use Rattle.af_base.specs.Log.{slots, Logged, count_seen, entry_slot, takes_of}
 use Rattle.af_base.specs.Mix.{mix}
+use Rattle.af_base.specs.Roomy.{Roomy}
 use Rattle.af_base.specs.Sample.{pcm_bytes}
 use Rattle.af_journal.specs.Logged.{LieWithin}
 use Rattle.af_model.specs.Cycles.{cold_done, cycle_of, is_mixed, state_of, taken_before}
 use Rattle.af_fast.specs.Mixer.{MixerState, adopted_states, is_over}
 use Rattle.af_fast.specs.Mixing.{AddsCycle, Adopts, MixesOnce, Writes}
-use Rattle.af_session.specs.FastTurns.{IsCycle, IsFastTurn, TurnAdds, WritesCycle}
+use Rattle.af_session.specs.FastTurns.{IsCycle, IsFastTurn, TurnAdds, Turned, WritesCycle}
 use Rattle.af_session.specs.Met.{Met}
-use Rattle.af_session.specs.Sound.{Grows, IsMixed, IsWhole, entry_pcm, entries_pcm, written}
+use Rattle.af_session.specs.Sound.{Grows, IsMixed, IsWhole, entry_pcm, entries_pcm, pcm_of, written}
 use Rattle.af_session.specs.Together.{SessionState}
 use Rattle.af_session.proofs.Sounding.{log_grows, grows_not, grows_on, same_if}
 
@@ -83,7 +84,7 @@ adds_entry m m' out out' answer entry long whole is a w =
     let within : All (LieWithin frames) (entry ∷ []) = All-cons (LieWithin frames) entry [] (added_within m m' entry a) (All-nil (LieWithin frames)) in
     let alone : entries_pcm len frames (entry ∷ []) ≡ entry_pcm len frames entry = flat_map-cons (entry_pcm len frames) entry [] ∙ append-nil (entry_pcm len frames entry) in
     let mixed : entry_pcm len frames entry ≡ written entry.cycle out' = same_if (is_mixed entry.cycle) (pcm_bytes (mix (takes_of frames entry) len)) (pcm_bytes out')
-        (λ yes. sym (ap pcm_bytes (w.0 yes ∙ ap (mix (takes_of frames entry)) long))) in
+    (λ yes. sym (ap pcm_bytes (w.0 yes ∙ ap (mix (takes_of frames entry)) long))) in
     let bytes : entries_pcm len frames (entry ∷ []) ≡ written answer out' = alone ∙ mixed ∙ ap (λ (c : Cycle). written c out') (sym is) in
     record {
       entries = entry ∷ [];
@@ -104,6 +105,7 @@ mix_adds m m' out out' answer long whole x = by_exit m.exited refl
         let goes : is_over m ≡ false = ap (λ (b : Bool). b || (length m.log.entries == m.cycles)) runs ∙ is in
         let done = x.adds goes in
         adds_entry m m' out out' answer done.0 long whole done.1 done.2 done.3
+
     by_exit : (exited : Bool) → m.exited ≡ exited → AddsOne m.frames answer m.log m'.log (written answer out')
     by_exit true is =
         let done = x.exited is in
@@ -201,3 +203,19 @@ turn_adds (suc left) s s' bytes whole (answer, next, front, back, cycle, bytes_a
     let sizes = cycle_sizes s next cycle.before cycle.after answer cycle.cycle in
     subst (TurnAdds s.fast.frames (suc left) s.fast.log s'.fast.log) (sym bytes_are)
     (turn_step left s next s' answer front back first sizes.0 (λ mixed. turn_adds left next s' back first.grows.whole (more mixed)) over)
+
+-- and so does one that put its bytes behind others
+pub turned_by : (count : ℕ) (s s' : SessionState) (bytes bytes' : Roomy ℕ) (added : List ℕ) → IsWhole s.fast.log → bytes' ≡ record bytes { items = bytes.items ++ added } → IsFastTurn count s added s' → Turned count s s' bytes bytes'
+turned_by count s s' bytes bytes' added whole grown turn = record { added = added; written_is = grown; turn = turn; adds = turn_adds count s s' added whole turn }
+
+-- the log has as many entries more as the turn added
+pub entries_more : (count : ℕ) (s s' : SessionState) (bytes bytes' : Roomy ℕ) → Turned count s s' bytes bytes' → length s.fast.log.entries ≤ length s'.fast.log.entries
+entries_more count s s' bytes bytes' t = omega (arith, ap length t.adds.grows.entries ∙ length-append s.fast.log.entries (t.adds.mixes ++ t.adds.last))
+
+-- bytes that were the sound of the log, behind others, are so again
+pub sounds_again : (count : ℕ) (s s' : SessionState) (bytes bytes' : Roomy ℕ) (before : List ℕ) → Turned count s s' bytes bytes' → before ++ bytes.items ≡ pcm_of s.fast.frames s.fast.log → before ++ bytes'.items ≡ pcm_of s.fast.frames s'.fast.log
+sounds_again count s s' bytes bytes' before t same =
+    ap (λ (y : Roomy ℕ). before ++ y.items) t.written_is
+    ∙ sym (append_assoc before bytes.items t.added)
+    ∙ ap (λ (l : List ℕ). l ++ t.added) same
+    ∙ sym t.adds.grows.sound

@@ -5,6 +5,7 @@ use Rattle.std.proofs.lemmas.List.{length-append}
 use Rattle.std.proofs.lemmas.List.Concat.{flat_map-cons}
 use Rattle.af_base.specs.declared.frame.Frame.{Frame}
 use Rattle.af_base.specs.declared.log.Cycle.{Cycle}
+use Rattle.af_base.specs.Roomy.{Roomy}
 use Rattle.af_base.specs.Sample.{frame_bytes, pcm_bytes}
 use Rattle.af_model.specs.Cycles.{is_mixed}
 use Rattle.af_session.specs.FastTurns.{IsFastTurn, WritesCycle}
@@ -53,3 +54,8 @@ long_written answer out = by_mixed (is_mixed answer)
     by_mixed : (mixed : Bool) → length (if mixed then pcm_bytes out else []) ≤ 4 * length out
     by_mixed true = omega (arith, long_pcm out)
     by_mixed false = omega arith
+
+-- bytes behind bytes
+pub put_behind : (a b c : Roomy ℕ) (front more : List ℕ) → b ≡ record a { items = a.items ++ front } → c ≡ record b { items = b.items ++ more } → c ≡ record a { items = a.items ++ (front ++ more) }
+put_behind a b c front more first second =
+    second ∙ ap (λ (y : Roomy ℕ). record y { items = y.items ++ more }) first ∙ ap (λ (l : List ℕ). record a { items = l }) (append_assoc a.items front more)

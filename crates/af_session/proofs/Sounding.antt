@@ -29,7 +29,7 @@ no_take = record { frames = []; mono = false; gains = 0; scale = 0 }
 takes_stay : (frames more : List Frame) (entry : CycleEntry) → LieWithin frames entry → is_mixed entry.cycle ≡ true → takes_of (frames ++ more) entry ≡ takes_of frames entry
 takes_stay frames more entry within mixed = map_same (slot_take (frames ++ more) entry) (slot_take frames entry) slots no_take
     (λ i lt. ap (λ (taken : List Frame). record { frames = taken; mono = (slot_take frames entry i).mono; gains = (slot_take frames entry i).gains; scale = (slot_take frames entry i).scale })
-        (taken_stay frames more (entry_slot entry i) (within mixed i lt)))
+    (taken_stay frames more (entry_slot entry i) (within mixed i lt)))
 
 -- bytes that are those of a mix alone
 pub same_if : (b : Bool) (xs ys : List ℕ) → (b ≡ true → xs ≡ ys) → (if b then xs else []) ≡ (if b then ys else [])
@@ -86,8 +86,8 @@ all_back P (x ∷ xs) ys all = all_back P xs ys (All-tail P x (xs ++ ys) all)
 pub grows_on : (len : ℕ) (a b c : Logged) (first second : List CycleEntry) (front back : List ℕ) → Grows len a b first front → Grows len b c second back → Grows len a c (first ++ second) (front ++ back)
 grows_on len a b c first second front back p q =
     let stays : entries_pcm len c.frames first ≡ entries_pcm len b.frames first =
-        ap (λ (l : List Frame). entries_pcm len l first) q.frames.1
-        ∙ pcm_stays len b.frames q.frames.0 first (all_back (LieWithin b.frames) a.entries first (subst (All (LieWithin b.frames)) p.entries p.whole)) in
+    ap (λ (l : List Frame). entries_pcm len l first) q.frames.1
+    ∙ pcm_stays len b.frames q.frames.0 first (all_back (LieWithin b.frames) a.entries first (subst (All (LieWithin b.frames)) p.entries p.whole)) in
     record {
       entries = q.entries ∙ ap (λ (l : List CycleEntry). l ++ second) p.entries ∙ append_assoc a.entries first second;
       frames = (p.frames.0 ++ q.frames.0, q.frames.1 ∙ ap (λ (l : List Frame). l ++ q.frames.0) p.frames.1 ∙ append_assoc a.frames p.frames.0 q.frames.0);

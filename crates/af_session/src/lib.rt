@@ -1,10 +1,13 @@
 //! Sessions: the clients, the normal mixer and the fast mixer of a run, their turns, and how they meet.
 #![tactic(auto)]
 
-mod fast_turn;
+mod fast_turns;
 mod party;
 mod sound;
 
-pub use fast_turn::fast_turn;
+pub use fast_turns::fast_turn;
 pub use party::Party;
 pub use sound::{pcm, push_pcm};
+
+#[cfg(test)]
+mod sound_tests;

@@ -69,12 +69,7 @@ fn push_entry(
 }
 
 /// Appends the sound of a log whose cycles have so many frames: the bytes of the mix of each Mixed entry, by its definition, plain and slow. After want of memory `out` is as before.
-pub fn pcm(
-    alloc: Global,
-    log: &FastLog,
-    frames: usize,
-    out: &mut Vec<u8>,
-) -> Result<(), Memory>
+pub fn pcm(alloc: Global, log: &FastLog, frames: usize, out: &mut Vec<u8>) -> Result<(), Memory>
     ensures ok { OnOk result (out.new.items ≡ out.old.items ++ pcm_of frames log.now) }
     ensures err { OnErr result (out.new.items ≡ out.old.items) }
 {

@@ -1,10 +1,10 @@
 use Rattle.std.proofs.Common.{◌≡◌, ℕ, ◌+◌, ◌*◌, ◌≤◌, ◌++◌, false, List, length}
 use Rattle.af_session.specs.Together.{AreTogether}
 use Rattle.af_session.proofs.FastChains.{GoesTo}
-use Rattle.af_session.proofs.fast_turn.fast_cycles.Given as goal
+use Rattle.af_session.proofs.fast_turns.fast_cycles.Given as goal
 
 abbrev pub invariant-loop-i : goal.invariant-loop-i
-invariant-loop-i l = record {
+invariant-loop-i g l = record {
   together : AreTogether l.links (record { clients = l.clients; normal = l.normal; fast = l.fast });
   between : l.fast.adopted ≡ false;
   buffer : length l.buffer ≡ l.fast.frames;

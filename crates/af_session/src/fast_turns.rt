@@ -1,7 +1,7 @@
 //! A turn of the fast mixer, and the bytes that it mixes.
 ghost use Rattle.std.specs.Prelude.{◌≡◌, ℕ, ◌+◌, ◌*◌, ◌≤◌, ◌++◌, false, List, length};
 ghost use Rattle.af_model.specs.Cycles.{is_mixed};
-ghost use Rattle.af_session.specs.FastTurns.{IsCycle, IsFastTurn, TurnAdds, Turned};
+ghost use Rattle.af_session.specs.FastTurns.{IsCycle, Turned};
 ghost use Rattle.af_session.specs.Sound.{IsWhole, pcm_of, written};
 ghost use Rattle.af_session.specs.Together.{AreTogether};
 
@@ -14,12 +14,19 @@ use af_link::Links;
 use af_normal::NormalMixer;
 use std::sync::ledger::Ledger;
 
+// Whether a cycle mixes.
+fn is_mixed(cycle: Cycle) -> bool
+    ensures { result ≡ is_mixed cycle }
+{
+    matches!(cycle, Cycle::Mixed)
+}
+
 // Appends the bytes of a buffer, if it was mixed.
 fn push_written(cycle: Cycle, buffer: &[Frame], bytes: &mut Items<u8>)
     requires room { length bytes.old.items + 4 * length buffer.now ≤ bytes.old.room }
     ensures { bytes.new ≡ record bytes.old { items = bytes.old.items ++ written cycle buffer.now } }
 {
-    if let Cycle::Mixed = cycle {
+    if is_mixed(cycle) {
         push_pcm(buffer, bytes);
     }
 }
@@ -65,14 +72,15 @@ fn fast_cycles<L: Ledger>(
     requires between { fast.old.adopted ≡ false }
     requires buffer { length buffer.old ≡ fast.old.frames }
     requires room { length bytes.old.items + 4 * (count * fast.old.frames) ≤ bytes.old.room }
+    requires whole { IsWhole fast.old.log }
     ensures together { AreTogether links.now (record { clients = clients.new; normal = normal.new; fast = fast.new }) }
     ensures between { fast.new.adopted ≡ false }
     ensures sizes { (fast.new.frames ≡ fast.old.frames) × (fast.new.cycles ≡ fast.old.cycles) }
-    ensures turn { (added : List ℕ) × (bytes.new ≡ record bytes.old { items = bytes.old.items ++ added }) × IsFastTurn count (record { clients = clients.old; normal = normal.old; fast = fast.old }) added (record { clients = clients.new; normal = normal.new; fast = fast.new }) }
+    ensures turned { Turned count (record { clients = clients.old; normal = normal.old; fast = fast.old }) (record { clients = clients.new; normal = normal.new; fast = fast.new }) bytes.old bytes.new }
 {
     for i in 0..count {
         let cycle = fast_cycle(clients, normal, fast, links, buffer, bytes, steps);
-        if !matches!(cycle, Cycle::Mixed) {
+        if !is_mixed(cycle) {
             return;
         }
     }
