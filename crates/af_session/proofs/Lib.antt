@@ -9,3 +9,6 @@ mod MetAway
 mod MetSlots
 mod MetSpot
 mod MetTracks
+mod FastAdds
+mod FastChains
+mod Sounding

@@ -1,4 +1,6 @@
+pub mod FastTurns
 pub mod Parties
+pub mod Sound
 pub mod Together
 pub mod Works
 pub mod Asking

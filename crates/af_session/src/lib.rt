@@ -4,6 +4,13 @@
 mod asking;
 mod client_turn;
 mod meetings;
+mod fast_turns;
 mod party;
+mod sound;
 
+pub use fast_turns::fast_turn;
 pub use party::Party;
+pub use sound::{pcm, push_pcm};
+
+#[cfg(test)]
+mod sound_tests;

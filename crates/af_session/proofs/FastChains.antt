@@ -1,0 +1,61 @@
+-- How the cycles of a fast turn are a chain, from its beginning on.
+use Rattle.std.proofs.Common.{◌≡◌, ℕ, zero, suc, ◌+◌, ◌-◌, ◌*◌, ◌<◌, ◌≤◌, if◌then◌else◌, Bool, true, false, true≢false, List, [], ◌∷◌, ◌++◌, length, refl, sym, ap, subst, ◌∙◌, append-nil, append_assoc, arith}
+use Rattle.std.proofs.Math.Nat.{add-zero}
+use Rattle.std.proofs.lemmas.List.{length-append}
+use Rattle.std.proofs.lemmas.List.Concat.{flat_map-cons}
+use Rattle.af_base.specs.declared.frame.Frame.{Frame}
+use Rattle.af_base.specs.declared.log.Cycle.{Cycle}
+use Rattle.af_base.specs.Roomy.{Roomy}
+use Rattle.af_base.specs.Sample.{frame_bytes, pcm_bytes}
+use Rattle.af_model.specs.Cycles.{is_mixed}
+use Rattle.af_session.specs.FastTurns.{IsFastTurn, WritesCycle}
+use Rattle.af_session.specs.Sound.{written}
+use Rattle.af_session.specs.Together.{SessionState}
+
+-- After i cycles that wrote `front` the parties are `now`: what the other cycles do from there on completes the turn
+abbrev pub GoesTo : ℕ → ℕ → SessionState → SessionState → List ℕ → Type 0
+GoesTo count i first now front = (left : ℕ) (back : List ℕ) (last : SessionState) → left + i ≡ count → IsFastTurn left now back last → IsFastTurn count first (front ++ back) last
+
+-- at the beginning
+pub goes_first : (count : ℕ) (first : SessionState) → GoesTo count 0 first first []
+goes_first count first left back last is turn = subst (λ (n : ℕ). IsFastTurn n first back last) (sym (add-zero left) ∙ is) turn
+
+-- after one more mix
+pub goes_on : (count i : ℕ) (first now next : SessionState) (answer : Cycle) (front more : List ℕ) → GoesTo count i first now front → WritesCycle now answer more next → is_mixed answer ≡ true → GoesTo count (i + 1) first next (front ++ more)
+goes_on count i first now next answer front more goes w mixed left back last is turn =
+    let whole : IsFastTurn (suc left) now (more ++ back) last = (answer, next, more, back, w, refl, λ _. turn, λ dry. absurd (true≢false (sym mixed ∙ dry))) in
+    subst (λ (bytes : List ℕ). IsFastTurn count first bytes last) (sym (append_assoc front more back)) (goes (suc left) (more ++ back) last (omega (arith, is)) whole)
+
+-- where all cycles were made
+pub goes_whole : (count : ℕ) (first now : SessionState) (front : List ℕ) → GoesTo count count first now front → IsFastTurn count first front now
+goes_whole count first now front goes = subst (λ (bytes : List ℕ). IsFastTurn count first bytes now) (append-nil front) (goes 0 [] now (omega arith) (refl, refl))
+
+-- where a cycle mixes nothing
+pub goes_over : (count i : ℕ) (first now next : SessionState) (answer : Cycle) (front more : List ℕ) → GoesTo count i first now front → WritesCycle now answer more next → is_mixed answer ≡ false → i < count
+    → IsFastTurn count first (front ++ more) next
+goes_over count i first now next answer front more goes w dry lt =
+    let left : ℕ = count - i - 1 in
+    let turn : IsFastTurn (suc left) now more next = (answer, next, more, [], w, sym (append-nil more), (λ mixed. absurd (true≢false (sym mixed ∙ dry))), λ _. (refl, refl)) in
+    goes (suc left) more next (omega arith) turn
+
+-- four bytes a frame
+pub long_pcm : (frames : List Frame) → length (pcm_bytes frames) ≡ 4 * length frames
+long_pcm [] = refl
+long_pcm (f ∷ fs) =
+    let rest = long_pcm fs in
+    let both = ap length (flat_map-cons frame_bytes f fs) ∙ length-append (frame_bytes f) (pcm_bytes fs) in
+    let four : length (frame_bytes f) ≡ 4 = refl in
+    omega (arith, rest, both, four)
+
+-- or none
+pub long_written : (answer : Cycle) (out : List Frame) → length (written answer out) ≤ 4 * length out
+long_written answer out = by_mixed (is_mixed answer)
+  where
+    by_mixed : (mixed : Bool) → length (if mixed then pcm_bytes out else []) ≤ 4 * length out
+    by_mixed true = omega (arith, long_pcm out)
+    by_mixed false = omega arith
+
+-- bytes behind bytes
+pub put_behind : (a b c : Roomy ℕ) (front more : List ℕ) → b ≡ record a { items = a.items ++ front } → c ≡ record b { items = b.items ++ more } → c ≡ record a { items = a.items ++ (front ++ more) }
+put_behind a b c front more first second =
+    second ∙ ap (λ (y : Roomy ℕ). record y { items = y.items ++ more }) first ∙ ap (λ (l : List ℕ). record a { items = l }) (append_assoc a.items front more)
