@@ -1,0 +1,4 @@
+pub mod Sizes
+pub mod NewWork
+pub mod MoreTracks
+pub mod Begins

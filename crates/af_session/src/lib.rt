@@ -1,6 +1,13 @@
 //! Sessions: the clients, the normal mixer and the fast mixer of a run, their turns, and how they meet.
 #![tactic(auto)]
 
+mod make;
+mod parties;
 mod party;
+mod shared;
+mod tracks;
 
+pub use make::make;
+pub use parties::Parties;
 pub use party::Party;
+pub use shared::Shared;
