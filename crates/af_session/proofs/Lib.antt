@@ -1,4 +1,5 @@
 pub mod Sizes
+pub mod NewLines
 pub mod NewWork
 pub mod MoreTracks
 pub mod Begins

@@ -1,5 +1,5 @@
 -- The sizes of new blocks.
-use Rattle.std.proofs.Common.{◌≡◌, ◌≢◌, ℕ, ◌*◌, ◌≤◌, ◌==◌, if◌then◌else◌, Bool, true, false, refl, sym, ap, ◌∙◌, arith, eq-eqb}
+use Rattle.std.proofs.Common.{◌≡◌, ◌≢◌, ℕ, ◌*◌, ◌≤◌, if◌then◌else◌, Bool, refl, sym, ap, ◌∙◌, arith, eq-eqb, ne_eqb}
 use Rattle.af_cblk.specs.Shape.{IsShape}
 use Rattle.af_model.specs.declared.shape.Shape.{Shape}
 use Rattle.af_script.specs.Ops.{cells_of}
@@ -16,15 +16,15 @@ cells_are : (k : Shape) (frames : ℕ) → IsShape k → k.frames ≡ frames →
 cells_are k frames ok same few = cells_of-next k.frames k.cells ok.cells.0 ok.cells.1 ok.cells.2 (omega arith) ∙ ap cells_of same
 
 -- the stream's block of a track whose flushes carry their positions
-pub positional_shape : (version : ℕ) (spec : TrackSpec) (k : Shape) → IsShape k → (version == 2) ≡ true → spec.frames ≤ 8192 → k.frames ≡ spec.frames → k.base ≡ spec.base → k.wrap ≡ k.cells * 4 → k ≡ stream_shape version spec
+pub positional_shape : (version : ℕ) (spec : TrackSpec) (k : Shape) → IsShape k → version ≡ 2 → spec.frames ≤ 8192 → k.frames ≡ spec.frames → k.base ≡ spec.base → k.wrap ≡ k.cells * 4 → k ≡ stream_shape version spec
 positional_shape version spec k ok is few frames base wrap =
     let cells : k.cells ≡ cells_of spec.frames = cells_are k spec.frames ok frames few in
-    same_shape k (stream_shape version spec) frames cells base (wrap ∙ ap (λ (n : ℕ). n * 4) cells ∙ sym (ap (λ (b : Bool). if b then cells_of spec.frames * 4 else 0) is))
+    same_shape k (stream_shape version spec) frames cells base (wrap ∙ ap (λ (n : ℕ). n * 4) cells ∙ sym (ap (λ (b : Bool). if b then cells_of spec.frames * 4 else 0) (eq-eqb version 2 is)))
 
 -- and of one whose flushes don't
-pub flat_shape : (version : ℕ) (spec : TrackSpec) (k : Shape) → IsShape k → (version == 2) ≡ false → spec.frames ≤ 8192 → k.frames ≡ spec.frames → k.base ≡ spec.base → k.wrap ≡ 0 → k ≡ stream_shape version spec
+pub flat_shape : (version : ℕ) (spec : TrackSpec) (k : Shape) → IsShape k → version ≢ 2 → spec.frames ≤ 8192 → k.frames ≡ spec.frames → k.base ≡ spec.base → k.wrap ≡ 0 → k ≡ stream_shape version spec
 flat_shape version spec k ok is few frames base wrap =
-    same_shape k (stream_shape version spec) frames (cells_are k spec.frames ok frames few) base (wrap ∙ sym (ap (λ (b : Bool). if b then cells_of spec.frames * 4 else 0) is))
+    same_shape k (stream_shape version spec) frames (cells_are k spec.frames ok frames few) base (wrap ∙ sym (ap (λ (b : Bool). if b then cells_of spec.frames * 4 else 0) (ne_eqb version 2 is)))
 
 of_128 : cells_of 128 ≡ 128
 unfolding cells_of
