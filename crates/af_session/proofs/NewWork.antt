@@ -17,7 +17,7 @@ use Rattle.af_script.specs.Ops.{cells_of}
 use Rattle.af_script.specs.declared.op.Op.{Op}
 use Rattle.af_script.specs.declared.op.Op.TheVariants as op
 use Rattle.af_script.specs.declared.track.TrackSpec.{TrackSpec}
-use Rattle.af_session.specs.NewTracks.{IsNewClient, stream_shape, command_shape}
+use Rattle.af_session.specs.NewTracks.{IsNewClient, IsNewParty, stream_shape, command_shape}
 use Rattle.af_session.specs.Parties.{PartyState}
 use Rattle.af_session.specs.Works.{CanWork, IsFitting, IsFittingOp, frames_due, frames_to_come, flushes_due, flushes_to_come}
 
@@ -82,3 +82,6 @@ module _ (version : ℕ) (spec : TrackSpec) (p : PartyState) (track : IsTrack sp
         commands = (ap (λ (k : Shape). k.frames) command_is, ap (λ (k : Shape). k.base) command_is);
         room = ap (λ (r : Roomy ClientCall). r.room) calls;
       }
+
+  pub new_party : (place : ℕ) → p.track ≡ place → IsNewParty version place spec p
+  new_party place is = record { place_is = is; wants = wants; stream = stream; command = command; calls = calls; work = can_work }
