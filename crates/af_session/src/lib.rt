@@ -11,3 +11,6 @@ pub use make::make;
 pub use parties::Parties;
 pub use party::Party;
 pub use shared::Shared;
+
+#[cfg(test)]
+mod make_tests;
