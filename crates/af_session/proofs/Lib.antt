@@ -12,3 +12,8 @@ mod MetTracks
 mod FastAdds
 mod FastChains
 mod Sounding
+pub mod Sizes
+pub mod NewLines
+pub mod NewWork
+pub mod MoreTracks
+pub mod Begins

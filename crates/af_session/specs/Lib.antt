@@ -6,3 +6,6 @@ pub mod Works
 pub mod Asking
 pub mod Turning
 pub mod Met
+pub mod Shares
+pub mod NewTracks
+pub mod NewSession

@@ -14,3 +14,15 @@ pub use sound::{pcm, push_pcm};
 
 #[cfg(test)]
 mod sound_tests;
+mod make;
+mod parties;
+mod shared;
+mod tracks;
+
+pub use make::make;
+pub use parties::Parties;
+pub use party::Party;
+pub use shared::Shared;
+
+#[cfg(test)]
+mod make_tests;

@@ -1,0 +1,163 @@
+-- A new session: its parties are new, in order, and belong together.
+use Rattle.std.proofs.Common.{◌≡◌, ℕ, zero, suc, ◌<◌, ◌≤◌, true, List, [], ◌∷◌, length, map, replicate, Option, Some, None, refl, sym, ap, ◌∙◌, subst, arith}
+use Rattle.std.specs.Prelude.{All, slice_get, unwrap_or}
+use Rattle.std.proofs.lemmas.List.{length-replicate}
+use Rattle.std.proofs.lemmas.List.Elements.{All-map}
+use Rattle.std.proofs.lemmas.Option.{slice_get_within}
+use Rattle.af_cblk.specs.Sides.{Made, server_made, client_made}
+use Rattle.af_cblk.specs.declared.view.ClientPart.{ClientPart}
+use Rattle.af_server.specs.Order.{ServerState}
+use Rattle.af_link.specs.Linked.{AreLinked}
+use Rattle.af_link.specs.Names.{IsStreamOf}
+use Rattle.af_link.specs.PipeEnds.{out_made}
+use Rattle.af_link.specs.declared.links.Links.{Links}
+use Rattle.af_fast.specs.Mixer.{MixerState, made_of, IsLinked, IsInOrder as IsFastInOrder}
+use Rattle.af_life.specs.declared.kept.Setting.{Setting}
+use Rattle.af_life.specs.Kept.{new_track}
+use Rattle.af_normal.specs.Making.{TrackList, IsMade, AreNew, setting_of}
+use Rattle.af_normal.specs.Meeting.{AreClientsOf}
+use Rattle.af_normal.specs.Mixing.{stream_at}
+use Rattle.af_normal.specs.Order.{IsInOrder as IsNormalInOrder}
+use Rattle.af_normal.specs.State.{NormalState}
+use Rattle.af_script.specs.Data.{ScriptData}
+use Rattle.af_script.specs.Form.{IsTrack}
+use Rattle.af_script.specs.declared.track.TrackSpec.{TrackSpec}
+use Rattle.af_session.specs.NewSession.{EndStates, AreNewEnds, IsNewSession, ends_of, tracks_of}
+use Rattle.af_session.specs.NewTracks.{IsNewLine, IsTrackAt, AreNewTracks, spec_setting}
+use Rattle.af_session.specs.Parties.{PartyState}
+use Rattle.af_session.specs.Shares.{SharedState, AreLinksOf}
+use Rattle.af_session.specs.Together.{SessionState, AreTogether}
+
+same_one : {X : Type 0} (x y : X) → Some x ≡ Some y → x ≡ y
+same_one x y e = ap (λ (o : Option _). unwrap_or o x) e
+
+-- ## The settings
+
+-- the settings are those of the specs, where they are so place by place
+settings_by : (xs : List Setting) (specs : List TrackSpec) → length xs ≡ length specs
+    → ((i : ℕ) → i < length specs → (spec : TrackSpec) × (slice_get specs i ≡ Some spec) × (slice_get xs i ≡ Some (spec_setting spec))) → xs ≡ map spec_setting specs
+settings_by [] [] long each = refl
+settings_by [] (s ∷ specs) long each = absurd (omega arith)
+settings_by (x ∷ xs) [] long each = absurd (omega arith)
+settings_by (x ∷ xs) (s ∷ specs) long each =
+    let first = each 0 (omega arith) in
+    let head : x ≡ spec_setting s = same_one x (spec_setting first.0) first.2 ∙ ap spec_setting (same_one first.0 s (sym first.1)) in
+    let rest : xs ≡ map spec_setting specs = settings_by xs specs (omega arith) (λ i lt. let there = each (suc i) (omega arith) in (there.0, there.1, there.2)) in
+    λ i. head i ∷ rest i
+
+pub settings_are : (version : ℕ) (specs : List TrackSpec) (streams commands : List Made) (clients : List PartyState) (tracks : TrackList) → AreNewTracks version (length specs) specs streams commands clients tracks → tracks.settings ≡ map spec_setting specs
+settings_are version specs streams commands clients tracks ts =
+    settings_by tracks.settings specs ts.lists.0 (λ i lt. let one = ts.each i lt in (one.spec, one.spec_at, one.setting_at ∙ ap (λ (s : Setting). Some s) one.new.setting_is))
+
+-- no scale is above 1
+pub scales_fit : (specs : List TrackSpec) (settings : List Setting) → settings ≡ map spec_setting specs → All IsTrack specs → All (λ (s : Setting). s.scale ≤ 4096) settings
+scales_fit specs settings same each = subst (All (λ (s : Setting). s.scale ≤ 4096)) (sym same) (All-map (λ (s : Setting). s.scale ≤ 4096) spec_setting specs (λ k d lt. (each k d lt).scale))
+
+-- ## The proxies
+
+-- the track at a place where there is a stream proxy
+within : (streams : List (Option ServerState)) (i : ℕ) (s : ServerState) → stream_at streams i ≡ Some s → i < length streams
+within [] i s here = absurd (cc)
+within (x ∷ streams) zero s here = omega arith
+within (x ∷ streams) (suc i) s here = let rest = within streams i s here in omega arith
+
+module _ (version : ℕ) (specs : List TrackSpec) (shared : SharedState) (clients : List PartyState) (tracks : TrackList) (ts : AreNewTracks version (length specs) specs shared.streams shared.commands clients tracks) (links : Links) (l : AreLinksOf shared links) where
+  -- the stream proxies are of the links' blocks, and have their hands
+  streams_of : (i : ℕ) (s : ServerState) → stream_at tracks.streams i ≡ Some s → IsStreamOf links.streams.now i s × (s.pass.has_hand ≡ true)
+  streams_of i s here =
+      let one = ts.each i (omega (arith, within tracks.streams i s here, ts.lists.1)) in
+      let line = one.new.stream_line in
+      let is : one.setup.stream ≡ s = same_one one.setup.stream s (sym one.proxy_at ∙ here) in
+      let P : ServerState → Type 0 = λ x. IsStreamOf links.streams.now i x × (x.pass.has_hand ≡ true) in
+      subst P is (record { made = ap (λ (b : List Made). slice_get b i) l.streams_are ∙ one.stream_at_place ∙ ap (λ (b : Made). Some b) (sym line.server_is.0); in_order = line.server_is.1 }, line.server_new.whole)
+
+  commands_of : (i : ℕ) (s : ServerState) → slice_get tracks.commands i ≡ Some s → IsStreamOf links.commands.now i s
+  commands_of i s here =
+      let one = ts.each i (omega (arith, slice_get_within tracks.commands i s here, ts.lists.2)) in
+      let line = one.new.command_line in
+      let is : one.setup.command ≡ s = same_one one.setup.command s (sym one.control_at ∙ here) in
+      subst (IsStreamOf links.commands.now i) is (record { made = ap (λ (b : List Made). slice_get b i) l.commands_are ∙ one.command_at ∙ ap (λ (b : Made). Some b) (sym line.server_is.0); in_order = line.server_is.1 })
+
+  -- the client of each track has its place, and the proxies of its two blocks
+  clients_of : (i : ℕ) (p : PartyState) → slice_get clients i ≡ Some p → (p.track ≡ i) × AreClientsOf links i p.stream p.command
+  clients_of i p here =
+      let one = ts.each i (omega (arith, slice_get_within clients i p here, ts.parties)) in
+      let stream = one.new.stream_line in
+      let command = one.new.command_line in
+      let is : one.party ≡ p = same_one one.party p (sym one.party_at ∙ here) in
+      let P : PartyState → Type 0 = λ x. (x.track ≡ i) × AreClientsOf links i x.stream x.command in
+      subst P is (one.new.party.place_is, record {
+        stream_is = ap (λ (b : List Made). slice_get b i) l.streams_are ∙ one.stream_at_place ∙ ap (λ (b : Made). Some b) (sym stream.client_is.0);
+        command_is = ap (λ (b : List Made). slice_get b i) l.commands_are ∙ one.command_at ∙ ap (λ (b : Made). Some b) (sym command.client_is.0);
+        in_order = (stream.client_is.1, command.client_is.1);
+      })
+
+  -- ## The mixers
+
+  module _ (frames normal : ℕ) (e : EndStates) (ends : AreNewEnds frames normal shared e) where
+    pub are_new : AreNew links frames normal tracks e.mutator e.reader e.from
+    are_new = record {
+      names = ends.names;
+      mutator_is = ends.mutator;
+      linked = record {
+        names = (ends.names, ends.mutator.has_key, ends.names_are ∙ sym l.streams_are);
+        queue_is = ends.ends.queue_is.0 ∙ sym l.queue_is;
+        report_is = ends.ends.report_is.0 ∙ sym l.report_is;
+        pipe_is = ends.ends.pipe_is.0 ∙ sym l.pipe_is;
+      };
+      streams_of = λ i s here. (streams_of i s here).0;
+      hands_of = λ i s here. (streams_of i s here).1;
+      commands_of = commands_of;
+      pipe_is = ap (λ (k : ClientPart). k.shape.frames) ends.from.0 ∙ ends.pipe.0;
+    }
+
+    fast_linked : AreLinked links e.observer.past.key e.observer.past.queue e.writer.cell (out_made e.to)
+    fast_linked = record {
+      names = (ends.names, ends.observer.0.has_key, ends.names_are ∙ sym l.streams_are);
+      queue_is = ends.ends.queue_is.1 ∙ sym l.queue_is;
+      report_is = ends.ends.report_is.1 ∙ sym l.report_is;
+      pipe_is = ends.ends.pipe_is.1 ∙ sym l.pipe_is;
+    }
+
+    -- ## All parties
+
+    pub together : (cycles : ℕ) (m : NormalState) (f : MixerState) → IsMade frames normal tracks e.mutator e.reader e.from m → IsNormalInOrder links m → f ≡ made_of e.observer e.writer e.to cycles frames → IsFastInOrder f
+        → AreTogether links (record { clients = clients; normal = m; fast = f })
+    together cycles m f made in_order fast fast_order = record {
+      normal = in_order;
+      fast = (fast_order, subst (IsLinked links) (sym fast) fast_linked);
+      count = ts.parties ∙ sym (ap (λ (x : NormalState). length x.tracks) made.is ∙ length-replicate (length tracks.settings) new_track ∙ ts.lists.0);
+      tracks = λ i p here. (clients_of i p here).0;
+      clients = λ i p here. (clients_of i p here).1;
+    }
+
+module _ (script : ScriptData) (shared : SharedState) (clients : List PartyState) (tracks : TrackList) (e : EndStates) (m : NormalState) (f : MixerState)
+    (ts : AreNewTracks script.version (length script.tracks) script.tracks shared.streams shared.commands clients tracks) (ends : AreNewEnds script.frames script.normal shared e)
+    (made : IsMade script.frames script.normal tracks e.mutator e.reader e.from m) (fast : f ≡ made_of e.observer e.writer e.to script.cycles script.frames) where
+  abbrev session : SessionState
+  session = record { clients = clients; normal = m; fast = f }
+
+  tracks_same : tracks ≡ tracks_of script m
+  tracks_same =
+      let settings = settings_are script.version script.tracks shared.streams shared.commands clients tracks ts in
+      let streams : tracks.streams ≡ m.streams = sym (ap (λ (x : NormalState). x.streams) made.is) in
+      let commands : tracks.commands ≡ m.commands = sym (ap (λ (x : NormalState). x.commands) made.is) in
+      λ i. record { settings = settings i; streams = streams i; commands = commands i }
+
+  ends_same : e ≡ ends_of session
+  ends_same =
+      let mutator : e.mutator ≡ m.mutator = sym (ap (λ (x : NormalState). x.mutator) made.is) in
+      let reader : e.reader ≡ m.reader = sym (ap (λ (x : NormalState). x.reader) made.is) in
+      let from : e.from ≡ m.pipe = sym (ap (λ (x : NormalState). x.pipe) made.is) in
+      let observer : e.observer ≡ f.observer = sym (ap (λ (x : MixerState). x.observer) fast) in
+      let writer : e.writer ≡ f.writer = sym (ap (λ (x : MixerState). x.writer) fast) in
+      let to : e.to ≡ f.pipe = sym (ap (λ (x : MixerState). x.pipe) fast) in
+      λ i. record { mutator = mutator i; reader = reader i; from = from i; observer = observer i; writer = writer i; to = to i }
+
+  pub new_session : IsNewSession script shared session
+  new_session = record {
+    tracks = subst (AreNewTracks script.version (length script.tracks) script.tracks shared.streams shared.commands clients) tracks_same ts;
+    ends = subst (AreNewEnds script.frames script.normal shared) ends_same ends;
+    normal = subst (λ (x : TrackList × EndStates). IsMade script.frames script.normal x.0 x.1.mutator x.1.reader x.1.from m) (λ i. (tracks_same i, ends_same i)) made;
+    fast = subst (λ (x : EndStates). f ≡ made_of x.observer x.writer x.to script.cycles script.frames) ends_same fast;
+  }

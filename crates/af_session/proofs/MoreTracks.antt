@@ -1,0 +1,82 @@
+-- One track more, each with its parts at its place.
+use Rattle.std.proofs.Common.{◌≡◌, ℕ, zero, suc, ◌+◌, ◌<◌, ◌⊎◌, inl, inr, List, [], ◌∷◌, ◌++◌, length, Option, Some, None, refl, sym, ap, ◌∙◌, subst, arith}
+use Rattle.std.specs.Prelude.{slice_get}
+use Rattle.std.proofs.lemmas.Bool.{cases_eq}
+use Rattle.std.proofs.lemmas.List.{length-append, get_or_append_left, get_or_at}
+use Rattle.af_cblk.specs.Sides.{Made}
+use Rattle.af_server.specs.Order.{ServerState}
+use Rattle.af_normal.specs.Making.{TrackList, setting_of, with_track}
+use Rattle.af_normal.specs.declared.make.TrackSetup.{TrackSetup}
+use Rattle.af_script.specs.declared.track.TrackSpec.{TrackSpec}
+use Rattle.af_session.specs.NewTracks.{IsNewTrack, IsTrackAt, AreNewTracks}
+use Rattle.af_session.specs.Parties.{PartyState}
+
+-- the last of a list
+pub at_last : {X : Type 0} (xs : List X) (x : X) (n : ℕ) → length xs ≡ n → slice_get (xs ++ x ∷ []) n ≡ Some x
+at_last [] x zero long = refl
+at_last [] x (suc n) long = absurd (omega arith)
+at_last (y ∷ xs) x zero long = absurd (omega arith)
+at_last (y ∷ xs) x (suc n) long = at_last xs x n (omega arith)
+
+-- and those before it
+pub at_before : {X : Type 0} (xs ys : List X) (i : ℕ) (x : X) → slice_get xs i ≡ Some x → slice_get (xs ++ ys) i ≡ Some x
+at_before [] ys i x here = absurd (cc)
+at_before (y ∷ xs) ys zero x here = here
+at_before (y ∷ xs) ys (suc i) x here = at_before xs ys i x here
+
+module _ (version n : ℕ) (specs : List TrackSpec) (streams commands : List Made) (clients : List PartyState) (tracks : TrackList) (before : AreNewTracks version n specs streams commands clients tracks)
+    (spec : TrackSpec) (stream command : Made) (p : PartyState) (t : TrackSetup) (here : slice_get specs n ≡ Some spec) (new : IsNewTrack version n spec stream command p t) where
+  abbrev Grown : ℕ → Type 0
+  Grown i = IsTrackAt version i specs (streams ++ stream ∷ []) (commands ++ command ∷ []) (clients ++ p ∷ []) (with_track t tracks)
+
+  last : Grown n
+  last = record {
+    spec = spec;
+    stream = stream;
+    command = command;
+    party = p;
+    setup = t;
+    spec_at = here;
+    stream_at_place = at_last streams stream n before.blocks.0;
+    command_at = at_last commands command n before.blocks.1;
+    party_at = at_last clients p n before.parties;
+    setting_at = at_last tracks.settings (setting_of t) n before.lists.0;
+    proxy_at = get_or_at tracks.streams (Some t.stream) [] None n before.lists.1;
+    control_at = at_last tracks.commands t.command n before.lists.2;
+    new = new;
+  }
+
+  earlier : (i : ℕ) → i < n → Grown i
+  earlier i lt =
+      let old = before.each i lt in
+      record {
+        spec = old.spec;
+        stream = old.stream;
+        command = old.command;
+        party = old.party;
+        setup = old.setup;
+        spec_at = old.spec_at;
+        stream_at_place = at_before streams (stream ∷ []) i old.stream old.stream_at_place;
+        command_at = at_before commands (command ∷ []) i old.command old.command_at;
+        party_at = at_before clients (p ∷ []) i old.party old.party_at;
+        setting_at = at_before tracks.settings (setting_of t ∷ []) i (setting_of old.setup) old.setting_at;
+        proxy_at = get_or_append_left tracks.streams (Some t.stream ∷ []) None i (omega (arith, lt, before.lists.1)) ∙ old.proxy_at;
+        control_at = at_before tracks.commands (t.command ∷ []) i old.setup.command old.control_at;
+        new = old.new;
+      }
+
+  grown : (i : ℕ) → i < n + 1 → (i ≡ n) ⊎ (i ≡ n → ⊥) → Grown i
+  grown i lt (inl eq) = subst Grown (sym eq) last
+  grown i lt (inr ne) = earlier i (omega (arith, lt, ne))
+
+  pub one_track_more : AreNewTracks version (n + 1) specs (streams ++ stream ∷ []) (commands ++ command ∷ []) (clients ++ p ∷ []) (with_track t tracks)
+  one_track_more = record {
+    blocks = (omega (arith, before.blocks.0, length-append streams (stream ∷ [])), omega (arith, before.blocks.1, length-append commands (command ∷ [])));
+    parties = omega (arith, before.parties, length-append clients (p ∷ []));
+    lists = (
+      omega (arith, before.lists.0, length-append tracks.settings (setting_of t ∷ [])),
+      omega (arith, before.lists.1, length-append tracks.streams (Some t.stream ∷ [])),
+      omega (arith, before.lists.2, length-append tracks.commands (t.command ∷ [])),
+    );
+    each = λ i lt. grown i lt (cases_eq i n);
+  }

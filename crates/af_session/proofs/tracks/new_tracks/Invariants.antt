@@ -1,0 +1,5 @@
+use Rattle.af_session.specs.NewTracks.{AreNewTracks}
+use Rattle.af_session.proofs.tracks.new_tracks.Given as goal
+
+abbrev pub invariant-loop-index : goal.invariant-loop-index
+invariant-loop-index l = AreNewTracks l.version l.index l.specs l.streams.items l.commands.items l.clients.items l.tracks
