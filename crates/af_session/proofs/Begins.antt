@@ -86,11 +86,14 @@ module _ (version : ℕ) (specs : List TrackSpec) (shared : SharedState) (client
       let command = one.new.command_line in
       let is : one.party ≡ p = same_one one.party p (sym one.party_at ∙ here) in
       let P : PartyState → Type 0 = λ x. (x.track ≡ i) × AreClientsOf links i x.stream x.command in
-      subst P is (one.new.party.place_is, record {
-        stream_is = ap (λ (b : List Made). slice_get b i) l.streams_are ∙ one.stream_at_place ∙ ap (λ (b : Made). Some b) (sym stream.client_is.0);
-        command_is = ap (λ (b : List Made). slice_get b i) l.commands_are ∙ one.command_at ∙ ap (λ (b : Made). Some b) (sym command.client_is.0);
-        in_order = (stream.client_is.1, command.client_is.1);
-      })
+      subst P is (
+        one.new.party.place_is,
+        record {
+          stream_is = ap (λ (b : List Made). slice_get b i) l.streams_are ∙ one.stream_at_place ∙ ap (λ (b : Made). Some b) (sym stream.client_is.0);
+          command_is = ap (λ (b : List Made). slice_get b i) l.commands_are ∙ one.command_at ∙ ap (λ (b : Made). Some b) (sym command.client_is.0);
+          in_order = (stream.client_is.1, command.client_is.1);
+        },
+      )
 
   -- ## The mixers
 

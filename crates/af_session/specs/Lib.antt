@@ -1,5 +1,6 @@
 pub mod FastTurns
 pub mod Parties
+pub mod Rounds
 pub mod Sound
 pub mod Together
 pub mod Works

@@ -3,25 +3,25 @@
 
 mod asking;
 mod client_turn;
-mod meetings;
 mod fast_turns;
+mod meetings;
 mod party;
+mod rounds;
 mod sound;
 
 pub use fast_turns::fast_turn;
 pub use party::Party;
 pub use sound::{pcm, push_pcm};
 
-#[cfg(test)]
-mod sound_tests;
 mod make;
 mod parties;
 mod shared;
+#[cfg(test)]
+mod sound_tests;
 mod tracks;
 
 pub use make::make;
 pub use parties::Parties;
-pub use party::Party;
 pub use shared::Shared;
 
 #[cfg(test)]
