@@ -14,15 +14,16 @@ pub use party::Party;
 pub use sound::{pcm, push_pcm};
 
 mod make;
+mod making;
 mod parties;
 mod shared;
 #[cfg(test)]
 mod sound_tests;
 mod tracks;
 
-pub use make::make;
+pub use making::make;
 pub use parties::Parties;
 pub use shared::Shared;
 
 #[cfg(test)]
-mod make_tests;
+mod making_tests;
