@@ -1,6 +1,6 @@
 -- A client that can do its work goes on so.
 use Rattle.std.proofs.Common.{◌≡◌, ℕ, ◌+◌, ◌<◌, ◌≤◌, ◌||◌, if◌then◌else◌, Bool, true, false, List, [], ◌∷◌, Some, None, All, drop, refl, ap, sym, ◌∙◌, subst, arith}
-use Rattle.std.proofs.lemmas.List.Elements.{All-head}
+use Rattle.std.proofs.lemmas.List.Elements.{All-head, All-nil}
 use Rattle.af_model.specs.declared.shape.Shape.{Shape}
 use Rattle.af_cblk.specs.Shape.{most_flushes}
 use Rattle.af_normal.specs.Meeting.{client_knows}
@@ -8,7 +8,7 @@ use Rattle.af_server.specs.Order.{ServerState}
 use Rattle.af_script.specs.declared.op.Op.{Op}
 use Rattle.af_journal.specs.declared.want.Want.{Want}
 use Rattle.af_journal.specs.declared.want.Want.TheVariants as want
-use Rattle.af_journal.specs.Clients.{Client, asked_first, next_want, rest_of}
+use Rattle.af_journal.specs.Clients.{Client, asked_first, new_client, next_want, rest_of}
 use Rattle.af_journal.specs.Kept.{client_of}
 use Rattle.af_session.specs.Asking.{CanMake, CanSend}
 use Rattle.af_session.specs.Parties.{PartyState}
@@ -32,6 +32,25 @@ work_on ops frames x y p q can left written flushed stream command room =
       ops_fit = subst (λ (z : Shape × Shape). All (IsFittingOp z.0.cells z.1.cells) (drop q.client.at ops)) (λ i. (sym stream i, sym command i)) fit.1;
       commands = (ap (λ (z : Shape). z.frames) command ∙ can.commands.0, ap (λ (z : Shape). z.base) command ∙ can.commands.1);
       room = room ∙ can.room;
+    }
+
+-- a client that has done nothing, on blocks of these sizes
+pub work_new : (ops : List Op) (frames : ℕ) (p : PartyState) → client_of ops p.client ≡ new_client ops → frames_to_come ops ≤ frames → frames ≤ 4194304
+    → flushes_to_come ops ≤ most_flushes p.stream.pass.part.shape.wrap → All (IsFittingOp p.stream.pass.part.shape.cells p.command.pass.part.shape.cells) ops
+    → p.stream.released ≡ 0 → p.stream.flushes ≡ 0 → (p.command.pass.part.shape.frames ≡ 128) × (p.command.pass.part.shape.base ≡ 0) → p.calls.room ≡ 64 → CanWork ops frames p
+work_new ops frames p new enough few flushes fit none never command room =
+    let s = p.stream.pass.part.shape.cells in let k = p.command.pass.part.shape.cells in
+    let P : Client → Type 0 = λ c. Left s k 0 0 [] ops c.due c.ops in
+    let left : P (client_of ops p.client) = subst P (sym new) (record { frames = omega arith; flushes = omega arith; fits = λ h. h }) in
+    let fits = left.fits (All-nil (IsFitting s k), fit) in
+    record {
+      file = omega (arith, left.frames, none);
+      few_frames = few;
+      flushes = omega (arith, left.flushes, never);
+      due_fits = fits.0;
+      ops_fit = fits.1;
+      commands = command;
+      room = room;
     }
 
 -- its proxies learnt what the servers have done

@@ -257,7 +257,7 @@ impl Party {
     }
 
     // The calls of one turn.
-    fn call_on<L: Ledger>(
+    pub(crate) fn call_on<L: Ledger>(
         &mut self,
         stream: &Block,
         command: &Block,

@@ -1,0 +1,12 @@
+use Rattle.std.proofs.Common.{length}
+use Rattle.af_server.specs.Order.{IsServerOf}
+use Rattle.af_session.specs.Asking.{HasBlocks}
+use Rattle.af_session.specs.Works.{CanWork}
+use Rattle.af_session.proofs.client_tests.all_do.Given as goal
+
+abbrev pub invariant-loop-step : goal.invariant-loop-step
+invariant-loop-step g l = record {
+  blocks : HasBlocks l.blocks.0.now l.blocks.1.now l.party;
+  work : CanWork l.ops (length l.file) l.party;
+  servers : IsServerOf l.blocks.0.now l.servers.0 × IsServerOf l.blocks.1.now l.servers.1;
+}
