@@ -1,4 +1,4 @@
-use Rattle.std.proofs.Common.{◌≡◌, ℕ, ◌+◌, ◌*◌, ◌≤◌, ◌++◌, false, List, length}
+use Rattle.std.proofs.Common.{◌≡◌, ℕ, ◌*◌, ◌≤◌, ◌++◌, false, List, length}
 use Rattle.af_session.specs.Together.{AreTogether}
 use Rattle.af_session.proofs.FastChains.{GoesTo}
 use Rattle.af_session.proofs.fast_turns.fast_cycles.Given as goal

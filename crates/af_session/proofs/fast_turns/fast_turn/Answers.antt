@@ -1,4 +1,4 @@
-use Rattle.std.proofs.Common.{◌≡◌, ◌≤◌, length, ap, ◌∙◌, arith}
+use Rattle.std.proofs.Common.{length, ap, arith}
 use Rattle.af_session.specs.Together.{SessionState}
 use Rattle.af_session.proofs.FastAdds.{entries_more, sounds_again}
 use Rattle.af_session.proofs.fast_turns.fast_turn.Goals as goal
