@@ -17,14 +17,6 @@ use Rattle.af_session.specs.Met.{MeetsAway, Proxies, Spot, SpotMet, TrackMet, it
 use Rattle.af_session.specs.Parties.{PartyState}
 use Rattle.af_session.proofs.MetSlots.{held_other}
 
--- a proxy that isn't home has a hand
-pub has_hand : (links : Links) (m : NormalState) (i : ℕ) → IsInOrder links m → i < length m.tracks → is_home (track_at m.tracks i).holder ≡ false → i < length m.hands
-has_hand links m i o inside away = by_turns m.turns refl
-  where
-    by_turns : (n : ℕ) → m.turns ≡ n → i < length m.hands
-    by_turns zero e = absurd (true≢false (sym ((o.none_yet e).home i) ∙ away))
-    by_turns (suc n) e = let l = (o.hands (omega arith)).whole in omega (arith, inside, l)
-
 -- at home
 at_home : (block : Made) (o : Option ServerState) (a b : Spot) (c d : ClientState) → is_some o ≡ true → b.held ≡ a.held → MeetsStream block o a.hand c b.stream b.hand d → SpotMet block o a c b d
 at_home block None a b c d there held m = absurd (true≢false (sym there))
