@@ -1,23 +1,17 @@
 -- The ends of the two mixers meet.
-use Rattle.std.proofs.Common.{◌≡◌, ℕ, refl, sym, ap, subst, ◌∙◌}
-use Rattle.af_cblk.specs.Sides.{Made}
-use Rattle.af_fast.specs.Meets.{Others, HaveHistories, mixer_met, others_met}
+use Rattle.std.proofs.Common.{◌≡◌, sym, ap, subst, ◌∙◌}
+use Rattle.af_fast.specs.Meets.{Others, HaveHistories, mixer_met}
 use Rattle.af_fast.specs.Mixer.{MixerState, IsInOrder as IsFastInOrder, IsLinked}
 use Rattle.af_fast.proofs.Meeting.{met_order}
-use Rattle.af_link.specs.PipeEnds.{OutSide, SeesTaken, out_made}
-use Rattle.af_link.specs.Reports.{CyclesNeverFall, WriterSide}
+use Rattle.af_link.specs.PipeEnds.{OutSide}
+use Rattle.af_link.specs.Reports.{WriterSide}
 use Rattle.af_link.specs.declared.links.Links.{Links}
 use Rattle.af_link.specs.declared.names.StreamNames.{StreamNames}
-use Rattle.af_model.specs.NewestValue.{HasHistory as HasReportHistory}
-use Rattle.af_model.specs.PipeHistory.{HasPipeHistory}
-use Rattle.af_model.specs.Reports.{no_report}
-use Rattle.af_model.specs.StateQueue.{HasHistory as HasQueueHistory}
 use Rattle.af_normal.specs.Meeting.{ends_met, observer_met, out_met, queue_met, writer_met}
 use Rattle.af_normal.specs.State.{NormalState}
 use Rattle.af_server.specs.Order.{ServerState}
-use Rattle.af_stateq.specs.Mutates.{Mutates}
 use Rattle.af_stateq.specs.Observes.{Observes}
-use Rattle.af_session.specs.Met.{EndsMet, Proxies, ends_of, proxies_of, with_ends}
+use Rattle.af_session.specs.Met.{EndsMet, ends_of}
 
 module _ (links : Links) (m m1 n : NormalState) (f : MixerState) (o : Observes ServerState StreamNames) (w : WriterSide) (out : OutSide) (queued : m1 ≡ queue_met m f.observer) (observed : o ≡ observer_met m f.observer)
     (ended : n ≡ ends_met m1 f.writer f.pipe) (wrote : (w ≡ writer_met m1 f.writer) × (out ≡ out_met m1 f.pipe)) where

@@ -1,6 +1,6 @@
 -- The client of a stream whose proxy isn't home meets what is there.
-use Rattle.std.proofs.Common.{◌≡◌, ◌≢◌, ℕ, ◌<◌, true, true≢false, is_some, List, length, slice_get, slice_set, slice_index_or, Option, Some, None, refl, sym, ap, subst, ◌∙◌, get_or-set_same, get_or-set_other, arith}
-use Rattle.std.proofs.lemmas.Option.{get_or_from_slice_get, same_Some}
+use Rattle.std.proofs.Common.{◌≡◌, ◌≢◌, ℕ, ◌<◌, true, true≢false, is_some, List, slice_get, Option, Some, None, refl, sym, ap, subst, ◌∙◌, get_or-set_same, get_or-set_other, arith}
+use Rattle.std.proofs.lemmas.Option.{same_Some}
 use Rattle.af_cblk.specs.Sides.{HandSide, Made, client_made, hand_made, server_made}
 use Rattle.af_client.specs.Order.{ClientState, IsInOrder as IsClientInOrder}
 use Rattle.af_fast.specs.Meets.{AreOfBlockOf, MeetsHeld, server_met}
@@ -14,7 +14,7 @@ use Rattle.af_normal.specs.Meeting.{MeetsAll}
 use Rattle.af_server.specs.Order.{ServerState}
 use Rattle.af_stateq.specs.Mutates.{at}
 use Rattle.af_stateq.specs.Observes.{Observes}
-use Rattle.af_session.specs.Met.{MeetsAway, MeetsFlag, item_at, slot_for}
+use Rattle.af_session.specs.Met.{MeetsAway, item_at, slot_for}
 use Rattle.af_session.proofs.MetSlots.{slot_is}
 
 -- what the meeting of a stream whose proxy isn't home comes to

@@ -1,15 +1,12 @@
 -- What the meetings of one track come to.
-use Rattle.std.proofs.Common.{◌≡◌, ◌≢◌, ℕ, zero, suc, ◌<◌, ◌≤◌, Bool, true, false, true≢false, is_some, List, length, length-set, slice_get, slice_set, Option, Some, None, refl, sym, ap, subst, ◌∙◌, get_or-set_other, arith}
+use Rattle.std.proofs.Common.{◌≡◌, ◌≢◌, ℕ, ◌<◌, true, false, true≢false, is_some, List, length, slice_get, slice_set, Option, Some, None, refl, sym, ap, subst, ◌∙◌, get_or-set_other}
 use Rattle.std.proofs.lemmas.Option.{slice_get_within}
 use Rattle.af_base.specs.declared.state.FastState.{FastState}
 use Rattle.af_cblk.specs.Sides.{HandSide, Made, client_made}
 use Rattle.af_client.specs.Order.{ClientState}
-use Rattle.af_life.specs.Kept.{is_home, track_at}
 use Rattle.af_link.specs.declared.links.Links.{Links}
 use Rattle.af_normal.specs.Meeting.{MeetsStream, MeetsTrack}
 use Rattle.af_normal.specs.Mixing.{stream_at}
-use Rattle.af_normal.specs.Order.{IsInOrder}
-use Rattle.af_normal.specs.State.{NormalState}
 use Rattle.af_normal.proofs.LegalLists.{get_set_same, get_set_other}
 use Rattle.af_server.specs.Order.{ServerState}
 use Rattle.af_stateq.specs.Mutates.{at}

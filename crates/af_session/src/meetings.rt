@@ -82,12 +82,7 @@ fn meet_away<L: Ledger>(
     ensures others { (k : ℕ) → slot_for fast.old.observer.past.state track ≢ Some k → at fast.new.observer.items k ≡ at fast.old.observer.items k }
 {
     let Some(slot) = slot_held(fast, track) else {
-        meet_flag(
-            stream,
-            hand.flag(),
-            &links.streams[track as usize],
-            steps,
-        );
+        meet_flag(stream, hand.flag(), &links.streams[track as usize], steps);
         return;
     };
     fast.meet_held(links, slot, stream, hand.flag(), steps);
@@ -116,7 +111,9 @@ fn meet_party<L: Ledger>(
 {
     let track = party.track;
     let Party {
-        stream, command, ..
+        stream,
+        command,
+        ..
     } = party;
     if normal.meet_client(links, track, stream, command, steps) {
         return;

@@ -1,6 +1,5 @@
-use Rattle.std.proofs.Common.{◌≡◌, ◌<◌, Some, sym, ap, subst, ◌∙◌}
-use Rattle.af_base.specs.Log.{slots}
-use Rattle.af_cblk.specs.Sides.{HandSide, hand_made}
+use Rattle.std.proofs.Common.{◌≡◌, Some, sym, subst}
+use Rattle.af_cblk.specs.Sides.{HandSide}
 use Rattle.af_fast.specs.Meets.{AreOfBlockOf}
 use Rattle.af_fast.specs.Mixer.{MixerState}
 use Rattle.af_server.specs.Order.{ServerState}

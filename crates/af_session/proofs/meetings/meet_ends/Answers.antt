@@ -1,6 +1,4 @@
-use Rattle.std.proofs.Common.{◌≡◌, ap, ◌∙◌}
-use Rattle.af_link.specs.PipeEnds.{OutSide}
-use Rattle.af_link.specs.Reports.{WriterSide}
+use Rattle.std.proofs.Common.{ap, ◌∙◌}
 use Rattle.af_normal.specs.Meeting.{ends_met, observer_met, out_met, queue_met, writer_met}
 use Rattle.af_session.proofs.EndsMeet.{fast_order}
 use Rattle.af_session.proofs.meetings.meet_ends.Goals as goal

@@ -1,4 +1,4 @@
-use Rattle.std.proofs.Common.{◌≡◌, ◌<◌, ℕ, length, slice_set, false, is_some, sym, ap, subst, ◌∙◌, arith}
+use Rattle.std.proofs.Common.{◌≡◌, ◌<◌, length, slice_set, false, is_some, sym, ap, subst, ◌∙◌, arith}
 use Rattle.af_session.specs.contracts.party.Party.{the_view}
 use Rattle.af_normal.specs.Mixing.{stream_at}
 use Rattle.af_normal.proofs.MetEnds.{hand_order}
@@ -42,7 +42,7 @@ returns-clause-others g c =
     let wide : p.track < length m.commands = omega (arith, inside, c.requires.normal.tied.sizes.commands_are) in
     let away : is_some (stream_at m.streams p.track) ≡ false = c.requires.normal.tied.proxies.there p.track inside ∙ sym c.meet_client.ensures.home ∙ c.if-meet_client.false in
     λ j ne. others_away x p.track c.args.links.now m.streams n.streams m.commands n.commands m.hands n.hands f.observer.items p c.meet_client.new.stream c.meet_client.new.command c.meet_client.ensures.met wide
-        c.in-Some.hand.now c.meet_away.new.hand f'.observer.items c.meet_away.new.stream away c.in-Some.ensures.value c.meet_away.ensures.others j (λ e. ne (e ∙ track))
+    c.in-Some.hand.now c.meet_away.new.hand f'.observer.items c.meet_away.new.stream away c.in-Some.ensures.value c.meet_away.ensures.others j (λ e. ne (e ∙ track))
 
 pub returns-clause-items : goal.returns-clause-items
 returns-clause-items g c =

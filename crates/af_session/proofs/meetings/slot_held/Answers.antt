@@ -1,4 +1,4 @@
-use Rattle.std.proofs.Common.{ℕ, sym, ap, ◌∙◌}
+use Rattle.std.proofs.Common.{sym, ap, ◌∙◌}
 use Rattle.af_server.specs.Order.{ServerState}
 use Rattle.af_stateq.specs.Observes.{Observes}
 use Rattle.af_link.specs.declared.names.StreamNames.{StreamNames}
