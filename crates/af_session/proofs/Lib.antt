@@ -2,4 +2,5 @@ mod EndsMeet
 mod MetAway
 mod MetSlots
 mod MetSpot
+mod MetStays
 mod MetTracks
