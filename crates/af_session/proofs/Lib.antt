@@ -8,6 +8,7 @@ mod EndsMeet
 mod MetAway
 mod MetSlots
 mod MetSpot
+mod MetStays
 mod MetTracks
 mod FastAdds
 mod FastChains
