@@ -18,3 +18,4 @@ pub mod NewLines
 pub mod NewWork
 pub mod MoreTracks
 pub mod Begins
+pub mod Ready
