@@ -12,8 +12,8 @@ use Rattle.af_journal.specs.Clients.{Client, asked_first, new_client, next_want,
 use Rattle.af_journal.specs.Kept.{client_of}
 use Rattle.af_session.specs.Asking.{CanMake, CanSend}
 use Rattle.af_session.specs.Parties.{PartyState}
-use Rattle.af_session.specs.Works.{CanWork, IsFitting, IsFittingOp, flushes_due, flushes_to_come, frames_due}
-use Rattle.af_session.proofs.WorkLeft.{LeftBy}
+use Rattle.af_session.specs.Works.{CanWork, IsFitting, IsFittingOp, flushes_due, flushes_to_come, frames_due, frames_to_come}
+use Rattle.af_session.proofs.WorkLeft.{Left, LeftBy}
 
 -- after so many frames were written and flushes asked for
 pub work_on : (ops : List Op) (frames x y : ℕ) (p q : PartyState) → CanWork ops frames p
