@@ -1,6 +1,6 @@
 mod MadeCalls
 mod WorkLeft
-pub mod CanWorkOn
+mod CanWorkOn
 mod Legal
 mod StepMade
 mod TurnMade
