@@ -1,5 +1,5 @@
 -- What each turn and each meeting leaves ready for the next round.
-use Rattle.std.proofs.Common.{◌≡◌, ◌≢◌, ℕ, zero, suc, ◌+◌, ◌*◌, ◌<◌, ◌≤◌, ◌⊎◌, inl, inr, Bool, true, false, List, length, length-set, slice_get, slice_set, Option, Some, None, refl, sym, ap, subst, ◌∙◌, ⊎_elim, arith}
+use Rattle.std.proofs.Common.{◌≡◌, ◌≢◌, ℕ, zero, suc, ◌+◌, ◌*◌, ◌<◌, ◌≤◌, ◌⊎◌, inl, inr, Bool, true, false, List, [], length, length-set, slice_get, slice_set, Option, Some, None, refl, sym, ap, subst, ◌∙◌, ⊎_elim, arith}
 use Rattle.std.proofs.lemmas.Bool.{cases_eq}
 use Rattle.std.proofs.lemmas.Option.{none-some, same_Some, slice_get_within, slice_get_cases}
 use Rattle.af_base.specs.declared.log.Cycle.{Cycle}
@@ -74,16 +74,14 @@ cycle_stays s t answer bytes w =
     subst (Stays s) (sym w.cycle.others)
     (record { clients = (λ i q at. x.clients i q at); turns = x.turns; tracks = x.tracks })
 
+by_answer : (s m t : SessionState) (back : List ℕ) (mixed : Bool) → Stays s m → (mixed ≡ true → Stays m t) → (mixed ≡ false → (back ≡ []) × (t ≡ m)) → Stays s t
+by_answer s m t back true first goes stops = both_stay s m t first (goes refl)
+by_answer s m t back false first goes stops = subst (Stays s) (sym (stops refl).1) first
+
 pub fast_stays : (count : ℕ) (s t : SessionState) (bytes : List ℕ) → IsFastTurn count s bytes t → Stays s t
 fast_stays zero s t bytes turn = subst (Stays s) (sym turn.1) (all_stays s)
-fast_stays (suc left) s t bytes turn = by_answer (is_mixed turn.0) refl
-  where
-    first : Stays s turn.1
-    first = cycle_stays s turn.1 turn.0 turn.2 turn.4
-
-    by_answer : (mixed : Bool) → is_mixed turn.0 ≡ mixed → Stays s t
-    by_answer true is = both_stay s turn.1 t first (fast_stays left turn.1 t turn.3 (turn.6 is))
-    by_answer false is = subst (Stays s) (sym (turn.7 is).1) first
+fast_stays (suc left) s t bytes turn =
+    by_answer s turn.1 t turn.3 (is_mixed turn.0) (cycle_stays s turn.1 turn.0 turn.2 turn.4) (λ yes. fast_stays left turn.1 t turn.3 (turn.6 yes)) turn.7
 
 -- ## Ready again
 
