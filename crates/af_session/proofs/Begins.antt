@@ -1,10 +1,10 @@
 -- A new session: its parties are new, in order, and belong together.
-use Rattle.std.proofs.Common.{◌≡◌, ℕ, zero, suc, ◌<◌, ◌≤◌, true, List, [], ◌∷◌, length, map, replicate, Option, Some, None, refl, sym, ap, ◌∙◌, subst, arith}
+use Rattle.std.proofs.Common.{◌≡◌, ℕ, zero, suc, ◌<◌, ◌≤◌, true, List, [], ◌∷◌, length, map, Option, Some, refl, sym, ap, ◌∙◌, subst, arith}
 use Rattle.std.specs.Prelude.{All, slice_get, unwrap_or}
 use Rattle.std.proofs.lemmas.List.{length-replicate}
 use Rattle.std.proofs.lemmas.List.Elements.{All-map}
 use Rattle.std.proofs.lemmas.Option.{slice_get_within}
-use Rattle.af_cblk.specs.Sides.{Made, server_made, client_made}
+use Rattle.af_cblk.specs.Sides.{Made}
 use Rattle.af_cblk.specs.declared.view.ClientPart.{ClientPart}
 use Rattle.af_server.specs.Order.{ServerState}
 use Rattle.af_link.specs.Linked.{AreLinked}
@@ -14,7 +14,7 @@ use Rattle.af_link.specs.declared.links.Links.{Links}
 use Rattle.af_fast.specs.Mixer.{MixerState, made_of, IsLinked, IsInOrder as IsFastInOrder}
 use Rattle.af_life.specs.declared.kept.Setting.{Setting}
 use Rattle.af_life.specs.Kept.{new_track}
-use Rattle.af_normal.specs.Making.{TrackList, IsMade, AreNew, setting_of}
+use Rattle.af_normal.specs.Making.{TrackList, IsMade, AreNew}
 use Rattle.af_normal.specs.Meeting.{AreClientsOf}
 use Rattle.af_normal.specs.Mixing.{stream_at}
 use Rattle.af_normal.specs.Order.{IsInOrder as IsNormalInOrder}
@@ -23,7 +23,7 @@ use Rattle.af_script.specs.Data.{ScriptData}
 use Rattle.af_script.specs.Form.{IsTrack}
 use Rattle.af_script.specs.declared.track.TrackSpec.{TrackSpec}
 use Rattle.af_session.specs.NewSession.{EndStates, AreNewEnds, IsNewSession, ends_of, tracks_of}
-use Rattle.af_session.specs.NewTracks.{IsNewLine, IsTrackAt, AreNewTracks, spec_setting}
+use Rattle.af_session.specs.NewTracks.{AreNewTracks, spec_setting}
 use Rattle.af_session.specs.Parties.{PartyState}
 use Rattle.af_session.specs.Shares.{SharedState, AreLinksOf}
 use Rattle.af_session.specs.Together.{SessionState, AreTogether}
@@ -86,11 +86,14 @@ module _ (version : ℕ) (specs : List TrackSpec) (shared : SharedState) (client
       let command = one.new.command_line in
       let is : one.party ≡ p = same_one one.party p (sym one.party_at ∙ here) in
       let P : PartyState → Type 0 = λ x. (x.track ≡ i) × AreClientsOf links i x.stream x.command in
-      subst P is (one.new.party.place_is, record {
-        stream_is = ap (λ (b : List Made). slice_get b i) l.streams_are ∙ one.stream_at_place ∙ ap (λ (b : Made). Some b) (sym stream.client_is.0);
-        command_is = ap (λ (b : List Made). slice_get b i) l.commands_are ∙ one.command_at ∙ ap (λ (b : Made). Some b) (sym command.client_is.0);
-        in_order = (stream.client_is.1, command.client_is.1);
-      })
+      subst P is (
+        one.new.party.place_is,
+        record {
+          stream_is = ap (λ (b : List Made). slice_get b i) l.streams_are ∙ one.stream_at_place ∙ ap (λ (b : Made). Some b) (sym stream.client_is.0);
+          command_is = ap (λ (b : List Made). slice_get b i) l.commands_are ∙ one.command_at ∙ ap (λ (b : Made). Some b) (sym command.client_is.0);
+          in_order = (stream.client_is.1, command.client_is.1);
+        },
+      )
 
   -- ## The mixers
 

@@ -11,7 +11,9 @@ use crate::tracks::new_tracks;
 use af_base::Memory;
 use af_cblk::Block;
 use af_fast::FastMixer;
-use af_link::{PipeIn, PipeOut, ReportReader, ReportWriter, StreamNames, pipe, report, stream_names};
+use af_link::{
+    PipeIn, PipeOut, ReportReader, ReportWriter, StreamNames, pipe, report, stream_names,
+};
 use af_normal::NormalMixer;
 use af_script::Script;
 use af_server::Server;

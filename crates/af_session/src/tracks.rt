@@ -84,12 +84,7 @@ fn command_line(alloc: Global) -> Result<(Block, Proxy, Server), Memory>
 }
 
 // The track of a place.
-fn new_track(
-    alloc: Global,
-    version: u32,
-    track: u32,
-    spec: &TrackSpec,
-) -> Result<NewTrack, Memory>
+fn new_track(alloc: Global, version: u32, track: u32, spec: &TrackSpec) -> Result<NewTrack, Memory>
     requires { IsTrack spec.now }
     ensures { IfOk result (λ t. IsNewTrack version track spec.now t.stream t.command t.client t.setup) }
 {
