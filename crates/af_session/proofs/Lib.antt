@@ -19,3 +19,5 @@ pub mod NewWork
 pub mod MoreTracks
 pub mod Begins
 pub mod Ready
+mod ClientRounds
+mod NormalRounds
