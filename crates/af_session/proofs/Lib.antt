@@ -21,3 +21,4 @@ pub mod Begins
 pub mod Ready
 mod ClientRounds
 mod NormalRounds
+mod MapMore

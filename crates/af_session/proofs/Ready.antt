@@ -1,7 +1,8 @@
 -- What each turn and each meeting leaves ready for the next round.
-use Rattle.std.proofs.Common.{◌≡◌, ◌≢◌, ℕ, zero, suc, ◌+◌, ◌*◌, ◌<◌, ◌≤◌, ◌⊎◌, inl, inr, Bool, true, false, List, [], length, length-set, slice_get, slice_set, Option, Some, None, refl, sym, ap, subst, ◌∙◌, ⊎_elim, arith}
+use Rattle.std.proofs.Common.{◌≡◌, ◌≢◌, ℕ, zero, suc, ◌+◌, ◌*◌, ◌<◌, ◌≤◌, ◌⊎◌, inl, inr, Bool, true, false, if◌then◌else◌, List, [], length, length-set, map, option_map, slice_get, slice_set, Option, Some, None, refl, sym, ap, subst, ◌∙◌, ⊎_elim, arith}
+use Rattle.std.proofs.lemmas.List.{length-map}
 use Rattle.std.proofs.lemmas.Bool.{cases_eq}
-use Rattle.std.proofs.lemmas.Option.{none-some, same_Some, slice_get_within, slice_get_cases}
+use Rattle.std.proofs.lemmas.Option.{none-some, same_Some, slice_get-map, slice_get_within, slice_get_cases}
 use Rattle.af_base.specs.declared.log.Cycle.{Cycle}
 use Rattle.af_client.specs.Order.{ClientState}
 use Rattle.af_link.specs.declared.links.Links.{Links}
@@ -16,10 +17,11 @@ use Rattle.af_script.specs.declared.op.Op.{Op}
 use Rattle.af_session.specs.FastTurns.{IsFastTurn, WritesCycle}
 use Rattle.af_session.specs.Met.{Met, TrackMet, proxies_of, spot_of}
 use Rattle.af_session.specs.Parties.{PartyState}
-use Rattle.af_session.specs.Rounds.{Given, IsReady, file_at, ops_at}
+use Rattle.af_session.specs.Rounds.{Given, IsReady, end_party, file_at, ops_at, with_ends}
 use Rattle.af_session.specs.Sound.{IsWhole}
 use Rattle.af_session.specs.Together.{SessionState, AreTogether}
 use Rattle.af_session.specs.Works.{CanWork}
+use Rattle.af_session.proofs.CanWorkOn.{work_end}
 use Rattle.af_session.proofs.FastAdds.{met_keeps, whole_met}
 use Rattle.af_session.proofs.MetStays.{command_learnt, work_met}
 use Rattle.af_session.proofs.MetTracks.{still_together}
@@ -155,3 +157,36 @@ module _ (links : Links) (g : Given) (n : ℕ) (s : SessionState) (ready : IsRea
       turns = (let old = ready.turns in omega arith);
       whole = ready.whole;
     }
+
+-- the clients have ended where the normal mixer has
+module _ (links : Links) (g : Given) (n : ℕ) (s : SessionState) (ready : IsReady links g n s) where
+  ended_was : (i : ℕ) (q : PartyState) (o : Option PartyState) → slice_get s.clients i ≡ o → option_map end_party o ≡ Some q → (p : PartyState) × (slice_get s.clients i ≡ Some p) × (q ≡ end_party p)
+  ended_was i q None is now = absurd (none-some q now)
+  ended_was i q (Some p) is now = (p, is, sym (same_Some (end_party p) q now))
+
+  ended_at : (i : ℕ) (q : PartyState) → slice_get (map end_party s.clients) i ≡ Some q → (p : PartyState) × (slice_get s.clients i ≡ Some p) × (q ≡ end_party p)
+  ended_at i q now = ended_was i q (slice_get s.clients i) refl (sym (slice_get-map end_party s.clients i) ∙ now)
+
+  ready_ended : IsReady links g n (record s { clients = map end_party s.clients })
+  ready_ended = record {
+    together = record {
+      normal = ready.together.normal;
+      fast = ready.together.fast;
+      count = length-map s.clients end_party ∙ ready.together.count;
+      tracks = (λ i q now. let was = ended_at i q now in ap (λ (x : PartyState). x.track) was.2 ∙ ready.together.tracks i was.0 was.1);
+      clients = (λ i q now. let was = ended_at i q now in subst (λ (x : PartyState). AreClientsOf links i x.stream x.command) (sym was.2) (ready.together.clients i was.0 was.1));
+    };
+    between = ready.between;
+    given = (ready.given.0 ∙ sym (length-map s.clients end_party), ready.given.1 ∙ sym (length-map s.clients end_party));
+    works = (λ i q now. let was = ended_at i q now in subst (CanWork (ops_at g i) (length (file_at g i))) (sym was.2) (work_end (ops_at g i) (length (file_at g i)) was.0 (ready.works i was.0 was.1)));
+    few = (λ i q now. let was = ended_at i q now in let old = ready.few i was.0 was.1 in let same = ap (λ (x : PartyState). x.command.released) was.2 in omega arith);
+    turns = ready.turns;
+    whole = ready.whole;
+  }
+
+  by_end : (ended : Bool) → IsReady links g n (if ended then record s { clients = map end_party s.clients } else s)
+  by_end true = ready_ended
+  by_end false = ready
+
+  pub ready_ends : IsReady links g n (with_ends s)
+  ready_ends = by_end s.normal.ended
