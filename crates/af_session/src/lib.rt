@@ -8,6 +8,7 @@ mod client_turn;
 mod fast_turns;
 mod meetings;
 mod party;
+mod playing;
 mod rounds;
 mod sound;
 

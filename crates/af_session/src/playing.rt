@@ -1,0 +1,59 @@
+//! All turns of a script, and the file of what they mixed.
+ghost use Rattle.std.specs.Prelude.{◌≡◌, ◌+◌, ◌*◌, ◌<◌, ◌≤◌, ◌++◌, ℕ, List, [], Some, length, All, OnOk};
+ghost use Rattle.af_io.specs.Causes.{HasCause};
+ghost use Rattle.af_io.specs.Files.{SetsFile};
+ghost use Rattle.af_model.specs.Journals.{RoundNoted};
+ghost use Rattle.af_script.specs.Form.{IsTurn};
+ghost use Rattle.af_session.specs.Rounds.{IsReady, IsRound, IsTurnRun};
+ghost use Rattle.af_session.specs.Sound.{pcm_of};
+
+use crate::parties::Parties;
+use af_base::{Frame, Items, Steps};
+use af_io::{Pcm, Store, StoreError};
+use af_link::Links;
+use af_script::{TrackSpec, TurnSpec};
+use std::sync::ledger::Ledger;
+
+// The bytes are added to a file as one piece, where there are some.
+fn send_out<S: Store>(store: &mut S, name: &str, bytes: &[u8]) -> Result<(), StoreError>
+    ensures written { S.told store.old → (out : List ℕ) → S.files store.old name.now ≡ Some out → OnOk result (S.files store.new name.now ≡ Some (out ++ bytes.now)) }
+    ensures tells { S.told store.old → S.told store.new }
+    ensures cause { HasCause (S.faults store.old) (S.faults store.new) result }
+{
+    if bytes.is_empty() {
+        return Ok(());
+    }
+    store.append(name, bytes)
+}
+
+impl Parties {
+    // A round, and the bytes of what it mixed.
+    fn play_out<S: Store, L: Ledger>(
+        &mut self,
+        links: &Links<'_>,
+        turn: TurnSpec,
+        tracks: &[TrackSpec],
+        files: &[Pcm],
+        store: &mut S,
+        name: &str,
+        buffer: &mut [Frame],
+        bytes: &mut Items<u8>,
+        steps: &mut Steps<L>,
+    ) -> Result<(), StoreError>
+        requires turn { IsTurn (length self.old.clients) turn }
+        requires buffer { length buffer.old ≡ self.old.fast.frames }
+        requires room { 64 * self.old.fast.frames ≤ bytes.old.room }
+        requires ready { (n : ℕ) × (n < 100000) × IsReady links.now (record { tracks = tracks.now; files = files.now }) n self.old }
+        ensures ready { (n : ℕ) → IsReady links.now (record { tracks = tracks.now; files = files.now }) n self.old → IsReady links.now (record { tracks = tracks.now; files = files.now }) (n + 1) self.new }
+        ensures sizes { (self.new.fast.frames ≡ self.old.fast.frames) × (bytes.new.room ≡ bytes.old.room) }
+        ensures round { (r : RoundNoted) × IsRound (record { tracks = tracks.now; files = files.now }) turn self.old r bytes.new.items self.new }
+        ensures sound { (out : List ℕ) → out ≡ pcm_of self.old.fast.frames self.old.fast.log → out ++ bytes.new.items ≡ pcm_of self.old.fast.frames self.new.fast.log }
+        ensures written { S.told store.old → (out : List ℕ) → S.files store.old name.now ≡ Some out → OnOk result (S.files store.new name.now ≡ Some (out ++ bytes.new.items)) }
+        ensures tells { S.told store.old → S.told store.new }
+        ensures cause { HasCause (S.faults store.old) (S.faults store.new) result }
+    {
+        bytes.clear();
+        self.round(links, turn, tracks, files, buffer, bytes, steps);
+        send_out(store, name, bytes.as_slice())
+    }
+}
