@@ -22,3 +22,4 @@ pub mod Ready
 mod ClientRounds
 mod NormalRounds
 mod MapMore
+pub mod RunMore

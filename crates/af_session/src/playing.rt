@@ -56,4 +56,38 @@ impl Parties {
         self.round(links, turn, tracks, files, buffer, bytes, steps);
         send_out(store, name, bytes.as_slice())
     }
+
+    /// Plays these turns one after the other, each as a round after which all meet. The bytes of each round's mixed cycles are added to the file as one piece, where there are some.
+    ///
+    /// What was played is a turn run of the script and its files, and where the file held the sound of the fast mixer's log before it does so again. After a fault of the store the rounds so far were played.
+    pub fn play_all<S: Store, L: Ledger>(
+        &mut self,
+        links: &Links<'_>,
+        turns: &[TurnSpec],
+        tracks: &[TrackSpec],
+        files: &[Pcm],
+        store: &mut S,
+        name: &str,
+        buffer: &mut [Frame],
+        bytes: &mut Items<u8>,
+        steps: &mut Steps<L>,
+    ) -> Result<(), StoreError>
+        requires turns { All (IsTurn (length tracks.now)) turns.now }
+        requires few { length turns.now ≤ 100000 }
+        requires buffer { length buffer.old ≡ self.old.fast.frames }
+        requires room { 64 * self.old.fast.frames ≤ bytes.old.room }
+        requires ready { IsReady links.now (record { tracks = tracks.now; files = files.now }) 0 self.old }
+        ensures ready { OnOk result (IsReady links.now (record { tracks = tracks.now; files = files.now }) (length turns.now) self.new) }
+        ensures run { OnOk result ((rounds : List RoundNoted) × (added : List ℕ) × IsTurnRun (record { tracks = tracks.now; files = files.now }) turns.now self.old rounds added self.new) }
+        ensures written { S.told store.old → (out : List ℕ) → S.files store.old name.now ≡ Some out → out ≡ pcm_of self.old.fast.frames self.old.fast.log → OnOk result (S.files store.new name.now ≡ Some (pcm_of self.old.fast.frames self.new.fast.log)) }
+        ensures tells { S.told store.old → S.told store.new }
+        ensures cause { HasCause (S.faults store.old) (S.faults store.new) result }
+    {
+        for i in 0..turns.len() {
+            self.play_out(
+                links, turns[i], tracks, files, store, name, buffer, bytes, steps,
+            )?;
+        }
+        Ok(())
+    }
 }
