@@ -17,3 +17,4 @@ pub mod NewLines
 pub mod NewWork
 pub mod MoreTracks
 pub mod Begins
+mod Tallying
