@@ -1,10 +1,10 @@
 -- A new session: its parties are new, in order, and belong together.
-use Rattle.std.proofs.Common.{◌≡◌, ℕ, zero, suc, ◌<◌, ◌≤◌, true, List, [], ◌∷◌, length, map, replicate, Option, Some, None, refl, sym, ap, ◌∙◌, subst, arith}
+use Rattle.std.proofs.Common.{◌≡◌, ℕ, zero, suc, ◌<◌, ◌≤◌, true, false, List, [], ◌∷◌, length, map, replicate, Option, Some, refl, sym, ap, ◌∙◌, subst, arith}
 use Rattle.std.specs.Prelude.{All, slice_get, unwrap_or}
 use Rattle.std.proofs.lemmas.List.{length-replicate}
 use Rattle.std.proofs.lemmas.List.Elements.{All-map}
 use Rattle.std.proofs.lemmas.Option.{slice_get_within}
-use Rattle.af_cblk.specs.Sides.{Made, server_made, client_made}
+use Rattle.af_cblk.specs.Sides.{Made}
 use Rattle.af_cblk.specs.declared.view.ClientPart.{ClientPart}
 use Rattle.af_server.specs.Order.{ServerState}
 use Rattle.af_link.specs.Linked.{AreLinked}
@@ -13,17 +13,17 @@ use Rattle.af_link.specs.PipeEnds.{out_made}
 use Rattle.af_link.specs.declared.links.Links.{Links}
 use Rattle.af_fast.specs.Mixer.{MixerState, made_of, IsLinked, IsInOrder as IsFastInOrder}
 use Rattle.af_life.specs.declared.kept.Setting.{Setting}
-use Rattle.af_life.specs.Kept.{new_track}
-use Rattle.af_normal.specs.Making.{TrackList, IsMade, AreNew, setting_of}
+use Rattle.af_life.specs.Kept.{new_track, new_normal}
+use Rattle.af_normal.specs.Making.{TrackList, IsMade, AreNew}
 use Rattle.af_normal.specs.Meeting.{AreClientsOf}
 use Rattle.af_normal.specs.Mixing.{stream_at}
 use Rattle.af_normal.specs.Order.{IsInOrder as IsNormalInOrder}
-use Rattle.af_normal.specs.State.{NormalState}
+use Rattle.af_normal.specs.State.{NormalState, setup_of, kept_of}
 use Rattle.af_script.specs.Data.{ScriptData}
 use Rattle.af_script.specs.Form.{IsTrack}
 use Rattle.af_script.specs.declared.track.TrackSpec.{TrackSpec}
-use Rattle.af_session.specs.NewSession.{EndStates, AreNewEnds, IsNewSession, ends_of, tracks_of}
-use Rattle.af_session.specs.NewTracks.{IsNewLine, IsTrackAt, AreNewTracks, spec_setting}
+use Rattle.af_session.specs.NewSession.{EndStates, AreNewEnds, IsNewSession, ends_of, script_setup, tracks_of}
+use Rattle.af_session.specs.NewTracks.{AreNewTracks, spec_setting}
 use Rattle.af_session.specs.Parties.{PartyState}
 use Rattle.af_session.specs.Shares.{SharedState, AreLinksOf}
 use Rattle.af_session.specs.Together.{SessionState, AreTogether}
@@ -157,10 +157,26 @@ module _ (script : ScriptData) (shared : SharedState) (clients : List PartyState
       let to : e.to ≡ f.pipe = sym (ap (λ (x : MixerState). x.pipe) fast) in
       λ i. record { mutator = mutator i; reader = reader i; from = from i; observer = observer i; writer = writer i; to = to i }
 
+  setup_same : setup_of m ≡ script_setup script
+  setup_same =
+      let settings = settings_are script.version script.tracks shared.streams shared.commands clients tracks ts in
+      let there : setup_of m ≡ record { frames = script.frames; normal = script.normal; settings = tracks.settings } = ap setup_of made.is in
+      there ∙ (λ i. record { frames = script.frames; normal = script.normal; settings = settings i })
+
+  kept_same : kept_of m ≡ new_normal (script_setup script)
+  kept_same =
+      let settings = settings_are script.version script.tracks shared.streams shared.commands clients tracks ts in
+      let new = ends.mutator in
+      let many : replicate (length tracks.settings) new_track ≡ replicate (length (map spec_setting script.tracks)) new_track = ap (λ (xs : List Setting). replicate (length xs) new_track) settings in
+      let there : kept_of m ≡ record { tracks = replicate (length tracks.settings) new_track; draft = e.mutator.draft; dirty = e.mutator.dirty; pushed = e.mutator.past.number; last = e.mutator.past.last; ended = false } = ap kept_of made.is in
+      there ∙ (λ i. record { tracks = many i; draft = new.begins.2 i; dirty = new.idle.0 i; pushed = new.silent.0 i; last = new.begins.1 i; ended = false })
+
   pub new_session : IsNewSession script shared session
   new_session = record {
     tracks = subst (AreNewTracks script.version (length script.tracks) script.tracks shared.streams shared.commands clients) tracks_same ts;
     ends = subst (AreNewEnds script.frames script.normal shared) ends_same ends;
     normal = subst (λ (x : TrackList × EndStates). IsMade script.frames script.normal x.0 x.1.mutator x.1.reader x.1.from m) (λ i. (tracks_same i, ends_same i)) made;
+    setup = setup_same;
+    kept = kept_same;
     fast = subst (λ (x : EndStates). f ≡ made_of x.observer x.writer x.to script.cycles script.frames) ends_same fast;
   }

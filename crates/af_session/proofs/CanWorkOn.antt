@@ -1,6 +1,8 @@
 -- A client that can do its work goes on so.
 use Rattle.std.proofs.Common.{◌≡◌, ℕ, ◌+◌, ◌<◌, ◌≤◌, ◌||◌, if◌then◌else◌, Bool, true, false, List, [], ◌∷◌, Some, None, All, drop, refl, ap, sym, ◌∙◌, subst, arith}
 use Rattle.std.proofs.lemmas.List.Elements.{All-head, All-nil}
+use Rattle.af_base.specs.declared.event.ClientCall.{ClientCall}
+use Rattle.af_base.specs.Roomy.{Roomy}
 use Rattle.af_model.specs.declared.shape.Shape.{Shape}
 use Rattle.af_cblk.specs.Shape.{most_flushes}
 use Rattle.af_normal.specs.Meeting.{client_knows}
@@ -12,8 +14,8 @@ use Rattle.af_journal.specs.Clients.{Client, asked_first, new_client, next_want,
 use Rattle.af_journal.specs.Kept.{client_of}
 use Rattle.af_session.specs.Asking.{CanMake, CanSend}
 use Rattle.af_session.specs.Parties.{PartyState}
-use Rattle.af_session.specs.Works.{CanWork, IsFitting, IsFittingOp, flushes_due, flushes_to_come, frames_due}
-use Rattle.af_session.proofs.WorkLeft.{LeftBy}
+use Rattle.af_session.specs.Works.{CanWork, IsFitting, IsFittingOp, flushes_due, flushes_to_come, frames_due, frames_to_come}
+use Rattle.af_session.proofs.WorkLeft.{Left, LeftBy}
 
 -- after so many frames were written and flushes asked for
 pub work_on : (ops : List Op) (frames x y : ℕ) (p q : PartyState) → CanWork ops frames p
@@ -53,29 +55,30 @@ work_new ops frames p new enough few flushes fit none never command room =
       room = room;
     }
 
+-- nothing of what its work hangs on changed
+pub work_kept : (ops : List Op) (frames : ℕ) (p q : PartyState) → CanWork ops frames p → q.client.due ≡ p.client.due → q.client.at ≡ p.client.at → q.stream.released ≡ p.stream.released → q.stream.flushes ≡ p.stream.flushes
+    → q.stream.pass.part.shape ≡ p.stream.pass.part.shape → q.command.pass.part.shape ≡ p.command.pass.part.shape → q.calls.room ≡ p.calls.room → CanWork ops frames q
+work_kept ops frames p q can due at released flushes stream command room =
+    let s = p.stream.pass.part.shape.cells in let k = p.command.pass.part.shape.cells in
+    let P : List Want × ℕ → Type 0 = λ x. Left s k 0 0 p.client.due (drop p.client.at ops) x.0 (drop x.1 ops) in
+    let here : P (p.client.due, p.client.at) = record { frames = omega arith; flushes = omega arith; fits = λ h. h } in
+    work_on ops frames 0 0 p q can (subst P (λ i. (sym due i, sym at i)) here) (omega (arith, released)) (omega (arith, flushes)) stream command room
+
 -- its proxies learnt what the servers have done
 pub work_met : (ops : List Op) (frames : ℕ) (p : PartyState) (s k : ServerState) → CanWork ops frames p → CanWork ops frames (record p { stream = client_knows p.stream s; command = client_knows p.command k })
-work_met ops frames p s k can = record {
-  file = can.file;
-  few_frames = can.few_frames;
-  flushes = can.flushes;
-  due_fits = can.due_fits;
-  ops_fit = can.ops_fit;
-  commands = can.commands;
-  room = can.room;
-}
+work_met ops frames p s k can = work_kept ops frames p (record p { stream = client_knows p.stream s; command = client_knows p.command k }) can refl refl refl refl refl refl refl
 
 -- its command proxy alone did
 pub work_met_command : (ops : List Op) (frames : ℕ) (p : PartyState) (k : ServerState) → CanWork ops frames p → CanWork ops frames (record p { command = client_knows p.command k })
-work_met_command ops frames p k can = record {
-  file = can.file;
-  few_frames = can.few_frames;
-  flushes = can.flushes;
-  due_fits = can.due_fits;
-  ops_fit = can.ops_fit;
-  commands = can.commands;
-  room = can.room;
-}
+work_met_command ops frames p k can = work_kept ops frames p (record p { command = client_knows p.command k }) can refl refl refl refl refl refl refl
+
+-- it has ended
+pub work_end : (ops : List Op) (frames : ℕ) (p : PartyState) → CanWork ops frames p → CanWork ops frames (record p { client = record p.client { ended = true } })
+work_end ops frames p can = work_kept ops frames p (record p { client = record p.client { ended = true } }) can refl refl refl refl refl refl refl
+
+-- its calls are exchanged for others
+pub work_calls : (ops : List Op) (frames : ℕ) (p : PartyState) (calls : Roomy ClientCall) → calls.room ≡ p.calls.room → CanWork ops frames p → CanWork ops frames (record p { calls = calls })
+work_calls ops frames p calls room can = work_kept ops frames p (record p { calls = calls }) can refl refl refl refl refl refl room
 
 -- ## What is wanted next
 

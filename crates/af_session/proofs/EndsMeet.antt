@@ -1,23 +1,17 @@
 -- The ends of the two mixers meet.
-use Rattle.std.proofs.Common.{◌≡◌, ℕ, refl, sym, ap, subst, ◌∙◌}
-use Rattle.af_cblk.specs.Sides.{Made}
-use Rattle.af_fast.specs.Meets.{Others, HaveHistories, mixer_met, others_met}
+use Rattle.std.proofs.Common.{◌≡◌, sym, ap, subst, ◌∙◌}
+use Rattle.af_fast.specs.Meets.{Others, HaveHistories, mixer_met}
 use Rattle.af_fast.specs.Mixer.{MixerState, IsInOrder as IsFastInOrder, IsLinked}
 use Rattle.af_fast.proofs.Meeting.{met_order}
-use Rattle.af_link.specs.PipeEnds.{OutSide, SeesTaken, out_made}
-use Rattle.af_link.specs.Reports.{CyclesNeverFall, WriterSide}
+use Rattle.af_link.specs.PipeEnds.{OutSide}
+use Rattle.af_link.specs.Reports.{WriterSide}
 use Rattle.af_link.specs.declared.links.Links.{Links}
 use Rattle.af_link.specs.declared.names.StreamNames.{StreamNames}
-use Rattle.af_model.specs.NewestValue.{HasHistory as HasReportHistory}
-use Rattle.af_model.specs.PipeHistory.{HasPipeHistory}
-use Rattle.af_model.specs.Reports.{no_report}
-use Rattle.af_model.specs.StateQueue.{HasHistory as HasQueueHistory}
 use Rattle.af_normal.specs.Meeting.{ends_met, observer_met, out_met, queue_met, writer_met}
 use Rattle.af_normal.specs.State.{NormalState}
 use Rattle.af_server.specs.Order.{ServerState}
-use Rattle.af_stateq.specs.Mutates.{Mutates}
 use Rattle.af_stateq.specs.Observes.{Observes}
-use Rattle.af_session.specs.Met.{EndsMet, Proxies, ends_of, proxies_of, with_ends}
+use Rattle.af_session.specs.Met.{EndsMet, ends_of}
 
 module _ (links : Links) (m m1 n : NormalState) (f : MixerState) (o : Observes ServerState StreamNames) (w : WriterSide) (out : OutSide) (queued : m1 ≡ queue_met m f.observer) (observed : o ≡ observer_met m f.observer)
     (ended : n ≡ ends_met m1 f.writer f.pipe) (wrote : (w ≡ writer_met m1 f.writer) × (out ≡ out_met m1 f.pipe)) where
@@ -30,31 +24,9 @@ module _ (links : Links) (m m1 n : NormalState) (f : MixerState) (o : Observes S
       let pipe = wrote.1 ∙ ap (λ (y : NormalState). out_met y f.pipe) queued in
       λ i. record f { observer = observed i; writer = writer i; pipe = pipe i }
 
-  normal_is : n ≡ with_ends m (others_met f (ends_of m))
-  normal_is = ended ∙ ap (λ (y : NormalState). ends_met y f.writer f.pipe) queued
-
   -- the fast mixer stays in order
   pub fast_order : IsFastInOrder f × IsLinked links f → IsFastInOrder g × IsLinked links g
   fast_order k = subst (λ (y : MixerState). IsFastInOrder y × IsLinked links y) (sym fast_is) (met_order f (ends_of m) k.0, k.1)
-
-  -- no proxy changed
-  pub same_proxies : proxies_of n g ≡ proxies_of m f
-  same_proxies = λ i. record { streams = (normal_is i).streams; commands = (normal_is i).commands; hands = (normal_is i).hands; items = (fast_is i).observer.items }
-
-  -- what the meetings say of the lists
-  pub ends_meet : IsFastInOrder f × IsLinked links f → HasQueueHistory m1.mutator.past.first m1.mutator.past.events o.past.events → HasReportHistory no_report w.events n.reader.events → CyclesNeverFall w.events 0 n.reader.events
-      → HasPipeHistory links.pipe.now.shape.frames n.pipe.pass.part.events n.pipe.pass.part.frames out.pass.part.events out.pass.part.frames → SeesTaken 0 out.pass.part.events → EndsMet m n f g
-  ends_meet k queue report older pipe fronts = record {
-    normal = subst (λ (y : NormalState). y ≡ record (with_ends m (others_met f (ends_of m))) { streams = y.streams; commands = y.commands; hands = y.hands }) (sym normal_is) refl;
-    fast = subst (λ (y : MixerState). y ≡ record (mixer_met f (ends_of m)) { observer = record (mixer_met f (ends_of m)).observer { items = y.observer.items } }) (sym fast_is) refl;
-    histories = record {
-      queue = subst (λ (y : Mutates ServerState StreamNames). HasQueueHistory y.past.first y.past.events o.past.events) (sym (ap (λ (y : NormalState). y.mutator) ended)) queue;
-      report = report;
-      never_older = older;
-      pipe = subst (λ (b : Made). HasPipeHistory b.shape.frames n.pipe.pass.part.events n.pipe.pass.part.frames out.pass.part.events out.pass.part.frames) (sym (fast_order k).1.pipe_is) pipe;
-      fronts = fronts;
-    };
-  }
 
 -- what the meetings of proxies leave of those of the ends
 module _ (m n n' : NormalState) (f g g' : MixerState) (met : EndsMet m n f g) (normal : n' ≡ record n { streams = n'.streams; commands = n'.commands; hands = n'.hands })

@@ -218,3 +218,11 @@ sounds_again count s s' bytes bytes' before t same =
     ∙ sym (append_assoc before bytes.items t.added)
     ∙ ap (λ (l : List ℕ). l ++ t.added) same
     ∙ sym t.adds.grows.sound
+
+-- the frames that the log's mixes name lie in it after the meetings, too
+pub whole_met : (a b : SessionState) → Met a b → IsWhole a.fast.log → IsWhole b.fast.log
+whole_met a b met whole = subst IsWhole (sym (met_keeps a b met).0) whole
+
+-- and in an empty log, since it names none
+pub whole_new : (log : Logged) → log.entries ≡ [] → IsWhole log
+whole_new log none = subst (All (LieWithin log.frames)) (sym none) (All-nil (LieWithin log.frames))

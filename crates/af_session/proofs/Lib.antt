@@ -1,6 +1,6 @@
 mod MadeCalls
 mod WorkLeft
-pub mod CanWorkOn
+mod CanWorkOn
 mod Legal
 mod StepMade
 mod TurnMade
@@ -8,6 +8,7 @@ mod EndsMeet
 mod MetAway
 mod MetSlots
 mod MetSpot
+mod MetStays
 mod MetTracks
 mod FastAdds
 mod FastChains
@@ -18,3 +19,7 @@ pub mod NewWork
 pub mod MoreTracks
 pub mod Begins
 mod Tallying
+pub mod Ready
+mod ClientRounds
+mod NormalRounds
+mod MapMore

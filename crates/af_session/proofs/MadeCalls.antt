@@ -6,11 +6,12 @@ use Rattle.af_base.specs.declared.event.ClientCall.{ClientCall}
 use Rattle.af_base.specs.declared.event.ClientCall.TheVariants as call
 use Rattle.af_base.specs.declared.frame.Frame.{Frame}
 use Rattle.af_base.specs.Sample.{packed_word}
-use Rattle.af_client.specs.Order.{ClientState}
+use Rattle.af_cblk.specs.Sides.{Made}
+use Rattle.af_client.specs.Order.{ClientState, IsClientOf}
 use Rattle.af_journal.specs.declared.want.Want.{Want}
 use Rattle.af_journal.specs.Clients.{Client}
 use Rattle.af_journal.specs.ClientTurns.{AnswersOn, IsWanted, Side, Track, asked_by, called, is_of_commands, is_write, released_by, with_call}
-use Rattle.af_session.specs.Asking.{Asked, Makes, flushed_by, grown_by, track_with, written_by}
+use Rattle.af_session.specs.Asking.{Asked, HasBlocks, Makes, flushed_by, grown_by, track_with, written_by}
 use Rattle.af_session.specs.Parties.{PartyState, side_of_proxy}
 use Rattle.af_session.specs.Turning.{IsMadeBy}
 
@@ -72,6 +73,16 @@ made_on_commands file asked answer words p d does spelled = record {
   written = omega (arith, command-written answer does.on);
   commands = omega (arith, does.released, command-grown answer does.on);
 }
+
+-- ## The blocks
+
+-- the stream's proxy alone changed
+pub blocks_stream : (stream command : Made) (p q : PartyState) → q ≡ (record p { stream = q.stream }) → HasBlocks stream command p → IsClientOf stream q.stream → HasBlocks stream command q
+blocks_stream stream command p q same old new = (new, subst (IsClientOf command) (sym (ap (λ (x : PartyState). x.command) same)) old.1)
+
+-- the command proxy alone changed
+pub blocks_command : (stream command : Made) (p q : PartyState) → q ≡ (record p { command = q.command }) → HasBlocks stream command p → IsClientOf command q.command → HasBlocks stream command q
+blocks_command stream command p q same old new = (subst (IsClientOf stream) (sym (ap (λ (x : PartyState). x.stream) same)) old.0, new)
 
 -- ## What was wanted
 

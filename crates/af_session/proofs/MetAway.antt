@@ -1,6 +1,6 @@
 -- The client of a stream whose proxy isn't home meets what is there.
-use Rattle.std.proofs.Common.{◌≡◌, ◌≢◌, ℕ, ◌<◌, true, true≢false, is_some, List, length, slice_get, slice_set, slice_index_or, Option, Some, None, refl, sym, ap, subst, ◌∙◌, get_or-set_same, get_or-set_other, arith}
-use Rattle.std.proofs.lemmas.Option.{get_or_from_slice_get, same_Some}
+use Rattle.std.proofs.Common.{◌≡◌, ◌≢◌, ℕ, ◌<◌, true, true≢false, is_some, List, slice_get, Option, Some, None, refl, sym, ap, subst, ◌∙◌, get_or-set_same, get_or-set_other, arith}
+use Rattle.std.proofs.lemmas.Option.{same_Some}
 use Rattle.af_cblk.specs.Sides.{HandSide, Made, client_made, hand_made, server_made}
 use Rattle.af_client.specs.Order.{ClientState, IsInOrder as IsClientInOrder}
 use Rattle.af_fast.specs.Meets.{AreOfBlockOf, MeetsHeld, server_met}
@@ -14,16 +14,16 @@ use Rattle.af_normal.specs.Meeting.{MeetsAll}
 use Rattle.af_server.specs.Order.{ServerState}
 use Rattle.af_stateq.specs.Mutates.{at}
 use Rattle.af_stateq.specs.Observes.{Observes}
-use Rattle.af_session.specs.Met.{MeetsAway, MeetsFlag, item_at, slot_for}
+use Rattle.af_session.specs.Met.{MeetsAway, item_at, slot_for}
 use Rattle.af_session.proofs.MetSlots.{slot_is}
 
--- where none is held for the track the hand alone met
-pub flag_met : (block : Made) (items : List (Option ServerState)) (o : Option ℕ) (h g : HandSide) (c d : ClientState) → o ≡ None → MeetsFlag block c d h g → MeetsAway block (item_at items o) h c (item_at items o) g d
-flag_met block items o h g c d none m = subst (λ (y : Option ℕ). MeetsAway block (item_at items y) h c (item_at items y) g d) (sym none) (refl, m)
-
--- the block of the track is that of its client
-pub block_at : (blocks : List Made) (track : ℕ) (c : ClientState) (b : Made) → slice_get blocks track ≡ Some (client_made c.pass) → b ≡ slice_index_or blocks track b → client_made c.pass ≡ b
-block_at blocks track c b is at_track = sym (get_or_from_slice_get blocks track (client_made c.pass) b is) ∙ sym at_track
+-- what the meeting of a stream whose proxy isn't home comes to
+pub record MeetsThere (f : MixerState) (track : ℕ) (c : ClientState) (h : HandSide) (f' : MixerState) (c' : ClientState) (h' : HandSide) : Type 0 where
+  pub stream : (client_made c'.pass ≡ client_made c.pass) × IsClientInOrder c'
+  pub hand : hand_made h' ≡ hand_made h
+  pub same : f' ≡ record f { observer = record f.observer { items = f'.observer.items } }
+  pub met : let slot = slot_for f.observer.past.state track in MeetsAway (client_made c.pass) (item_at f.observer.items slot) h c (item_at f'.observer.items slot) h' c'
+  pub others : (k : ℕ) → slot_for f.observer.past.state track ≢ Some k → at f'.observer.items k ≡ at f.observer.items k
 
 some_of : (o : Option ServerState) → is_some o ≡ true → (s : ServerState) × (o ≡ Some s)
 some_of None e = absurd (true≢false (sym e))
@@ -95,3 +95,15 @@ module _ (links : Links) (f : MixerState) (track slot : ℕ) (c : ClientState) (
 
     pub hand_after : hand_made h' ≡ hand_made h
     hand_after = let m = met is_held.0 is_held.1 in m.others.1 ∙ sym (same_block is_held.0 is_held.1) ∙ sym hand
+
+    -- all of this
+    pub there : MeetsThere f track c h f' c' h'
+    there = record { stream = client_after; hand = hand_after; same = only_items; met = away_met; others = other_items }
+
+-- the same of a mixer and a hand that were lent
+pub held_there : (links : Links) (f f1 f' : MixerState) (track slot : ℕ) (c c' : ClientState) (h h1 h' : HandSide) → f1 ≡ f → h1 ≡ h → IsFastInOrder f × IsLinked links f → (slice_get links.streams.now track ≡ Some (client_made c.pass)) × IsClientInOrder c
+    → hand_made h ≡ client_made c.pass → slot_for f.observer.past.state track ≡ Some slot → f' ≡ record f1 { observer = f'.observer }
+    → ((s : ServerState) → at f1.observer.items slot ≡ Some s → MeetsHeld slot s f1.observer c h1 f'.observer c' h') → MeetsThere f track c h f' c' h'
+held_there links f f1 f' track slot c c' h h1 h' same flag order stream hand found only met =
+    there links f track slot c h order stream hand found f' c' h' (subst (λ (y : MixerState). f' ≡ record y { observer = f'.observer }) same only)
+    (subst (λ (y : MixerState × HandSide). (s : ServerState) → at y.0.observer.items slot ≡ Some s → MeetsHeld slot s y.0.observer c y.1 f'.observer c' h') (λ i. (same i, flag i)) met)

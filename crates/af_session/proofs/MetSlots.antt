@@ -1,6 +1,6 @@
 -- The slot in which a state carries the proxy of a track.
-use Rattle.std.proofs.Common.{◌≡◌, ◌≢◌, ℕ, zero, suc, ◌<◌, ◌≤◌, ◌==◌, ◌⊎◌, inl, inr, Bool, true, false, if◌then◌else◌, List, Option, Some, None, refl, sym, ap, subst, ◌∙◌, arith}
-use Rattle.std.proofs.lemmas.Bool.{and_left, and_parts, cases_eq, eqb-true}
+use Rattle.std.proofs.Common.{◌≡◌, ◌≢◌, ℕ, zero, suc, ◌<◌, ◌≤◌, ◌==◌, ◌⊎◌, inl, inr, Bool, true, false, true≢false, if◌then◌else◌, List, Option, Some, None, refl, sym, ap, subst, ◌∙◌, ⊎_elim, arith}
+use Rattle.std.proofs.lemmas.Bool.{and_from, and_left, and_parts, cases_eq, eq-eqb, eqb-true}
 use Rattle.std.proofs.lemmas.Option.{none-some, same_Some}
 use Rattle.af_base.specs.declared.state.FastState.{FastState}
 use Rattle.af_base.specs.Log.{slots}
@@ -59,6 +59,30 @@ module _ (x : FastState) (track : ℕ) where
   unfolding slot_for
   slot_is k is = let b = below_is slots k is in let parts = and_parts (carries x k) ((slot_of x k).track == track) b.1 in
       (b.0, parts.0, eqb-true (slot_of x k).track track parts.1)
+
+  none_of : (n k : ℕ) (o : Option ℕ) (b : Bool) → slot_below x track n ≡ o → is_slot_of x track n ≡ b → or_else o (if b then Some n else None) ≡ None → (slot_below x track n ≡ None) × (is_slot_of x track n ≡ false)
+  none_of n k (Some j) b found here is = absurd (none-some j (sym is))
+  none_of n k None true found here is = absurd (none-some n (sym is))
+  none_of n k None false found here is = (found, here)
+
+  none_at : (n k : ℕ) → slot_below x track n ≡ None → k < n → is_slot_of x track k ≡ false
+  none_at zero k none lt = absurd (omega (arith, lt))
+  none_at (suc n) k none lt =
+      let before = none_of n k (slot_below x track n) (is_slot_of x track n) refl refl none in
+      ⊎_elim (λ (e : k ≡ n). subst (λ (j : ℕ). is_slot_of x track j ≡ false) (sym e) before.1) (λ (ne : k ≢ n). none_at n k before.0 (omega (arith, lt, ne))) (cases_eq k n)
+
+  -- where none is found no slot carries the track
+  pub none_there : slot_for x track ≡ None → (k : ℕ) → k < slots → is_slot_of x track k ≡ false
+  unfolding slot_for
+  none_there none k lt = none_at slots k none lt
+
+  only_by : (k : ℕ) (o : Option ℕ) → slot_for x track ≡ o → k < slots → is_slot_of x track k ≡ true → ((j : ℕ) → j < slots → is_slot_of x track j ≡ true → j ≡ k) → slot_for x track ≡ Some k
+  only_by k None is lt carried only = absurd (true≢false (sym carried ∙ none_there is k lt))
+  only_by k (Some j) is lt carried only = let s = slot_is j is in is ∙ ap (λ (n : ℕ). Some n) (only j s.0 (and_from (carries x j) ((slot_of x j).track == track) s.1 (eq-eqb (slot_of x j).track track s.2)))
+
+  -- a slot that alone carries it is found
+  pub only_slot : (k : ℕ) → k < slots → is_slot_of x track k ≡ true → ((j : ℕ) → j < slots → is_slot_of x track j ≡ true → j ≡ k) → slot_for x track ≡ Some k
+  only_slot k lt carried only = only_by k (slot_for x track) refl lt carried only
 
   none_below : CarriesNone x → (n : ℕ) → n ≤ slots → slot_below x track n ≡ None
   none_below none zero le = refl

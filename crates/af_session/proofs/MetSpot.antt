@@ -1,29 +1,18 @@
 -- What the meetings of one track come to.
-use Rattle.std.proofs.Common.{◌≡◌, ◌≢◌, ℕ, zero, suc, ◌<◌, ◌≤◌, Bool, true, false, true≢false, is_some, List, length, length-set, slice_get, slice_set, Option, Some, None, refl, sym, ap, subst, ◌∙◌, get_or-set_other, arith}
+use Rattle.std.proofs.Common.{◌≡◌, ◌≢◌, ℕ, ◌<◌, true, false, true≢false, is_some, List, length, slice_get, slice_set, Option, Some, None, refl, sym, ap, subst, ◌∙◌, get_or-set_other}
 use Rattle.std.proofs.lemmas.Option.{slice_get_within}
 use Rattle.af_base.specs.declared.state.FastState.{FastState}
 use Rattle.af_cblk.specs.Sides.{HandSide, Made, client_made}
 use Rattle.af_client.specs.Order.{ClientState}
-use Rattle.af_life.specs.Kept.{is_home, track_at}
 use Rattle.af_link.specs.declared.links.Links.{Links}
 use Rattle.af_normal.specs.Meeting.{MeetsStream, MeetsTrack}
 use Rattle.af_normal.specs.Mixing.{stream_at}
-use Rattle.af_normal.specs.Order.{IsInOrder}
-use Rattle.af_normal.specs.State.{NormalState}
 use Rattle.af_normal.proofs.LegalLists.{get_set_same, get_set_other}
 use Rattle.af_server.specs.Order.{ServerState}
 use Rattle.af_stateq.specs.Mutates.{at}
 use Rattle.af_session.specs.Met.{MeetsAway, Proxies, Spot, SpotMet, TrackMet, item_at, slot_for, spot_of}
 use Rattle.af_session.specs.Parties.{PartyState}
 use Rattle.af_session.proofs.MetSlots.{held_other}
-
--- a proxy that isn't home has a hand
-pub has_hand : (links : Links) (m : NormalState) (i : ℕ) → IsInOrder links m → i < length m.tracks → is_home (track_at m.tracks i).holder ≡ false → i < length m.hands
-has_hand links m i o inside away = by_turns m.turns refl
-  where
-    by_turns : (n : ℕ) → m.turns ≡ n → i < length m.hands
-    by_turns zero e = absurd (true≢false (sym ((o.none_yet e).home i) ∙ away))
-    by_turns (suc n) e = let l = (o.hands (omega arith)).whole in omega (arith, inside, l)
 
 -- at home
 at_home : (block : Made) (o : Option ServerState) (a b : Spot) (c d : ClientState) → is_some o ≡ true → b.held ≡ a.held → MeetsStream block o a.hand c b.stream b.hand d → SpotMet block o a c b d

@@ -1,5 +1,5 @@
 -- How the meeting of a track adds to those of the tracks before it.
-use Rattle.std.proofs.Common.{◌≡◌, ◌≢◌, ℕ, zero, suc, ◌+◌, ◌<◌, ◌≤◌, ◌⊎◌, inl, inr, List, length, length-set, slice_get, slice_set, Option, Some, None, refl, sym, ap, subst, ◌∙◌, ⊎_elim, arith}
+use Rattle.std.proofs.Common.{◌≡◌, ◌≢◌, ℕ, ◌+◌, ◌<◌, ◌⊎◌, inl, inr, List, length, length-set, slice_get, slice_set, Option, Some, None, refl, sym, ap, subst, ◌∙◌, ⊎_elim, arith}
 use Rattle.std.proofs.lemmas.Bool.{cases_eq}
 use Rattle.std.proofs.lemmas.Option.{none-some, same_Some, slice_get_within}
 use Rattle.af_base.specs.declared.state.FastState.{FastState}
@@ -9,6 +9,7 @@ use Rattle.af_normal.specs.Meeting.{AreClientsOf}
 use Rattle.af_normal.specs.Order.{IsInOrder as IsNormalInOrder}
 use Rattle.af_normal.specs.State.{NormalState}
 use Rattle.af_normal.proofs.LegalLists.{get_set_same, get_set_other}
+use Rattle.af_server.specs.Order.{ServerState}
 use Rattle.af_stateq.specs.Mutates.{at}
 use Rattle.af_session.specs.Met.{ItemStays, Proxies, Spot, TrackMet, TracksMet, slot_for, spot_of}
 use Rattle.af_session.specs.Parties.{PartyState}
@@ -84,3 +85,13 @@ module _ (links : Links) (clients : List PartyState) (m m' : NormalState) (f f' 
         (λ (ne : i ≢ n). t.clients i r (there i r ne at_i))
         (cases_eq i n));
   }
+
+-- a meeting that speaks of another value of the observer's state, and of the client's own number
+pub met_by_number : (x y : FastState) (i k : ℕ) (a b : Proxies) (p q : PartyState) → x ≡ y → i ≡ k → TrackMet (spot_of x a i) (spot_of x b i) p q → TrackMet (spot_of y a k) (spot_of y b k) p q
+met_by_number x y i k a b p q state number met = subst (λ (z : FastState × ℕ). TrackMet (spot_of z.0 a z.1) (spot_of z.0 b z.1) p q) (λ j. (state j, number j)) met
+
+pub others_by_number : (x y : FastState) (i k : ℕ) (a b : Proxies) → x ≡ y → i ≡ k → ((j : ℕ) → j ≢ i → spot_of x b j ≡ spot_of x a j) → (j : ℕ) → j ≢ k → spot_of y b j ≡ spot_of y a j
+others_by_number x y i k a b state number others = subst (λ (z : FastState × ℕ). (j : ℕ) → j ≢ z.1 → spot_of z.0 b j ≡ spot_of z.0 a j) (λ j. (state j, number j)) others
+
+pub items_by_number : (x y : FastState) (i k : ℕ) (items items' : List (Option ServerState)) → x ≡ y → i ≡ k → ((n : ℕ) → slot_for x i ≢ Some n → at items' n ≡ at items n) → (n : ℕ) → slot_for y k ≢ Some n → at items' n ≡ at items n
+items_by_number x y i k items items' state number others = subst (λ (z : FastState × ℕ). (n : ℕ) → slot_for z.0 z.1 ≢ Some n → at items' n ≡ at items n) (λ j. (state j, number j)) others

@@ -1,10 +1,9 @@
 -- One track more, each with its parts at its place.
-use Rattle.std.proofs.Common.{◌≡◌, ℕ, zero, suc, ◌+◌, ◌<◌, ◌⊎◌, inl, inr, List, [], ◌∷◌, ◌++◌, length, Option, Some, None, refl, sym, ap, ◌∙◌, subst, arith}
+use Rattle.std.proofs.Common.{◌≡◌, ℕ, zero, suc, ◌+◌, ◌<◌, ◌⊎◌, inl, inr, List, [], ◌∷◌, ◌++◌, length, Some, None, refl, sym, ◌∙◌, subst, arith}
 use Rattle.std.specs.Prelude.{slice_get}
 use Rattle.std.proofs.lemmas.Bool.{cases_eq}
 use Rattle.std.proofs.lemmas.List.{length-append, get_or_append_left, get_or_at}
 use Rattle.af_cblk.specs.Sides.{Made}
-use Rattle.af_server.specs.Order.{ServerState}
 use Rattle.af_normal.specs.Making.{TrackList, setting_of, with_track}
 use Rattle.af_normal.specs.declared.make.TrackSetup.{TrackSetup}
 use Rattle.af_script.specs.declared.track.TrackSpec.{TrackSpec}

@@ -1,15 +1,18 @@
 -- A client that has done nothing can do its work.
-use Rattle.std.proofs.Common.{◌≡◌, ℕ, ◌+◌, ◌≤◌, true, false, List, [], ◌∷◌, length, drop, refl, sym, ap, ◌∙◌, subst, arith}
+use Rattle.std.proofs.Common.{◌≡◌, ℕ, ◌≤◌, true, false, List, [], ◌∷◌, length, map, drop, sym, ap, subst, arith}
 use Rattle.std.specs.Prelude.{All}
 use Rattle.std.proofs.lemmas.List.Elements.{All-nil}
 use Rattle.af_base.specs.declared.event.ClientCall.{ClientCall}
+use Rattle.af_base.specs.declared.frame.Frame.{Frame}
 use Rattle.af_base.specs.Roomy.{Roomy}
+use Rattle.af_base.specs.Sample.{packed_word}
 use Rattle.af_cblk.specs.Shape.{IsShape, most_flushes}
 use Rattle.af_cblk.specs.declared.view.ClientPart.{ClientPart}
 use Rattle.af_cblk.proofs.Flushes.{most-many}
 use Rattle.af_cblk.proofs.Sized.{wrapped_by}
 use Rattle.af_model.specs.declared.shape.Shape.{Shape}
 use Rattle.af_journal.specs.Clients.{Client, new_client as new_wants}
+use Rattle.af_journal.specs.ClientTurns.{Side}
 use Rattle.af_journal.specs.Kept.{client_of}
 use Rattle.af_journal.specs.declared.want.Want.{Want}
 use Rattle.af_script.specs.Form.{HasOpNumbers, IsTrack}
@@ -17,9 +20,12 @@ use Rattle.af_script.specs.Ops.{cells_of}
 use Rattle.af_script.specs.declared.op.Op.{Op}
 use Rattle.af_script.specs.declared.op.Op.TheVariants as op
 use Rattle.af_script.specs.declared.track.TrackSpec.{TrackSpec}
-use Rattle.af_session.specs.NewTracks.{IsNewClient, IsNewParty, stream_shape, command_shape}
-use Rattle.af_session.specs.Parties.{PartyState}
+use Rattle.af_session.specs.NewTracks.{IsNewClient, IsNewParty, stream_shape, command_shape, new_side, first_track}
+use Rattle.af_session.specs.Parties.{PartyState, side_of_proxy, track_of}
 use Rattle.af_session.specs.Works.{CanWork, IsFitting, IsFittingOp, frames_due, frames_to_come, flushes_due, flushes_to_come}
+
+abbrev side_of_part : ClientPart → Side
+side_of_part part = record { shape = part.shape; events = part.events; released = part.frames }
 
 -- there are no more flushes than ops
 flushes_few : (ops : List Op) → flushes_to_come ops ≤ length ops
@@ -83,5 +89,11 @@ module _ (version : ℕ) (spec : TrackSpec) (p : PartyState) (track : IsTrack sp
         room = ap (λ (r : Roomy ClientCall). r.room) calls;
       }
 
+  first : (file : List Frame) → track_of spec.ops file p ≡ first_track version spec file
+  first file =
+      let stream_side : side_of_proxy p.stream ≡ new_side (stream_shape version spec) = ap side_of_part stream.part in
+      let command_side : side_of_proxy p.command ≡ new_side command_shape = ap side_of_part command.part in
+      λ i. record { file = map packed_word file; client = wants spec.ops i; stream = stream_side i; commands = command_side i }
+
   pub new_party : (place : ℕ) → p.track ≡ place → IsNewParty version place spec p
-  new_party place is = record { place_is = is; wants = wants; stream = stream; command = command; calls = calls; work = can_work }
+  new_party place is = record { place_is = is; wants = wants; stream = stream; command = command; calls = calls; track = first; work = can_work }

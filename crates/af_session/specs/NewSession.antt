@@ -10,8 +10,9 @@ use Rattle.af_link.specs.Reports.{ReaderSide, WriterSide}
 use Rattle.af_link.specs.declared.names.StreamNames.{StreamNames}
 use Rattle.af_fast.specs.Fits.{stream_fits}
 use Rattle.af_fast.specs.Mixer.{made_of}
+use Rattle.af_life.specs.Kept.{Setup, new_normal}
 use Rattle.af_normal.specs.Making.{TrackList, IsMade}
-use Rattle.af_normal.specs.State.{NormalState}
+use Rattle.af_normal.specs.State.{NormalState, setup_of, kept_of}
 use Rattle.af_script.specs.Data.{ScriptData}
 use Rattle.af_session.specs.NewTracks.{spec_setting, AreNewTracks}
 use Rattle.af_session.specs.Shares.{SharedState}
@@ -52,9 +53,15 @@ ends_of s = record { mutator = s.normal.mutator; reader = s.normal.reader; from 
 abbrev pub tracks_of : ScriptData → NormalState → TrackList
 tracks_of script m = record { settings = map spec_setting script.tracks; streams = m.streams; commands = m.commands }
 
+-- what the normal mixer is made of
+abbrev pub script_setup : ScriptData → Setup
+script_setup script = record { frames = script.frames; normal = script.normal; settings = map spec_setting script.tracks }
+
 -- A session of a script before its first turn, over these shared objects
 pub record IsNewSession (script : ScriptData) (shared : SharedState) (s : SessionState) : Type 0 where
   pub tracks : AreNewTracks script.version (length script.tracks) script.tracks shared.streams shared.commands s.clients (tracks_of script s.normal)
   pub ends : AreNewEnds script.frames script.normal shared (ends_of s)
   pub normal : IsMade script.frames script.normal (tracks_of script s.normal) s.normal.mutator s.normal.reader s.normal.pipe s.normal
+  pub setup : setup_of s.normal ≡ script_setup script
+  pub kept : kept_of s.normal ≡ new_normal (script_setup script)
   pub fast : s.fast ≡ made_of s.fast.observer s.fast.writer s.fast.pipe script.cycles script.frames

@@ -1,5 +1,7 @@
 -- What the parts of a track are before anything was done on them.
-use Rattle.std.specs.Prelude.{◌≡◌, ℕ, ◌*◌, ◌<◌, ◌≤◌, ◌==◌, if◌then◌else◌, true, List, [], length, slice_get, Some, None}
+use Rattle.std.specs.Prelude.{◌≡◌, ℕ, ◌*◌, ◌<◌, ◌≤◌, ◌==◌, if◌then◌else◌, true, List, [], length, map, slice_get, Some, None}
+use Rattle.af_base.specs.declared.frame.Frame.{Frame}
+use Rattle.af_base.specs.Sample.{packed_word}
 use Rattle.af_cblk.specs.Rule.{new_client, new_server}
 use Rattle.af_cblk.specs.Shape.{IsShape}
 use Rattle.af_cblk.specs.Sides.{Made}
@@ -7,6 +9,7 @@ use Rattle.af_client.specs.Order.{ClientState, IsClientOf}
 use Rattle.af_server.specs.Order.{ServerState, IsServerOf}
 use Rattle.af_model.specs.declared.shape.Shape.{Shape}
 use Rattle.af_journal.specs.Clients.{new_client as new_wants}
+use Rattle.af_journal.specs.ClientTurns.{Side, Track}
 use Rattle.af_journal.specs.Kept.{client_of}
 use Rattle.af_life.specs.declared.kept.Setting.{Setting}
 use Rattle.af_normal.specs.Making.{TrackList, setting_of}
@@ -15,7 +18,7 @@ use Rattle.af_normal.specs.declared.make.TrackSetup.{TrackSetup}
 use Rattle.af_script.specs.Ops.{cells_of}
 use Rattle.af_script.specs.declared.op.Op.{Op}
 use Rattle.af_script.specs.declared.track.TrackSpec.{TrackSpec}
-use Rattle.af_session.specs.Parties.{PartyState}
+use Rattle.af_session.specs.Parties.{PartyState, track_of}
 use Rattle.af_session.specs.Works.{CanWork, frames_to_come}
 
 -- the sizes of the stream's block of a track: from version 2 on its flushes carry their positions
@@ -29,6 +32,14 @@ command_shape = record { frames = 128; cells = 128; base = 0; wrap = 0 }
 -- how a track is mixed
 abbrev pub spec_setting : TrackSpec → Setting
 spec_setting spec = record { fast = spec.fast; mono = spec.mono; scale = spec.scale }
+
+-- a client's side of a block of these sizes on which it has done nothing
+abbrev pub new_side : Shape → Side
+new_side shape = record { shape = shape; events = []; released = [] }
+
+-- the track of a client that has done nothing, with the file of these frames
+abbrev pub first_track : ℕ → TrackSpec → List Frame → Track
+first_track version spec file = record { file = map packed_word file; client = new_wants spec.ops; stream = new_side (stream_shape version spec); commands = new_side command_shape }
 
 -- nothing was done by a client on a block of these sizes
 pub record IsNewClient (shape : Shape) (c : ClientState) : Type 0 where
@@ -57,6 +68,7 @@ pub record IsNewParty (version place : ℕ) (spec : TrackSpec) (p : PartyState) 
   pub stream : IsNewClient (stream_shape version spec) p.stream
   pub command : IsNewClient command_shape p.command
   pub calls : p.calls ≡ record { items = []; room = 64 }
+  pub track : (file : List Frame) → track_of spec.ops file p ≡ first_track version spec file
   pub work : (frames : ℕ) → frames_to_come spec.ops ≤ frames → frames ≤ 4194304 → CanWork spec.ops frames p
 
 -- the two blocks of a track by its place, its client, and what the normal mixer gets

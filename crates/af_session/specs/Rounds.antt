@@ -25,8 +25,12 @@ pub record Given : Type 0 where
   pub files : List (List Frame)
 
 -- the ops of a track, and the frames of its file
+abbrev pub ops_of : Option TrackSpec → List Op
+ops_of None = []
+ops_of (Some t) = t.ops
+
 abbrev pub ops_at : Given → ℕ → List Op
-ops_at g i = elim (slice_get g.tracks i) as (λ o. List Op) [ None ↦ [] | Some t ↦ t.ops ]
+ops_at g i = ops_of (slice_get g.tracks i)
 
 abbrev pub file_at : Given → ℕ → List Frame
 file_at g i = slice_index_or g.files i []

@@ -34,9 +34,9 @@ pub record Rests (ops : List Op) (file : List Frame) (p q : PartyState) : Type 0
   pub track : track_of ops file q ≡ (let t = track_of ops file p in record t { client = at_next_turn false t.client })
 
 -- a call was made, or the turn has ended
-abbrev pub Steps : List Op → List Frame → Bool → PartyState → PartyState → Type 0
-Steps ops file true p q = Calls ops file p q
-Steps ops file false p q = Rests ops file p q
+abbrev pub Stepped : List Op → List Frame → Bool → PartyState → PartyState → Type 0
+Stepped ops file true p q = Calls ops file p q
+Stepped ops file false p q = Rests ops file p q
 
 -- a whole turn was made
 pub record IsTurned (ops : List Op) (file : List Frame) (p q : PartyState) : Type 0 where

@@ -77,20 +77,20 @@ fn turns<L: Ledger>(
 fn does<L: Ledger>(
     party: &mut Party,
     servers: &mut (Server, Server),
-    blocks: (&Block, &Block),
+    stream: &Block,
+    command: &Block,
     ops: &[Op],
     file: &[Frame],
     step: &Step,
     steps: &mut Steps<L>,
 ) -> bool
-    requires blocks { HasBlocks blocks.0.now blocks.1.now party.old }
+    requires blocks { HasBlocks stream.now command.now party.old }
     requires work { CanWork ops.now (length file.now) party.old }
-    requires servers { IsServerOf blocks.0.now servers.old.0 × IsServerOf blocks.1.now servers.old.1 }
-    ensures blocks { HasBlocks blocks.0.now blocks.1.now party.new }
+    requires servers { IsServerOf stream.now servers.old.0 × IsServerOf command.now servers.old.1 }
+    ensures blocks { HasBlocks stream.now command.now party.new }
     ensures work { CanWork ops.now (length file.now) party.new }
-    ensures servers { IsServerOf blocks.0.now servers.new.0 × IsServerOf blocks.1.now servers.new.1 }
+    ensures servers { IsServerOf stream.now servers.new.0 × IsServerOf command.now servers.new.1 }
 {
-    let (stream, command) = blocks;
     match *step {
         Step::Turn(calls) => {
             turns(party, stream, command, ops, file, steps) && party.calls.as_slice() == calls
@@ -123,18 +123,28 @@ fn does<L: Ledger>(
 fn all_do<L: Ledger>(
     mut party: Party,
     mut servers: (Server, Server),
-    blocks: (&Block, &Block),
+    stream: &Block,
+    command: &Block,
     ops: &[Op],
     file: &[Frame],
     table: &[Step],
     steps: &mut Steps<L>,
 ) -> bool
-    requires blocks { HasBlocks blocks.0.now blocks.1.now party }
+    requires blocks { HasBlocks stream.now command.now party }
     requires work { CanWork ops.now (length file.now) party }
-    requires servers { IsServerOf blocks.0.now servers.0 × IsServerOf blocks.1.now servers.1 }
+    requires servers { IsServerOf stream.now servers.0 × IsServerOf command.now servers.1 }
 {
     for step in table {
-        if !does(&mut party, &mut servers, blocks, ops, file, step, steps) {
+        if !does(
+            &mut party,
+            &mut servers,
+            stream,
+            command,
+            ops,
+            file,
+            step,
+            steps,
+        ) {
             return false;
         }
     }
@@ -170,13 +180,7 @@ fn plays_in<L: Ledger>(
         Server::with(obeyer, &command),
     );
     Ok(all_do(
-        party,
-        servers,
-        (&stream, &command),
-        ops,
-        file,
-        table,
-        &mut steps,
+        party, servers, &stream, &command, ops, file, table, &mut steps,
     ))
 }
 

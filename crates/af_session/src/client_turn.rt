@@ -1,7 +1,7 @@
 //! A client's turn: the calls that it wants, one after the other.
 ghost use Rattle.std.specs.Prelude.{◌≡◌, ◌+◌, ◌/◌, ◌^◌, ◌<◌, ◌≤◌, true, List, [], ◌∷◌, ◌++◌, length};
 ghost use Rattle.af_base.specs.declared.frame.Frame.{Frame as FrameSeen};
-ghost use Rattle.af_client.specs.Order.{IsInOrder};
+ghost use Rattle.af_client.specs.Order.{IsClientOf, IsInOrder};
 ghost use Rattle.af_journal.specs.Clients.{Client as ClientSeen, after_answer, at_next_turn};
 ghost use Rattle.af_journal.specs.ClientTurns.{LegalClientTurn, after_calls, argument_of};
 ghost use Rattle.af_journal.specs.Kept.{client_of};
@@ -10,7 +10,7 @@ ghost use Rattle.af_journal.specs.declared.want.Want.TheVariants as want_seen;
 ghost use Rattle.af_normal.specs.Meeting.{AreClientsOf};
 ghost use Rattle.af_session.specs.Asking.{CanMake, CanSend, HasBlocks, Makes, track_with};
 ghost use Rattle.af_session.specs.Parties.{track_of};
-ghost use Rattle.af_session.specs.Turning.{IsMadeBy, IsTurned, Steps as StepsOf, WantsNext};
+ghost use Rattle.af_session.specs.Turning.{IsMadeBy, IsTurned, Stepped, WantsNext};
 ghost use Rattle.af_session.specs.Works.{CanWork};
 
 use crate::asking::{ask_clear, ask_flush, ask_gains, ask_poke, ask_send, ask_status, ask_write};
@@ -55,13 +55,14 @@ impl Party {
     fn send<L: Ledger>(
         &mut self,
         sending: ClientCommand,
-        stream: &Block,
         command: &Block,
         steps: &mut Steps<L>,
     ) -> ClientCall
-        requires blocks { HasBlocks stream.now command.now self.old }
+        requires ready { IsClientOf command.now self.old.command }
+        requires order { IsInOrder self.old.stream }
         requires can { CanSend self.old }
-        ensures blocks { HasBlocks stream.now command.now self.new }
+        ensures ready { IsClientOf command.now self.new.command }
+        ensures same { self.new ≡ (record self.old { command = self.new.command }) }
         ensures makes { (file : List FrameSeen) → Makes file result self.old self.new }
         ensures made { (file : List FrameSeen) → IsMadeBy file self.old (want_seen.Send sending) result }
     {
@@ -75,12 +76,12 @@ impl Party {
         count: u32,
         file: &[Frame],
         stream: &Block,
-        command: &Block,
         steps: &mut Steps<L>,
     ) -> ClientCall
-        requires blocks { HasBlocks stream.now command.now self.old }
+        requires ready { IsClientOf stream.now self.old.stream }
         requires can { CanMake (length file.now) self.old (want_seen.Write count) }
-        ensures blocks { HasBlocks stream.now command.now self.new }
+        ensures ready { IsClientOf stream.now self.new.stream }
+        ensures same { self.new ≡ (record self.old { stream = self.new.stream }) }
         ensures makes { Makes file.now result self.old self.new }
         ensures made { IsMadeBy file.now self.old (want_seen.Write count) result }
     {
@@ -113,14 +114,10 @@ impl Party {
     }
 
     // Reads the status word.
-    fn status<L: Ledger>(
-        &mut self,
-        stream: &Block,
-        command: &Block,
-        steps: &mut Steps<L>,
-    ) -> ClientCall
-        requires blocks { HasBlocks stream.now command.now self.old }
-        ensures blocks { HasBlocks stream.now command.now self.new }
+    fn status<L: Ledger>(&mut self, command: &Block, steps: &mut Steps<L>) -> ClientCall
+        requires ready { IsClientOf command.now self.old.command }
+        ensures ready { IsClientOf command.now self.new.command }
+        ensures same { self.new ≡ (record self.old { command = self.new.command }) }
         ensures makes { (file : List FrameSeen) → Makes file result self.old self.new }
         ensures made { (file : List FrameSeen) → IsMadeBy file self.old want_seen.Settled result }
     {
@@ -128,15 +125,11 @@ impl Party {
     }
 
     // Asks for a flush.
-    fn flush<L: Ledger>(
-        &mut self,
-        stream: &Block,
-        command: &Block,
-        steps: &mut Steps<L>,
-    ) -> ClientCall
-        requires blocks { HasBlocks stream.now command.now self.old }
+    fn flush<L: Ledger>(&mut self, stream: &Block, steps: &mut Steps<L>) -> ClientCall
+        requires ready { IsClientOf stream.now self.old.stream }
         requires can { CanMake 0 self.old want_seen.Flush }
-        ensures blocks { HasBlocks stream.now command.now self.new }
+        ensures ready { IsClientOf stream.now self.new.stream }
+        ensures same { self.new ≡ (record self.old { stream = self.new.stream }) }
         ensures makes { (file : List FrameSeen) → Makes file result self.old self.new }
         ensures made { (file : List FrameSeen) → IsMadeBy file self.old want_seen.Flush result }
     {
@@ -149,12 +142,12 @@ impl Party {
         left: u32,
         right: u32,
         stream: &Block,
-        command: &Block,
         steps: &mut Steps<L>,
     ) -> ClientCall
-        requires blocks { HasBlocks stream.now command.now self.old }
+        requires ready { IsClientOf stream.now self.old.stream }
         requires can { CanMake 0 self.old (want_seen.Gain left right) }
-        ensures blocks { HasBlocks stream.now command.now self.new }
+        ensures ready { IsClientOf stream.now self.new.stream }
+        ensures same { self.new ≡ (record self.old { stream = self.new.stream }) }
         ensures makes { (file : List FrameSeen) → Makes file result self.old self.new }
         ensures made { (file : List FrameSeen) → IsMadeBy file self.old (want_seen.Gain left right) result }
     {
@@ -162,14 +155,10 @@ impl Party {
     }
 
     // Clears DISABLED.
-    fn clear<L: Ledger>(
-        &mut self,
-        stream: &Block,
-        command: &Block,
-        steps: &mut Steps<L>,
-    ) -> ClientCall
-        requires blocks { HasBlocks stream.now command.now self.old }
-        ensures blocks { HasBlocks stream.now command.now self.new }
+    fn clear<L: Ledger>(&mut self, stream: &Block, steps: &mut Steps<L>) -> ClientCall
+        requires ready { IsClientOf stream.now self.old.stream }
+        ensures ready { IsClientOf stream.now self.new.stream }
+        ensures same { self.new ≡ (record self.old { stream = self.new.stream }) }
         ensures makes { (file : List FrameSeen) → Makes file result self.old self.new }
         ensures made { (file : List FrameSeen) → IsMadeBy file self.old want_seen.Clear result }
     {
@@ -193,18 +182,18 @@ impl Party {
         ensures made { IsMadeBy file.now self.old wanted result }
     {
         match wanted {
-            Want::Send { command: sending } => self.send(sending, stream, command, steps),
-            Want::Settled | Want::Drained => self.status(stream, command, steps),
-            Want::Flush => self.flush(stream, command, steps),
-            Want::Gain { left, right } => self.gain(left, right, stream, command, steps),
-            Want::Write { count } => self.write(count, file, stream, command, steps),
-            Want::Clear => self.clear(stream, command, steps),
+            Want::Send { command: sending } => self.send(sending, command, steps),
+            Want::Settled | Want::Drained => self.status(command, steps),
+            Want::Flush => self.flush(stream, steps),
+            Want::Gain { left, right } => self.gain(left, right, stream, steps),
+            Want::Write { count } => self.write(count, file, stream, steps),
+            Want::Clear => self.clear(stream, steps),
             Want::Poke {
                 command: in_command,
                 word,
                 value,
             } => self.poke(in_command, word, value, stream, command, steps),
-            Want::Leave => self.send(ClientCommand::Remove, stream, command, steps),
+            Want::Leave => self.send(ClientCommand::Remove, command, steps),
             Want::Rest => unreachable!(),
         }
     }
@@ -245,7 +234,7 @@ impl Party {
         ensures work { CanWork ops.now (length file.now) self.new }
         ensures track { self.new.track ≡ self.old.track }
         ensures few { self.new.command.released ≤ self.old.command.released + 2 }
-        ensures steps { StepsOf ops.now file.now result self.old self.new }
+        ensures stepped { Stepped ops.now file.now result self.old self.new }
     {
         let Some(wanted) = self.wanted(ops) else {
             self.rest(ops, false);

@@ -15,7 +15,6 @@ pub use fast_turns::fast_turn;
 pub use party::Party;
 pub use sound::{pcm, push_pcm};
 
-mod make;
 mod making;
 mod parties;
 mod shared;

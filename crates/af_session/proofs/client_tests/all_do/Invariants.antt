@@ -6,7 +6,7 @@ use Rattle.af_session.proofs.client_tests.all_do.Given as goal
 
 abbrev pub invariant-loop-step : goal.invariant-loop-step
 invariant-loop-step g l = record {
-  blocks : HasBlocks l.blocks.0.now l.blocks.1.now l.party;
+  blocks : HasBlocks l.stream l.command l.party;
   work : CanWork l.ops (length l.file) l.party;
-  servers : IsServerOf l.blocks.0.now l.servers.0 × IsServerOf l.blocks.1.now l.servers.1;
+  servers : IsServerOf l.stream l.servers.0 × IsServerOf l.command l.servers.1;
 }

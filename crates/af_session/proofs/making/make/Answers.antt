@@ -1,9 +1,6 @@
-use Rattle.std.proofs.Common.{◌≡◌, List, length, map, sym, subst}
+use Rattle.std.proofs.Common.{◌≡◌, List, length, sym, subst}
 use Rattle.std.specs.Prelude.{All}
 use Rattle.af_cblk.specs.Sides.{Made}
-use Rattle.af_fast.specs.Mixer.{MixerState}
-use Rattle.af_normal.specs.Making.{TrackList}
-use Rattle.af_normal.specs.State.{NormalState}
 use Rattle.af_script.specs.Data.{ScriptData}
 use Rattle.af_script.specs.Form.{IsTrack}
 use Rattle.af_session.specs.NewSession.{EndStates, IsNewSession}
@@ -49,6 +46,6 @@ returns-clause-together c =
     let ts : AreNewTracks version (length specs) specs shared.streams shared.commands made.clients.items made.tracks =
     subst (λ (x : List Made × List Made). AreNewTracks version (length specs) specs x.0 x.1 made.clients.items made.tracks) (λ i. (sym blocks.0 i, sym blocks.1 i)) c.in_ok-made.ensures in
     λ links l.
-        let new = are_new version specs shared made.clients.items made.tracks ts links l frames normal e c.in_ok-shared.ensures.ends in
-        let order = c.in_ok-normal.ensures.order links new in
-        together version specs shared made.clients.items made.tracks ts links l frames normal e c.in_ok-shared.ensures.ends cycles c.in_ok-normal.normal c.in_ok-fast.fast c.in_ok-normal.ensures.made order c.in_ok-fast.ensures.made c.in_ok-fast.ensures.order
+    let new = are_new version specs shared made.clients.items made.tracks ts links l frames normal e c.in_ok-shared.ensures.ends in
+    let order = c.in_ok-normal.ensures.order links new in
+    together version specs shared made.clients.items made.tracks ts links l frames normal e c.in_ok-shared.ensures.ends cycles c.in_ok-normal.normal c.in_ok-fast.fast c.in_ok-normal.ensures.made order c.in_ok-fast.ensures.made c.in_ok-fast.ensures.order

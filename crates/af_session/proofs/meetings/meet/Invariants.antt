@@ -1,4 +1,4 @@
-use Rattle.std.proofs.Common.{◌≡◌, ℕ, length}
+use Rattle.std.proofs.Common.{◌≡◌}
 use Rattle.af_session.specs.Met.{TracksMet, proxies_of}
 use Rattle.af_session.specs.Together.{AreTogether}
 use Rattle.af_session.proofs.meetings.meet.Given as goal

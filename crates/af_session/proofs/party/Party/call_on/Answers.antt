@@ -9,13 +9,13 @@ use Rattle.af_session.proofs.party.Party.call_on.Goals as goal
 pub returns-then-not-step-clause-turned : goal.returns-then-not-step-clause-turned
 returns-then-not-step-clause-turned g c =
     let inv = c.loop.invariant in
-    let rests : Rests c.args.ops.now c.args.file.now c.loop.self c.step.new.self = c.if-not-step.ensures.steps in
+    let rests : Rests c.args.ops.now c.args.file.now c.loop.self c.step.new.self = c.if-not-step.ensures.stepped in
     turn_rests c.args.ops.now c.args.file.now c.args.self.now c.loop.self c.step.new.self inv.made (omega (arith, inv.count, c.loop-test.true)) rests
 
 pub loop-preserved : goal.loop-preserved
 loop-preserved g c =
     let inv = c.loop.invariant in let e = c.step.ensures in
-    let called : Calls c.args.ops.now c.args.file.now c.loop.self c.step.new.self = c.if-not-step.ensures.steps in
+    let called : Calls c.args.ops.now c.args.file.now c.loop.self c.step.new.self = c.if-not-step.ensures.stepped in
     let long : length c.step.new.self.calls.items ≡ length c.loop.self.calls.items + 1 = ap (λ (x : Roomy ClientCall). length x.items) called.calls ∙ length_push c.loop.self.calls.items called.answer in
     record {
       blocks = e.blocks;

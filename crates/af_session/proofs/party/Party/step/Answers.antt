@@ -29,8 +29,8 @@ returns-clause-work g c =
     work_called ops c.args.file.now c.args.stream.now c.args.command.now p q c.make-call.new.self c.note.new.self w c.make-call.result c.requires.blocks c.make-call.ensures.blocks c.wanted.ensures.same wants
     c.make-call.ensures.makes c.make-call.ensures.made c.note.ensures.same c.note.ensures.calls c.note.ensures.noted c.requires.work
 
-pub returns-clause-steps : goal.returns-clause-steps
-returns-clause-steps g c =
+pub returns-clause-stepped : goal.returns-clause-stepped
+returns-clause-stepped g c =
     let ops = c.args.ops.now in let p = c.args.self.now in let q = c.wanted.new.self in let w = c.in-Some.wanted in
     let W : Option Want → Type 0 = λ o. WantsNext (client_of ops p.client) o (client_of ops q.client) in
     let wants : W (Some w) = subst W c.in-Some.is c.wanted.ensures.wants in

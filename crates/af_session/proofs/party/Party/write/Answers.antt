@@ -11,7 +11,7 @@ returns-clause-makes g c =
     let p : PartyState = record { track = inside.track; client = inside.client; stream = inside.stream; command = inside.command; calls = inside.calls } in
     let P : PartyState → Type 0 = λ x. Makes file c.ask_write.result x (record p { stream = c.ask_write.new.client }) in
     let Q : PartyState → Type 0 = λ x. x.stream.released ≡ length x.stream.pass.part.frames in
-    let count : Q p = subst Q (sym c.self.view_is) c.requires.blocks.0.1.released_is in
+    let count : Q p = subst Q (sym c.self.view_is) c.requires.ready.1.released_is in
     subst P c.self.view_is
     (made_on_stream file _ c.ask_write.result _ p c.ask_write.new.client c.ask_write.ensures.asked
     (λ k. write_words (track_with k file p) file _ c.args.count c.ask_write.result c.ask_write.ensures.wanted refl

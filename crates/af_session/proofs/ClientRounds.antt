@@ -1,0 +1,61 @@
+-- The turn of a client in a session: what it may ask for, and what it leaves.
+use Rattle.std.proofs.Common.{◌≡◌, ℕ, ◌+◌, ◌*◌, ◌<◌, ◌≤◌, ◌^◌, List, [], length, get_or, slice_get, slice_set, Some, Option, refl, sym, ap, subst, ◌∙◌, arith}
+use Rattle.std.proofs.lemmas.List.{get_or_default}
+use Rattle.std.proofs.lemmas.Option.{slice_get_read}
+use Rattle.af_base.specs.declared.frame.Frame.{Frame}
+use Rattle.af_journal.specs.ClientTurns.{LegalClientTurn, after_calls}
+use Rattle.af_link.specs.declared.links.Links.{Links}
+use Rattle.af_model.specs.Journals.{RoundNoted}
+use Rattle.af_normal.specs.Meeting.{AreClientsOf}
+use Rattle.af_script.specs.declared.op.Op.{Op}
+use Rattle.af_script.specs.declared.op.TurnSpec.TheVariants as spec
+use Rattle.af_script.specs.declared.track.TrackSpec.{TrackSpec}
+use Rattle.af_session.specs.Parties.{PartyState, track_of}
+use Rattle.af_session.specs.Rounds.{Given, IsReady, Turns, client_round, file_at, ops_at, ops_of}
+use Rattle.af_session.specs.Together.{SessionState}
+use Rattle.af_session.specs.Works.{CanWork}
+use Rattle.af_session.proofs.Ready.{ready_client}
+
+module _ (links : Links) (g : Given) (s : SessionState) (i : ℕ) (p : PartyState) (t : TrackSpec) (ops : List Op) (pcm file : List Frame) (lt : i < length s.clients)
+    (given : (length g.tracks ≡ length s.clients) × (length g.files ≡ length s.clients)) (p_is : p ≡ get_or s.clients i p) (t_is : t ≡ get_or g.tracks i t) (ops_are : ops ≡ (get_or g.tracks i t).ops)
+    (pcm_is : pcm ≡ get_or g.files i pcm) (file_is : file ≡ pcm) where
+  pub here : slice_get s.clients i ≡ Some p
+  here = slice_get_read s.clients (length s.clients) i p refl lt p_is
+
+  pub ops_here : ops ≡ ops_at g i
+  ops_here = ops_are ∙ ap (λ (x : TrackSpec). x.ops) (sym t_is) ∙ sym (ap ops_of (slice_get_read g.tracks (length g.tracks) i t refl (omega (arith, lt, given.0)) t_is))
+
+  pub file_here : file ≡ file_at g i
+  file_here = file_is ∙ pcm_is ∙ get_or_default g.files i pcm [] (omega (arith, lt, given.1))
+
+  -- what the turn asks for
+  module _ (n : ℕ) (ready : IsReady links g n s) where
+    pub asks_clients : AreClientsOf links p.track p.stream p.command
+    asks_clients = subst (λ (k : ℕ). AreClientsOf links k p.stream p.command) (sym (ready.together.tracks i p here)) (ready.together.clients i p here)
+
+    pub asks_work : CanWork ops (length file) p
+    asks_work = subst (λ (x : List Op × List Frame). CanWork x.0 (length x.1) p) (λ k. (sym ops_here k, sym file_here k)) (ready.works i p here)
+
+    pub asks_few : n < 100000 → p.command.released + 128 ≤ 2 ^ 62
+    asks_few few = let sent = ready.few i p here in omega (arith, sent, few)
+
+    -- what it leaves
+    module _ (q : PartyState) (ours : AreClientsOf links q.track q.stream q.command) (can : CanWork ops (length file) q) (track : q.track ≡ p.track) (sent : q.command.released ≤ p.command.released + 128) where
+      pub leaves_ready : IsReady links g (n + 1) (record s { clients = slice_set s.clients i q })
+      leaves_ready = ready_client links g n s ready i p q here
+          (subst (λ (k : ℕ). AreClientsOf links k q.stream q.command) (track ∙ ready.together.tracks i p here) ours)
+          (subst (λ (x : List Op × List Frame). CanWork x.0 (length x.1) q) (λ k. (ops_here k, file_here k)) can)
+          track sent
+
+  -- the turn that it was
+  pub has_turned : (q : PartyState) → LegalClientTurn (track_of ops file p) q.calls.items → track_of ops file q ≡ after_calls (track_of ops file p) q.calls.items
+      → (r : RoundNoted) × Turns g (spec.Client i) s r [] (record s { clients = slice_set s.clients i q })
+  has_turned q legal turned = (client_round s i q.calls.items, (refl, q.calls.items, refl, record {
+    before = p;
+    was = here;
+    after = q;
+    made = refl;
+    legal = subst (λ (x : List Op × List Frame). LegalClientTurn (track_of x.0 x.1 p) q.calls.items) (λ k. (ops_here k, file_here k)) legal;
+    turned = subst (λ (x : List Op × List Frame). track_of x.0 x.1 q ≡ after_calls (track_of x.0 x.1 p) q.calls.items) (λ k. (ops_here k, file_here k)) turned;
+    leaves = refl;
+  }))

@@ -1,0 +1,33 @@
+-- The turn of the normal mixer in a session, and of the fast mixer.
+use Rattle.std.proofs.Common.{◌≡◌, ℕ, Bool, List, [], true, false, refl, sym, subst}
+use Rattle.std.specs.Bool.{MatchBool}
+use Rattle.af_base.specs.Turn.{Turn, turn_of}
+use Rattle.af_life.specs.Kept.{Outside}
+use Rattle.af_model.specs.Journals.{RoundNoted}
+use Rattle.af_normal.specs.LegalTurned.{IsLegal}
+use Rattle.af_normal.specs.State.{NormalState}
+use Rattle.af_script.specs.declared.op.TurnSpec.TheVariants as spec
+use Rattle.af_session.specs.FastTurns.{IsFastTurn}
+use Rattle.af_session.specs.Rounds.{Given, NormalTurned, Turns, fast_round, normal_round, still_round}
+use Rattle.af_session.specs.Together.{SessionState}
+
+of_true : (P Q : Type 0) (b : Bool) → b ≡ true → P → MatchBool b P Q
+of_true P Q b is p = subst (λ (x : Bool). MatchBool x P Q) (sym is) p
+
+of_false : (P Q : Type 0) (b : Bool) → b ≡ false → Q → MatchBool b P Q
+of_false P Q b is q = subst (λ (x : Bool). MatchBool x P Q) (sym is) q
+
+-- the normal mixer goes on
+pub goes_on : (g : Given) (s : SessionState) (m : NormalState) → s.normal.ended ≡ false → (o : Outside) → IsLegal o s.normal m → (r : RoundNoted) × Turns g spec.Normal s r [] (record s { normal = m })
+goes_on g s m going o legal = (normal_round s (turn_of m.entry), (refl, of_false _ _ s.normal.ended going (turn_of m.entry, refl, record { outside = o; legal = legal; told = refl; leaves = refl })))
+
+-- it has ended
+pub stays_ended : (g : Given) (s : SessionState) → s.normal.ended ≡ true → (r : RoundNoted) × Turns g spec.Normal s r [] s
+stays_ended g s ended = (still_round s, (refl, of_true _ _ s.normal.ended ended (refl, refl)))
+
+-- the fast mixer has ended, or goes through cycles
+pub stays_exited : (g : Given) (count : ℕ) (s : SessionState) → s.fast.exited ≡ true → (r : RoundNoted) × Turns g (spec.Fast count) s r [] s
+stays_exited g count s ended = (still_round s, of_true _ _ s.fast.exited ended (refl, refl, refl))
+
+pub goes_through : (g : Given) (count : ℕ) (s t : SessionState) (bytes : List ℕ) → s.fast.exited ≡ false → IsFastTurn count s bytes t → (r : RoundNoted) × Turns g (spec.Fast count) s r bytes t
+goes_through g count s t bytes going turn = (fast_round s t, of_false _ _ s.fast.exited going (refl, turn))

@@ -1,0 +1,46 @@
+use Rattle.std.proofs.Common.{◌≡◌, ◌+◌, ◌++◌, ℕ, List, [], length, refl, sym, ap, subst, ◌∙◌, append-nil, arith}
+use Rattle.std.specs.Vec.{with_items}
+use Rattle.std.proofs.lemmas.List.{with_items_is}
+use Rattle.af_base.specs.Roomy.{Roomy}
+use Rattle.af_model.specs.Journals.{RoundNoted}
+use Rattle.af_script.specs.declared.op.TurnSpec.TheVariants as spec
+use Rattle.af_session.specs.Rounds.{Given, IsReady, Turns}
+use Rattle.af_session.specs.Together.{SessionState}
+use Rattle.af_session.proofs.NormalRounds.{goes_through, stays_exited}
+use Rattle.af_session.proofs.Ready.{fast_stays, ready_more, ready_on}
+use Rattle.af_session.proofs.parties.Parties.play_fast.Goals as goal
+
+pub returns-then-has_exited-clause-turns : goal.returns-then-has_exited-clause-turns
+returns-then-has_exited-clause-turns g c =
+    let given : Given = record { tracks = c.args.tracks.now; files = c.args.files.now } in
+    let was : SessionState = record { clients = c.self.inside.clients.items; normal = c.self.inside.normal; fast = c.self.inside.fast } in
+    let turn = subst (λ (s : SessionState). (r : RoundNoted) × Turns given (spec.Fast c.args.count) s r [] s) c.self.view_is
+    (stays_exited given c.args.count was (sym c.has_exited.ensures ∙ c.if-has_exited.true)) in
+    (turn.0, [], (λ i. record { items = sym (append-nil c.args.bytes.now.items) i; room = c.args.bytes.now.room }), turn.1)
+
+pub returns-clause-ready : goal.returns-clause-ready
+returns-clause-ready g c = λ n held.
+    let given : Given = record { tracks = c.args.tracks.now; files = c.args.files.now } in
+    let was : SessionState = record { clients = c.deref_mut.result.now; normal = c.self.inside.normal; fast = c.self.inside.fast } in
+    let is : was ≡ c.args.self.now = (λ i. record { clients = c.deref_mut.ensures.value i; normal = c.self.inside.normal; fast = c.self.inside.fast }) ∙ c.self.view_is in
+    let now : SessionState = record { clients = c.fast_turn.new.clients; normal = c.fast_turn.new.normal; fast = c.fast_turn.new.fast } in
+    let ready : IsReady c.args.links.now given n was = subst (IsReady c.args.links.now given n) (sym is) held in
+    let turned = c.fast_turn.ensures.turned in
+    let kept = with_items_is c.self.inside.clients c.fast_turn.new.clients (let a = c.fast_turn.auto.clients in let v = ap length c.deref_mut.ensures.value in let o = c.self.inside.clients.ok.0 in omega arith) in
+    subst (IsReady c.args.links.now given (n + 1)) (λ i. record { clients = sym kept i; normal = c.fast_turn.new.normal; fast = c.fast_turn.new.fast })
+    (ready_more c.args.links.now given n now
+    (ready_on c.args.links.now given n was ready now c.fast_turn.ensures.together c.fast_turn.ensures.between c.fast_turn.ensures.whole (fast_stays c.args.count was now turned.added turned.turn)))
+
+pub returns-clause-turns : goal.returns-clause-turns
+returns-clause-turns g c =
+    let given : Given = record { tracks = c.args.tracks.now; files = c.args.files.now } in
+    let was : SessionState = record { clients = c.deref_mut.result.now; normal = c.self.inside.normal; fast = c.self.inside.fast } in
+    let is : was ≡ c.args.self.now = (λ i. record { clients = c.deref_mut.ensures.value i; normal = c.self.inside.normal; fast = c.self.inside.fast }) ∙ c.self.view_is in
+    let now : SessionState = record { clients = c.fast_turn.new.clients; normal = c.fast_turn.new.normal; fast = c.fast_turn.new.fast } in
+    let turned = c.fast_turn.ensures.turned in
+    let kept = with_items_is c.self.inside.clients c.fast_turn.new.clients (let a = c.fast_turn.auto.clients in let v = ap length c.deref_mut.ensures.value in let o = c.self.inside.clients.ok.0 in omega arith) in
+    let turn = goes_through given c.args.count was now turned.added (sym c.has_exited.ensures ∙ c.if-has_exited.false) turned.turn in
+    let whole : (r : RoundNoted) × Turns given (spec.Fast c.args.count) c.args.self.now r turned.added (record { clients = (with_items c.self.inside.clients c.fast_turn.new.clients).items; normal = c.fast_turn.new.normal; fast = c.fast_turn.new.fast }) =
+        subst (λ (x : SessionState × SessionState). (r : RoundNoted) × Turns given (spec.Fast c.args.count) x.0 r turned.added x.1)
+        (λ i. (is i, record { clients = sym kept i; normal = c.fast_turn.new.normal; fast = c.fast_turn.new.fast })) turn in
+    (whole.0, turned.added, turned.written_is, whole.1)

@@ -1,0 +1,30 @@
+use Rattle.std.proofs.Common.{◌≡◌, ◌+◌, ℕ, List, [], true, false, refl, sym, ap, subst, ◌∙◌}
+use Rattle.std.specs.Bool.{MatchBool}
+use Rattle.af_base.specs.Turn.{Turn, turn_of}
+use Rattle.af_model.specs.Journals.{RoundNoted}
+use Rattle.af_script.specs.declared.op.TurnSpec.TheVariants as spec
+use Rattle.af_session.specs.Rounds.{Given, IsReady, Turns, NormalTurned, normal_round, still_round}
+use Rattle.af_session.specs.Together.{SessionState}
+use Rattle.af_session.proofs.NormalRounds.{goes_on, stays_ended}
+use Rattle.af_session.proofs.Ready.{ready_normal}
+use Rattle.af_session.proofs.parties.Parties.play_normal.Goals as goal
+
+pub returns-then-not-has_ended-clause-ready : goal.returns-then-not-has_ended-clause-ready
+returns-then-not-has_ended-clause-ready g c = λ n ready.
+    let given : Given = record { tracks = c.args.tracks.now; files = c.args.files.now } in
+    let was : SessionState = record { clients = c.self.inside.clients.items; normal = c.self.inside.normal; fast = c.self.inside.fast } in
+    ready_normal c.args.links.now given n was (subst (IsReady c.args.links.now given n) (sym c.self.view_is) ready) c.turn.new.self c.turn.ensures.order c.turn.ensures.turns c.turn.ensures.legal.1.setup
+
+pub returns-then-not-has_ended-clause-turns : goal.returns-then-not-has_ended-clause-turns
+returns-then-not-has_ended-clause-turns g c =
+    let given : Given = record { tracks = c.args.tracks.now; files = c.args.files.now } in
+    let was : SessionState = record { clients = c.self.inside.clients.items; normal = c.self.inside.normal; fast = c.self.inside.fast } in
+    subst (λ (s : SessionState). (r : RoundNoted) × Turns given spec.Normal s r [] (record was { normal = c.turn.new.self })) c.self.view_is
+    (goes_on given was c.turn.new.self (sym c.has_ended.ensures ∙ c.if-not-has_ended.true) c.turn.ensures.legal.0 c.turn.ensures.legal.1)
+
+pub returns-else-not-has_ended-clause-turns : goal.returns-else-not-has_ended-clause-turns
+returns-else-not-has_ended-clause-turns g c =
+    let given : Given = record { tracks = c.args.tracks.now; files = c.args.files.now } in
+    let was : SessionState = record { clients = c.self.inside.clients.items; normal = c.self.inside.normal; fast = c.self.inside.fast } in
+    subst (λ (s : SessionState). (r : RoundNoted) × Turns given spec.Normal s r [] s) c.self.view_is
+    (stays_ended given was (sym c.has_ended.ensures ∙ c.if-not-has_ended.false))
