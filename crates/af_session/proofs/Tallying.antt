@@ -1,28 +1,23 @@
 -- How a tally keeps up with a run that goes on.
-use Rattle.std.proofs.Common.{◌≡◌, ◌≢◌, ℕ, ◌+◌, ◌-◌, ◌*◌, ◌^◌, ◌<◌, ◌≤◌, ◌&&◌, max, Bool, true, false, if◌then◌else◌, eqb, List, [], ◌∷◌, ◌++◌, length, map, take, replicate, All, Some, None, Option, get_or, set, inl, inr, refl, sym, ap, subst, ◌∙◌, arith}
-use Rattle.std.specs.Prelude.{sum, sum_by, count_by, not, slice_index, slice_set, slice_index_or}
-use Rattle.std.specs.List.{flat_map, list_all, range_with_len}
-use Rattle.std.proofs.lemmas.List.{length-append, length-map, length-replicate, get_or-replicate, get_or-set_same, get_or-set_other, length-set, map_more, map_push, map-id, append-nil, length_push}
+use Rattle.std.proofs.Common.{◌≡◌, ℕ, ◌+◌, ◌-◌, ◌^◌, ◌<◌, ◌≤◌, ◌&&◌, max, Bool, true, false, if◌then◌else◌, List, [], ◌∷◌, ◌++◌, length, map, set, inl, inr, refl, sym, ap, subst, ◌∙◌, arith}
+use Rattle.std.specs.Prelude.{sum, not, slice_index}
+use Rattle.std.specs.List.{flat_map, range_with_len}
+use Rattle.std.proofs.lemmas.List.{get_or-set_same, get_or-set_other, length-set, map-id, append-nil, length_push}
 use Rattle.std.proofs.lemmas.List.Sums.{sum_by-append, sum_by_push}
 use Rattle.std.proofs.lemmas.List.Concat.{flat_map-append}
-use Rattle.std.proofs.lemmas.List.Elements.{All-set, All-weaker, All-replicate, All-get_or}
 use Rattle.std.proofs.lemmas.List.Folds.{list_all-append}
 use Rattle.std.proofs.lemmas.List.FromFn.{fill_by_all, get_or-map-range_with_len, length-map-range_with_len, map-range_with_len_more, sum_by-map-range_with_len_more}
 use Rattle.std.proofs.lemmas.Bool.{cases_eq}
 use Rattle.af_base.specs.declared.event.ClientCall.{ClientCall}
 use Rattle.af_base.specs.declared.frame.Frame.{Frame}
 use Rattle.af_base.specs.declared.log.CycleEntry.{CycleEntry}
-use Rattle.af_base.specs.declared.seen.Seen.{Seen}
 use Rattle.af_base.specs.declared.state.FastState.{FastState}
-use Rattle.af_base.specs.declared.turn.NormalTake.{NormalTake}
-use Rattle.af_base.specs.Log.{slots, count_seen}
+use Rattle.af_base.specs.Log.{slots}
 use Rattle.af_base.specs.Mix.{peak_of}
-use Rattle.af_base.specs.Turn.{Turn, take_seen}
 use Rattle.af_model.specs.Cycles.{is_mixed}
-use Rattle.af_script.specs.Bounds.{most_tracks}
 use Rattle.af_session.specs.declared.tally.TrackTally.{TrackTally}
-use Rattle.af_session.specs.Summaries.{EntryUsed, Shown, Look, calls_of, nothing_shown, with_calls, with_turn, with_entry, with_written, slot_looks, looks_by, entry_looks, take_look, turn_looks, count_flushed, taken_by_look, taken_in, taken_by_entry, taken_by_turn, taken_of, dropped_by_look, dropped_in, dropped_by_entry, dropped_by_turn, dropped_of, has_no_poke, is_poke, is_lawful, in_all, mixed_of, discarded_of, queued_of, mixed_cycles}
-use Rattle.af_session.specs.Tallies.{Tallied, AddsLooks, Notes, IsWithin, IsSmall, IsTally, untouched, track_at, most_looks, after_looks, shown_of, mixed_by, discarded_by, queued_by}
+use Rattle.af_session.specs.Summaries.{EntryUsed, Shown, Look, calls_of, with_calls, with_entry, with_written, slot_looks, entry_looks, taken_by_look, taken_in, taken_by_entry, taken_of, dropped_by_look, dropped_in, dropped_by_entry, dropped_of, has_no_poke, is_poke, is_lawful, in_all, mixed_of, discarded_of, queued_of}
+use Rattle.af_session.specs.Tallies.{Tallied, AddsLooks, Notes, IsWithin, IsTally, untouched, track_at, most_looks, after_looks, shown_of, mixed_by, discarded_by, queued_by}
 
 -- a track's numbers
 abbrev numbers : ℕ → ℕ → Bool → TrackTally

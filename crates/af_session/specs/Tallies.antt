@@ -1,5 +1,5 @@
 -- What a tally keeps of a run as it goes on.
-use Rattle.std.specs.Prelude.{◌≡◌, ℕ, ◌+◌, ◌-◌, ◌*◌, ◌^◌, ◌<◌, ◌≤◌, if◌then◌else◌, Bool, true, List, length, All, slice_index_or}
+use Rattle.std.specs.Prelude.{◌≡◌, ℕ, ◌+◌, ◌-◌, ◌*◌, ◌^◌, ◌<◌, ◌≤◌, if◌then◌else◌, true, List, length, All, slice_index_or}
 use Rattle.af_base.specs.Log.{slots}
 use Rattle.af_base.specs.Mix.{peak_of}
 use Rattle.af_script.specs.Bounds.{most_tracks}

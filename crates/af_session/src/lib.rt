@@ -28,7 +28,6 @@ pub use shared::Shared;
 
 #[cfg(test)]
 mod making_tests;
-
 mod summary;
 mod tally;
 #[cfg(test)]

@@ -22,7 +22,7 @@ pub struct TrackTally {
     pub lawful: bool,
 }
 
-/// How many frames a look discarded.
+// How many frames a look discarded.
 fn count_flushed(seen: Seen) -> u32
     ensures { result ≡ count_flushed seen }
 {
@@ -33,7 +33,7 @@ fn count_flushed(seen: Seen) -> u32
 }
 
 impl TrackTally {
-    /// The same after one more look.
+    // The same after one more look.
     fn with_look(self, seen: Seen) -> TrackTally
         requires taken { self.taken < 2 ^ 63 }
         requires dropped { self.dropped < 2 ^ 63 }
@@ -46,7 +46,7 @@ impl TrackTally {
         }
     }
 
-    /// The same after calls of its client.
+    // The same after calls of its client.
     fn with_calls(self, calls: &[ClientCall]) -> TrackTally
         ensures { result ≡ record self { lawful = self.lawful && has_no_poke calls.now } }
     {
@@ -56,21 +56,21 @@ impl TrackTally {
         }
     }
 
-    /// How many frames count as mixed.
+    // How many frames count as mixed.
     fn mixed(self) -> u64
         ensures { result ≡ mixed_by self }
     {
         if self.lawful { self.taken } else { 0 }
     }
 
-    /// How many frames count as dropped.
+    // How many frames count as dropped.
     fn discarded(self) -> u64
         ensures { result ≡ discarded_by self }
     {
         if self.lawful { self.dropped } else { 0 }
     }
 
-    /// How many of the frames released count as queued.
+    // How many of the frames released count as queued.
     fn queued(self, released: u64) -> u64
         requires taken { self.taken < 2 ^ 63 }
         requires dropped { self.dropped < 2 ^ 63 }
@@ -84,21 +84,21 @@ impl TrackTally {
     }
 }
 
-/// Whether a call is a poke.
+// Whether a call is a poke.
 fn is_poke(call: ClientCall) -> bool
     ensures { result ≡ is_poke call }
 {
     matches!(call, ClientCall::Poke { .. })
 }
 
-/// Whether none of the calls is a poke.
+// Whether none of the calls is a poke.
 fn has_no_poke(calls: &[ClientCall]) -> bool
     ensures { result ≡ has_no_poke calls.now }
 {
     calls.iter().all(|call| !is_poke(*call))
 }
 
-/// The greatest magnitude of a sample.
+// The greatest magnitude of a sample.
 fn peak_of(frames: &[Frame]) -> u32
     ensures { result ≡ peak_of frames.now }
 {

@@ -84,9 +84,10 @@ fn what_a_turn_took_is_mixed(rt: HostRuntime) -> Result<(), Fail> {
     let mut tally = Tally::new(rt.alloc(), 1)?;
     tally.note_calls(0, &[ClientCall::Put { front: 0, count: 5 }]);
     tally.note_turn(&turn);
-    for _cycle in 0..3 {
-        tally.note_entry(&entry_of(&[]), Some(&state));
-    }
+    let entry = entry_of(&[]);
+    tally.note_entry(&entry, Some(&state));
+    tally.note_entry(&entry, Some(&state));
+    tally.note_entry(&entry, Some(&state));
     tally.note_frames(&[Frame { left: 1, right: 1 }, Frame { left: 2, right: 2 }]);
     let line = format!(in rt.alloc(); "{}", tally.summary(&[5]))?;
     assert_eq!(rt; line.as_str(), "cycles 3 mixed 4 dropped 0 queued 1 peak 2");

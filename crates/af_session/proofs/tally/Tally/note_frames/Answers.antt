@@ -1,4 +1,4 @@
-use Rattle.std.proofs.Common.{◌≡◌, ℕ, max, ap, ◌∙◌}
+use Rattle.std.proofs.Common.{◌≡◌, max, ap, ◌∙◌}
 use Rattle.af_base.specs.Mix.{peak_of}
 use Rattle.af_session.specs.Tallies.{Tallied}
 use Rattle.af_session.proofs.Tallying.{frames_noted}
