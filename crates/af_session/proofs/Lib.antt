@@ -18,6 +18,7 @@ pub mod NewLines
 pub mod NewWork
 pub mod MoreTracks
 pub mod Begins
+mod Tallying
 pub mod Ready
 mod ClientRounds
 mod NormalRounds

@@ -10,3 +10,5 @@ pub mod Met
 pub mod Shares
 pub mod NewTracks
 pub mod NewSession
+pub mod Summaries
+pub mod Tallies

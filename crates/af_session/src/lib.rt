@@ -29,3 +29,10 @@ pub use shared::Shared;
 
 #[cfg(test)]
 mod making_tests;
+mod summary;
+mod tally;
+#[cfg(test)]
+mod tally_tests;
+
+pub use summary::Summary;
+pub use tally::Tally;
