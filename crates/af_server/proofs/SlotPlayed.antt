@@ -55,9 +55,12 @@ module _ (asked first : ℕ) (s u v : ServerState) (gains : ℕ) (look : Look) (
       found.1.0 ∙ ap (λ (flush : ℕ). look_at s.pass.part.shape flush asked look.flush look.rear front) order.flush_is in
       record {
         front = front;
-        looks = (shows, subst (λ (o : Option (ℕ × ℕ)). MatchOption o
-            (look.seen ≡ look_at s.pass.part.shape (kept (listed s)).flush asked look.flush look.rear front)
-            (λ words. (look.seen ≡ seen.Shut words.0 words.1) × (look.flush ≡ (kept (listed s)).flush) × (look.rear ≡ words.1))) (sym open_is ∙ order.shut_is) flushed);
+        looks = (
+          shows,
+          subst (λ (o : Option (ℕ × ℕ)). MatchOption o
+              (look.seen ≡ look_at s.pass.part.shape (kept (listed s)).flush asked look.flush look.rear front)
+              (λ words. (look.seen ≡ seen.Shut words.0 words.1) × (look.flush ≡ (kept (listed s)).flush) × (look.rear ≡ words.1))) (sym open_is ∙ order.shut_is) flushed,
+        );
         list = list_of front (found.1.2
             ∙ ap (λ (x : Seen). (before ++ server.SawGain gains ∷ []) ++ look_events x look.flush look.rear front) (sym found.1.0)
             ∙ ap (λ (o : Option (ℕ × ℕ)). (before ++ server.SawGain gains ∷ []) ++ (if is_some o then [] else look_events look.seen look.flush look.rear front)) (sym open_is));
@@ -66,9 +69,12 @@ module _ (asked first : ℕ) (s u v : ServerState) (gains : ℕ) (look : Look) (
       let found : Stays words = subst (λ (o : Option (ℕ × ℕ)). MatchOption o Opens Stays) shut_is looks in
       record {
         front = 0;
-        looks = (shows, subst (λ (o : Option (ℕ × ℕ)). MatchOption o
-            (look.seen ≡ look_at s.pass.part.shape (kept (listed s)).flush asked look.flush look.rear 0)
-            (λ w. (look.seen ≡ seen.Shut w.0 w.1) × (look.flush ≡ (kept (listed s)).flush) × (look.rear ≡ w.1))) (sym shut_is ∙ order.shut_is) (found.0, found.1 ∙ order.flush_is, found.2));
+        looks = (
+          shows,
+          subst (λ (o : Option (ℕ × ℕ)). MatchOption o
+              (look.seen ≡ look_at s.pass.part.shape (kept (listed s)).flush asked look.flush look.rear 0)
+              (λ w. (look.seen ≡ seen.Shut w.0 w.1) × (look.flush ≡ (kept (listed s)).flush) × (look.rear ≡ w.1))) (sym shut_is ∙ order.shut_is) (found.0, found.1 ∙ order.flush_is, found.2),
+        );
         list = list_of 0 (ap (λ (x : ServerState). x.pass.part.events) found.3
             ∙ sym (append-nil (before ++ server.SawGain gains ∷ []))
             ∙ ap (λ (o : Option (ℕ × ℕ)). (before ++ server.SawGain gains ∷ []) ++ (if is_some o then [] else look_events look.seen look.flush look.rear 0)) (sym shut_is));
