@@ -7,6 +7,7 @@ mod Parts
 mod Adopted
 mod Noted
 mod Added
+pub mod LogForms
 pub mod Meeting
 mod Zips
 mod OneBlock

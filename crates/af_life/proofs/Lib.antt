@@ -8,3 +8,4 @@ pub mod SmallTurns
 mod SmallTests
 pub mod LooksSoFar
 pub mod LooksMade
+pub mod TurnForms

@@ -98,9 +98,15 @@ pub record Listed : Type 0 where
 abbrev pub kept : Listed → ServerKept
 kept s = server_kept s.shape s.events
 
--- The look of a slot answers by the words seen and the server's own list before. A server that was shut answers the words that shut it, and the flush count of that look
+-- a look shows something, and where it shows frames at least one
+abbrev pub IsSeen : Seen → Type 0
+IsSeen seen.Absent = ⊥
+IsSeen (seen.Frames count) = 1 ≤ count
+IsSeen _ = Unit {0}
+
+-- The look of a slot answers by the words seen and the server's own list before, and shows something. A server that was shut answers the words that shut it, and the flush count of that look
 abbrev pub LooksBy : ℕ → Listed → SlotEntry → ℕ → Type 0
-LooksBy asked s slot front = MatchOption (kept s).shut
+LooksBy asked s slot front = IsSeen slot.seen × MatchOption (kept s).shut
     (slot.seen ≡ look_at s.shape (kept s).flush asked slot.flush slot.rear front)
     (λ words. (slot.seen ≡ seen.Shut words.0 words.1) × (slot.flush ≡ (kept s).flush) × (slot.rear ≡ words.1))
 

@@ -5,20 +5,13 @@ use Rattle.af_base.specs.declared.log.Cycle.{Cycle}
 use Rattle.af_base.specs.declared.log.Cycle.TheVariants as cycle
 use Rattle.af_base.specs.declared.log.CycleEntry.{CycleEntry}
 use Rattle.af_base.specs.declared.log.SlotEntry.{SlotEntry}
-use Rattle.af_base.specs.declared.seen.Seen.{Seen}
 use Rattle.af_base.specs.declared.seen.Seen.TheVariants as seen
 use Rattle.af_base.specs.declared.turn.CommandLook.{CommandLook}
 use Rattle.af_base.specs.Log.{Logged, slots, absent, entry_slot, count_seen}
 use Rattle.af_base.specs.Sample.{IsFrame}
 use Rattle.af_base.specs.Turn.{TakeSeen, Turn, ended_turn}
-use Rattle.af_model.specs.Cycles.{is_mixed, place_of, taken_before, still_entry, shown}
+use Rattle.af_model.specs.Cycles.{IsSeen, is_mixed, place_of, taken_before, still_entry, shown}
 use Rattle.af_model.specs.Journals.{EntrySeen, RoundSeen, JournalData, RoundsNoted, cycles_of, entries_of, entries_seen, frames_of, taken_by}
-
--- a look shows something, and where it shows frames at least one
-abbrev pub IsSeen : Seen → Type 0
-IsSeen seen.Absent = ⊥
-IsSeen (seen.Frames count) = 1 ≤ count
-IsSeen _ = Unit {0}
 
 -- a look at a command block: only one of two frames has words
 abbrev pub IsCommandLook : CommandLook → Type 0

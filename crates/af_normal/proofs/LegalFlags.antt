@@ -43,12 +43,15 @@ module _ (s t : Listed) (shape : t.shape ≡ s.shape) (same : kept t ≡ kept s)
       ∙ ap (λ (k : ServerKept). heard_with (min 9223372036854775807 k.consumed) (flushes_by s.shape.wrap k.noticed) (is_some k.shut) no_counts) same
 
   pub looks_still : (asked : ℕ) (slot : SlotEntry) (front : ℕ) → LooksBy asked t slot front → LooksBy asked s slot front
-  looks_still asked slot front looks = subst (λ (k : ServerKept). MatchOption k.shut
-      (slot.seen ≡ look_at s.shape k.flush asked slot.flush slot.rear front)
-      (λ words. (slot.seen ≡ seen.Shut words.0 words.1) × (slot.flush ≡ k.flush) × (slot.rear ≡ words.1))) same
-      (subst (λ (x : Shape). MatchOption (kept t).shut
-      (slot.seen ≡ look_at x (kept t).flush asked slot.flush slot.rear front)
-      (λ words. (slot.seen ≡ seen.Shut words.0 words.1) × (slot.flush ≡ (kept t).flush) × (slot.rear ≡ words.1))) shape looks)
+  looks_still asked slot front looks = (
+    looks.0,
+    subst (λ (k : ServerKept). MatchOption k.shut
+        (slot.seen ≡ look_at s.shape k.flush asked slot.flush slot.rear front)
+        (λ words. (slot.seen ≡ seen.Shut words.0 words.1) × (slot.flush ≡ k.flush) × (slot.rear ≡ words.1))) same
+        (subst (λ (x : Shape). MatchOption (kept t).shut
+        (slot.seen ≡ look_at x (kept t).flush asked slot.flush slot.rear front)
+        (λ words. (slot.seen ≡ seen.Shut words.0 words.1) × (slot.flush ≡ (kept t).flush) × (slot.rear ≡ words.1))) shape looks.1),
+  )
 
   pub events_still : (asked : ℕ) (slot : SlotEntry) (front : ℕ) → cycle_events asked t slot front ≡ cycle_events asked s slot front
   events_still asked slot front = ap (λ (k : ServerKept). server.SawGain slot.gains ∷ (if is_some k.shut then [] else look_events slot.seen slot.flush slot.rear front) ++ after_look asked (is_some k.shut) slot.seen) same

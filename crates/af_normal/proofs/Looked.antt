@@ -10,19 +10,23 @@ use Rattle.af_base.specs.Sample.{packed_word}
 use Rattle.af_base.specs.declared.log.SlotEntry.{SlotEntry}
 use Rattle.af_base.specs.declared.seen.Seen.{Seen}
 use Rattle.af_base.specs.declared.seen.Seen.TheVariants as seen
-use Rattle.af_model.specs.Cycles.{kept, LooksBy}
+use Rattle.af_model.specs.Cycles.{IsSeen, kept, LooksBy}
 use Rattle.af_model.specs.ServerCalls.{look_at, look_events, shown_by}
 use Rattle.af_server.specs.declared.look.Look.{Look}
-use Rattle.af_server.specs.Looks.{Looks}
+use Rattle.af_server.specs.Looks.{Looks, WithinAsk}
 use Rattle.af_server.specs.Order.{ServerState, IsInOrder}
 use Rattle.af_server.specs.Slot.{listed}
+use Rattle.af_server.proofs.SomeShown.{shows_some}
 use Rattle.af_life.specs.Looks.{as_slot}
 use Rattle.af_life.specs.Obeys.{shows_command}
 use Rattle.af_normal.specs.Commands.{LooksOnce}
 
-module _ (asked : ℕ) (s u : ServerState) (look : Look) (order : IsInOrder s) (looks : Looks s asked look u) where
+module _ (asked : ℕ) (s u : ServerState) (look : Look) (order : IsInOrder s) (looks : Looks s asked look u) (within : WithinAsk asked look.seen) where
   abbrev slot : SlotEntry
   slot = record { gains = 0; flush = look.flush; rear = look.rear; seen = look.seen; first = 0 }
+
+  shows : IsSeen look.seen
+  shows = shows_some asked s u look within looks
 
   abbrev before : List ServerEvent
   before = s.pass.part.events
@@ -47,9 +51,12 @@ module _ (asked : ℕ) (s u : ServerState) (look : Look) (order : IsInOrder s) (
       let flushed : look.seen ≡ look_at s.pass.part.shape (kept (listed s)).flush asked look.flush look.rear front =
       found.1.0 ∙ ap (λ (flush : ℕ). look_at s.pass.part.shape flush asked look.flush look.rear front) order.flush_is in (
         front,
-        subst (λ (o : Option (ℕ × ℕ)). MatchOption o
-            (look.seen ≡ look_at s.pass.part.shape (kept (listed s)).flush asked look.flush look.rear front)
-            (λ words. (look.seen ≡ seen.Shut words.0 words.1) × (look.flush ≡ (kept (listed s)).flush) × (look.rear ≡ words.1))) (sym open_is ∙ order.shut_is) flushed,
+        (
+          shows,
+          subst (λ (o : Option (ℕ × ℕ)). MatchOption o
+              (look.seen ≡ look_at s.pass.part.shape (kept (listed s)).flush asked look.flush look.rear front)
+              (λ words. (look.seen ≡ seen.Shut words.0 words.1) × (look.flush ≡ (kept (listed s)).flush) × (look.rear ≡ words.1))) (sym open_is ∙ order.shut_is) flushed,
+        ),
         found.1.2
             ∙ ap (λ (x : Seen). before ++ look_events x look.flush look.rear front) (sym found.1.0)
             ∙ ap (λ (o : Option (ℕ × ℕ)). before ++ (if is_some o then [] else look_events look.seen look.flush look.rear front)) (sym open_is ∙ order.shut_is),
@@ -57,9 +64,12 @@ module _ (asked : ℕ) (s u : ServerState) (look : Look) (order : IsInOrder s) (
   by_words (Some words) shut_is =
       let found : Stays words = subst (λ (o : Option (ℕ × ℕ)). MatchOption o Opens Stays) shut_is looks in (
         0,
-        subst (λ (o : Option (ℕ × ℕ)). MatchOption o
-            (look.seen ≡ look_at s.pass.part.shape (kept (listed s)).flush asked look.flush look.rear 0)
-            (λ w. (look.seen ≡ seen.Shut w.0 w.1) × (look.flush ≡ (kept (listed s)).flush) × (look.rear ≡ w.1))) (sym shut_is ∙ order.shut_is) (found.0, found.1 ∙ order.flush_is, found.2),
+        (
+          shows,
+          subst (λ (o : Option (ℕ × ℕ)). MatchOption o
+              (look.seen ≡ look_at s.pass.part.shape (kept (listed s)).flush asked look.flush look.rear 0)
+              (λ w. (look.seen ≡ seen.Shut w.0 w.1) × (look.flush ≡ (kept (listed s)).flush) × (look.rear ≡ w.1))) (sym shut_is ∙ order.shut_is) (found.0, found.1 ∙ order.flush_is, found.2),
+        ),
         ap (λ (x : ServerState). x.pass.part.events) found.3
             ∙ sym (append-nil before)
             ∙ ap (λ (o : Option (ℕ × ℕ)). before ++ (if is_some o then [] else look_events look.seen look.flush look.rear 0)) (sym shut_is ∙ order.shut_is),

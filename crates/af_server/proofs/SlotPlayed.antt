@@ -6,21 +6,25 @@ use Rattle.af_base.specs.declared.frame.Frame.{Frame}
 use Rattle.af_base.specs.declared.log.SlotEntry.{SlotEntry}
 use Rattle.af_base.specs.declared.seen.Seen.{Seen}
 use Rattle.af_base.specs.declared.seen.Seen.TheVariants as seen
-use Rattle.af_model.specs.Cycles.{TrackSlot, kept, after_look, cycle_events}
+use Rattle.af_model.specs.Cycles.{IsSeen, TrackSlot, kept, after_look, cycle_events}
 use Rattle.af_model.specs.ServerCalls.{look_at, look_events, shown_by}
 use Rattle.af_server.specs.declared.look.Look.{Look}
-use Rattle.af_server.specs.Looks.{Looks}
+use Rattle.af_server.specs.Looks.{Looks, WithinAsk}
 use Rattle.af_server.specs.Order.{ServerState, IsInOrder, did}
 use Rattle.af_server.specs.Slot.{listed, HasDone}
+use Rattle.af_server.proofs.SomeShown.{shows_some}
 
 -- gains, the events of a look and what follows it, one after the other
 joined : (before : List ServerEvent) (gain : ServerEvent) (own rest : List ServerEvent) → ((before ++ gain ∷ []) ++ own) ++ rest ≡ before ++ (gain ∷ own ++ rest)
 joined before gain own rest = append_assoc (before ++ gain ∷ []) own rest ∙ append_assoc before (gain ∷ []) (own ++ rest)
 
 module _ (asked first : ℕ) (s u v : ServerState) (gains : ℕ) (look : Look) (frames : List Frame) (order : IsInOrder s)
-    (looks : Looks (did s (server.SawGain gains)) asked look u) (follows : HasDone u (after_look asked (is_some s.shut) look.seen) frames v) where
+    (looks : Looks (did s (server.SawGain gains)) asked look u) (within : WithinAsk asked look.seen) (follows : HasDone u (after_look asked (is_some s.shut) look.seen) frames v) where
   abbrev slot : SlotEntry
   slot = record { gains = gains; flush = look.flush; rear = look.rear; seen = look.seen; first = first }
+
+  shows : IsSeen look.seen
+  shows = shows_some asked (did s (server.SawGain gains)) u look within looks
 
   abbrev before : List ServerEvent
   before = s.pass.part.events
@@ -51,9 +55,12 @@ module _ (asked first : ℕ) (s u v : ServerState) (gains : ℕ) (look : Look) (
       found.1.0 ∙ ap (λ (flush : ℕ). look_at s.pass.part.shape flush asked look.flush look.rear front) order.flush_is in
       record {
         front = front;
-        looks = subst (λ (o : Option (ℕ × ℕ)). MatchOption o
-            (look.seen ≡ look_at s.pass.part.shape (kept (listed s)).flush asked look.flush look.rear front)
-            (λ words. (look.seen ≡ seen.Shut words.0 words.1) × (look.flush ≡ (kept (listed s)).flush) × (look.rear ≡ words.1))) (sym open_is ∙ order.shut_is) flushed;
+        looks = (
+          shows,
+          subst (λ (o : Option (ℕ × ℕ)). MatchOption o
+              (look.seen ≡ look_at s.pass.part.shape (kept (listed s)).flush asked look.flush look.rear front)
+              (λ words. (look.seen ≡ seen.Shut words.0 words.1) × (look.flush ≡ (kept (listed s)).flush) × (look.rear ≡ words.1))) (sym open_is ∙ order.shut_is) flushed,
+        );
         list = list_of front (found.1.2
             ∙ ap (λ (x : Seen). (before ++ server.SawGain gains ∷ []) ++ look_events x look.flush look.rear front) (sym found.1.0)
             ∙ ap (λ (o : Option (ℕ × ℕ)). (before ++ server.SawGain gains ∷ []) ++ (if is_some o then [] else look_events look.seen look.flush look.rear front)) (sym open_is));
@@ -62,9 +69,12 @@ module _ (asked first : ℕ) (s u v : ServerState) (gains : ℕ) (look : Look) (
       let found : Stays words = subst (λ (o : Option (ℕ × ℕ)). MatchOption o Opens Stays) shut_is looks in
       record {
         front = 0;
-        looks = subst (λ (o : Option (ℕ × ℕ)). MatchOption o
-            (look.seen ≡ look_at s.pass.part.shape (kept (listed s)).flush asked look.flush look.rear 0)
-            (λ w. (look.seen ≡ seen.Shut w.0 w.1) × (look.flush ≡ (kept (listed s)).flush) × (look.rear ≡ w.1))) (sym shut_is ∙ order.shut_is) (found.0, found.1 ∙ order.flush_is, found.2);
+        looks = (
+          shows,
+          subst (λ (o : Option (ℕ × ℕ)). MatchOption o
+              (look.seen ≡ look_at s.pass.part.shape (kept (listed s)).flush asked look.flush look.rear 0)
+              (λ w. (look.seen ≡ seen.Shut w.0 w.1) × (look.flush ≡ (kept (listed s)).flush) × (look.rear ≡ w.1))) (sym shut_is ∙ order.shut_is) (found.0, found.1 ∙ order.flush_is, found.2),
+        );
         list = list_of 0 (ap (λ (x : ServerState). x.pass.part.events) found.3
             ∙ sym (append-nil (before ++ server.SawGain gains ∷ []))
             ∙ ap (λ (o : Option (ℕ × ℕ)). (before ++ server.SawGain gains ∷ []) ++ (if is_some o then [] else look_events look.seen look.flush look.rear 0)) (sym shut_is));
@@ -74,7 +84,7 @@ module _ (asked first : ℕ) (s u v : ServerState) (gains : ℕ) (look : Look) (
   played = by_words s.shut refl
 
 pub played_by : (asked first : ℕ) (s t u v : ServerState) (gains : ℕ) (look : Look) (was_shut : Bool) (frames : List Frame) → IsInOrder s
-    → t ≡ did s (server.SawGain gains) → was_shut ≡ is_some s.shut → Looks t asked look u → HasDone u (after_look asked was_shut look.seen) frames v
+    → t ≡ did s (server.SawGain gains) → was_shut ≡ is_some s.shut → Looks t asked look u → WithinAsk asked look.seen → HasDone u (after_look asked was_shut look.seen) frames v
     → TrackSlot asked (listed s) v.pass.part.events record { gains = gains; flush = look.flush; rear = look.rear; seen = look.seen; first = first }
-played_by asked first s t u v gains look was_shut frames order read shut looks follows =
-    played asked first s u v gains look frames order (subst (λ (x : ServerState). Looks x asked look u) read looks) (subst (λ (b : Bool). HasDone u (after_look asked b look.seen) frames v) shut follows)
+played_by asked first s t u v gains look was_shut frames order read shut looks within follows =
+    played asked first s u v gains look frames order (subst (λ (x : ServerState). Looks x asked look u) read looks) within (subst (λ (b : Bool). HasDone u (after_look asked b look.seen) frames v) shut follows)

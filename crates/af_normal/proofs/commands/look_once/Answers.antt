@@ -16,14 +16,14 @@ take-requires-clause-shown g c = c.look-look.ensures.kept.1 ∙ shown_two c.look
 
 pub returns-then-count-ne2-clause-looks : goal.returns-then-count-ne2-clause-looks
 returns-then-count-ne2-clause-looks g c =
-    let l = looked 2 c.args.server.now c.look-look.new.self c.look-look.result c.requires.ready.1 c.look-look.ensures.looks in
+    let l = looked 2 c.args.server.now c.look-look.new.self c.look-look.result c.requires.ready.1 c.look-look.ensures.looks c.look-look.ensures.within in
     let look : CommandLook = record { flush = c.look-look.result.flush; rear = c.look-look.result.rear; seen = c.look-look.result.seen; code = 0; argument = 0 } in
     missed c.args.server.now c.look-look.new.self look l.0 (ap (λ (n : ℕ). n == 2) (sym c.count.ensures) ∙ is_not c.count.result c.if-count-ne2.true) refl refl l.1 l.2 c.look-look.ensures.frames.0
     (ap (λ (m : Made). m.shape) (c.look-look.ensures.ready.0 ∙ sym c.requires.ready.0))
 
 pub returns-clause-looks : goal.returns-clause-looks
 returns-clause-looks g c =
-    let l = looked 2 c.args.server.now c.look-look.new.self c.look-look.result c.requires.ready.1 c.look-look.ensures.looks in
+    let l = looked 2 c.args.server.now c.look-look.new.self c.look-look.result c.requires.ready.1 c.look-look.ensures.looks c.look-look.ensures.within in
     let look : CommandLook = record { flush = c.look-look.result.flush; rear = c.look-look.result.rear; seen = c.look-look.result.seen; code = c.pack.result; argument = c.pack-2.result } in
     let into : List Frame = c.take.new.into in
     let two : length into ≡ 2 = c.take.auto.into in
