@@ -50,12 +50,20 @@ module _ (links : Links) (g : Given) (s : SessionState) (i : ℕ) (p : PartyStat
   -- the turn that it was
   pub has_turned : (q : PartyState) → LegalClientTurn (track_of ops file p) q.calls.items → track_of ops file q ≡ after_calls (track_of ops file p) q.calls.items
       → (r : RoundNoted) × Turns g (spec.Client i) s r [] (record s { clients = slice_set s.clients i q })
-  has_turned q legal turned = (client_round s i q.calls.items, (refl, q.calls.items, refl, record {
-    before = p;
-    was = here;
-    after = q;
-    made = refl;
-    legal = subst (λ (x : List Op × List Frame). LegalClientTurn (track_of x.0 x.1 p) q.calls.items) (λ k. (ops_here k, file_here k)) legal;
-    turned = subst (λ (x : List Op × List Frame). track_of x.0 x.1 q ≡ after_calls (track_of x.0 x.1 p) q.calls.items) (λ k. (ops_here k, file_here k)) turned;
-    leaves = refl;
-  }))
+  has_turned q legal turned = (
+    client_round s i q.calls.items,
+    (
+      refl,
+      q.calls.items,
+      refl,
+      record {
+        before = p;
+        was = here;
+        after = q;
+        made = refl;
+        legal = subst (λ (x : List Op × List Frame). LegalClientTurn (track_of x.0 x.1 p) q.calls.items) (λ k. (ops_here k, file_here k)) legal;
+        turned = subst (λ (x : List Op × List Frame). track_of x.0 x.1 q ≡ after_calls (track_of x.0 x.1 p) q.calls.items) (λ k. (ops_here k, file_here k)) turned;
+        leaves = refl;
+      },
+    ),
+  )

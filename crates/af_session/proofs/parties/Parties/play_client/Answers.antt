@@ -47,4 +47,4 @@ returns-clause-turns g c =
     let lt : c.args.track < length was.clients = subst (λ (s : SessionState). c.args.track < length s.clients) (sym c.self.view_is) c.requires.track in
     subst (λ (s : SessionState). (r : RoundNoted) × Turns given (spec.Client c.args.track) s r [] (record was { clients = slice_set was.clients c.args.track c.turn.new.self })) c.self.view_is
     (has_turned c.args.links.now given was c.args.track c.index_mut.result.now c.index-tracks-i.result c.as_slice-ops.result.now c.index-files-i.result c.frames-file.result.now lt ready.given c.index_mut.ensures.value c.index-tracks-i.is c.as_slice-ops.ensures.ops c.index-files-i.is c.frames-file.ensures
-        c.turn.new.self c.turn.ensures.legal c.turn.ensures.turned)
+    c.turn.new.self c.turn.ensures.legal c.turn.ensures.turned)

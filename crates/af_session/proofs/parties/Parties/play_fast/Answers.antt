@@ -41,6 +41,6 @@ returns-clause-turns g c =
     let kept = with_items_is c.self.inside.clients c.fast_turn.new.clients (let a = c.fast_turn.auto.clients in let v = ap length c.deref_mut.ensures.value in let o = c.self.inside.clients.ok.0 in omega arith) in
     let turn = goes_through given c.args.count was now turned.added (sym c.has_exited.ensures ∙ c.if-has_exited.false) turned.turn in
     let whole : (r : RoundNoted) × Turns given (spec.Fast c.args.count) c.args.self.now r turned.added (record { clients = (with_items c.self.inside.clients c.fast_turn.new.clients).items; normal = c.fast_turn.new.normal; fast = c.fast_turn.new.fast }) =
-        subst (λ (x : SessionState × SessionState). (r : RoundNoted) × Turns given (spec.Fast c.args.count) x.0 r turned.added x.1)
-        (λ i. (is i, record { clients = sym kept i; normal = c.fast_turn.new.normal; fast = c.fast_turn.new.fast })) turn in
+    subst (λ (x : SessionState × SessionState). (r : RoundNoted) × Turns given (spec.Fast c.args.count) x.0 r turned.added x.1)
+    (λ i. (is i, record { clients = sym kept i; normal = c.fast_turn.new.normal; fast = c.fast_turn.new.fast })) turn in
     (whole.0, turned.added, turned.written_is, whole.1)
