@@ -24,3 +24,5 @@ mod ClientRounds
 mod NormalRounds
 mod MapMore
 pub mod RunMore
+pub mod Outgoing
+pub mod FirstRound

@@ -12,3 +12,4 @@ pub mod NewTracks
 pub mod NewSession
 pub mod Summaries
 pub mod Tallies
+pub mod Rendered

@@ -9,11 +9,13 @@ mod fast_turns;
 mod meetings;
 mod party;
 mod playing;
+mod rendering;
 mod rounds;
 mod sound;
 
 pub use fast_turns::fast_turn;
 pub use party::Party;
+pub use rendering::{Ends, Played, SessionFault, render};
 pub use sound::{pcm, push_pcm};
 
 mod making;

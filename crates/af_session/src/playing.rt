@@ -1,10 +1,11 @@
 //! All turns of a script, and the file of what they mixed.
-ghost use Rattle.std.specs.Prelude.{◌≡◌, ◌+◌, ◌*◌, ◌<◌, ◌≤◌, ◌++◌, ℕ, List, [], Some, length, All, OnOk};
+ghost use Rattle.std.specs.Prelude.{◌≡◌, ◌+◌, ◌*◌, ◌<◌, ◌≤◌, ◌++◌, ℕ, List, Some, length, take, All, OnOk, OnErr};
 ghost use Rattle.af_io.specs.Causes.{HasCause};
-ghost use Rattle.af_io.specs.Files.{SetsFile};
+ghost use Rattle.af_io.specs.Files.{Files, SetsFile, LeavesFront};
 ghost use Rattle.af_model.specs.Journals.{RoundNoted};
 ghost use Rattle.af_script.specs.Form.{IsTurn};
-ghost use Rattle.af_session.specs.Rounds.{IsReady, IsRound, IsTurnRun};
+ghost use Rattle.af_session.specs.Rendered.{Runs};
+ghost use Rattle.af_session.specs.Rounds.{IsReady, IsRound};
 ghost use Rattle.af_session.specs.Sound.{pcm_of};
 
 use crate::parties::Parties;
@@ -16,7 +17,8 @@ use std::sync::ledger::Ledger;
 
 // The bytes are added to a file as one piece, where there are some.
 fn send_out<S: Store>(store: &mut S, name: &str, bytes: &[u8]) -> Result<(), StoreError>
-    ensures written { S.told store.old → (out : List ℕ) → S.files store.old name.now ≡ Some out → OnOk result (S.files store.new name.now ≡ Some (out ++ bytes.now)) }
+    ensures written { S.told store.old → (base : Files) (out : List ℕ) → SetsFile base name.now (Some out) (S.files store.old) → OnOk result (SetsFile base name.now (Some (out ++ bytes.now)) (S.files store.new)) }
+    ensures left { S.told store.old → (base : Files) (out : List ℕ) → SetsFile base name.now (Some out) (S.files store.old) → OnErr result (LeavesFront base name.now (out ++ bytes.now) (S.files store.new)) }
     ensures tells { S.told store.old → S.told store.new }
     ensures cause { HasCause (S.faults store.old) (S.faults store.new) result }
 {
@@ -48,7 +50,8 @@ impl Parties {
         ensures sizes { (self.new.fast.frames ≡ self.old.fast.frames) × (bytes.new.room ≡ bytes.old.room) }
         ensures round { (r : RoundNoted) × IsRound (record { tracks = tracks.now; files = files.now }) turn self.old r bytes.new.items self.new }
         ensures sound { (out : List ℕ) → out ≡ pcm_of self.old.fast.frames self.old.fast.log → out ++ bytes.new.items ≡ pcm_of self.old.fast.frames self.new.fast.log }
-        ensures written { S.told store.old → (out : List ℕ) → S.files store.old name.now ≡ Some out → OnOk result (S.files store.new name.now ≡ Some (out ++ bytes.new.items)) }
+        ensures written { S.told store.old → (base : Files) (out : List ℕ) → SetsFile base name.now (Some out) (S.files store.old) → OnOk result (SetsFile base name.now (Some (out ++ bytes.new.items)) (S.files store.new)) }
+        ensures left { S.told store.old → (base : Files) (out : List ℕ) → SetsFile base name.now (Some out) (S.files store.old) → OnErr result (LeavesFront base name.now (out ++ bytes.new.items) (S.files store.new)) }
         ensures tells { S.told store.old → S.told store.new }
         ensures cause { HasCause (S.faults store.old) (S.faults store.new) result }
     {
@@ -59,7 +62,7 @@ impl Parties {
 
     /// Plays these turns one after the other, each as a round after which all meet. The bytes of each round's mixed cycles are added to the file as one piece, where there are some.
     ///
-    /// What was played is a turn run of the script and its files, and where the file held the sound of the fast mixer's log before it does so again. After a fault of the store the rounds so far were played.
+    /// What was played is a turn run of the script and its files, and where the file held the sound of the fast mixer's log before it does so again. After a fault of the store some first turns were played, and the file holds a front of their sound.
     pub fn play_all<S: Store, L: Ledger>(
         &mut self,
         links: &Links<'_>,
@@ -78,8 +81,10 @@ impl Parties {
         requires room { 64 * self.old.fast.frames ≤ bytes.old.room }
         requires ready { IsReady links.now (record { tracks = tracks.now; files = files.now }) 0 self.old }
         ensures ready { OnOk result (IsReady links.now (record { tracks = tracks.now; files = files.now }) (length turns.now) self.new) }
-        ensures run { OnOk result ((rounds : List RoundNoted) × (added : List ℕ) × IsTurnRun (record { tracks = tracks.now; files = files.now }) turns.now self.old rounds added self.new) }
-        ensures written { S.told store.old → (out : List ℕ) → S.files store.old name.now ≡ Some out → out ≡ pcm_of self.old.fast.frames self.old.fast.log → OnOk result (S.files store.new name.now ≡ Some (pcm_of self.old.fast.frames self.new.fast.log)) }
+        ensures run { (n : ℕ) × Runs (record { tracks = tracks.now; files = files.now }) (take n turns.now) self.old self.new }
+        ensures all { OnOk result (Runs (record { tracks = tracks.now; files = files.now }) turns.now self.old self.new) }
+        ensures written { S.told store.old → (base : Files) → SetsFile base name.now (Some (pcm_of self.old.fast.frames self.old.fast.log)) (S.files store.old) → OnOk result (SetsFile base name.now (Some (pcm_of self.old.fast.frames self.new.fast.log)) (S.files store.new)) }
+        ensures left { S.told store.old → (base : Files) → SetsFile base name.now (Some (pcm_of self.old.fast.frames self.old.fast.log)) (S.files store.old) → OnErr result (LeavesFront base name.now (pcm_of self.old.fast.frames self.new.fast.log) (S.files store.new)) }
         ensures tells { S.told store.old → S.told store.new }
         ensures cause { HasCause (S.faults store.old) (S.faults store.new) result }
     {

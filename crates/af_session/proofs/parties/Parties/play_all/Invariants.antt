@@ -1,16 +1,17 @@
 use Rattle.std.proofs.Common.{◌≡◌, ◌*◌, ◌≤◌, ℕ, List, Some, length, take}
+use Rattle.af_io.specs.Files.{Files, SetsFile}
+use Rattle.af_session.specs.Rendered.{Runs}
 use Rattle.af_session.specs.Rounds.{Given, IsReady}
 use Rattle.af_session.specs.Sound.{pcm_of}
-use Rattle.af_session.proofs.RunMore.{HasRun}
 use Rattle.af_session.proofs.parties.Parties.play_all.Given as goal
 
 abbrev pub invariant-loop-i : goal.invariant-loop-i
 invariant-loop-i g l = record {
   ready : IsReady l.links (record { tracks = l.tracks; files = l.files }) l.i l.self;
-  run : HasRun (record { tracks = l.tracks; files = l.files }) (take l.i l.turns) l.fn.self l.self;
+  run : Runs (record { tracks = l.tracks; files = l.files }) (take l.i l.turns) l.fn.self l.self;
   sizes : (l.self.fast.frames ≡ l.fn.self.fast.frames) × (l.bytes.room ≡ l.fn.bytes.room);
   buffer : length l.buffer ≡ l.fn.self.fast.frames;
   tells : g.S.Store.told l.fn.store → g.S.Store.told l.store;
   stays : g.S.Store.faults l.store ≡ g.S.Store.faults l.fn.store;
-  written : g.S.Store.told l.fn.store → (out : List ℕ) → g.S.Store.files l.fn.store l.name ≡ Some out → out ≡ pcm_of l.fn.self.fast.frames l.fn.self.fast.log → g.S.Store.files l.store l.name ≡ Some (pcm_of l.fn.self.fast.frames l.self.fast.log);
+  written : g.S.Store.told l.fn.store → (base : Files) → SetsFile base l.name (Some (pcm_of l.fn.self.fast.frames l.fn.self.fast.log)) (g.S.Store.files l.fn.store) → SetsFile base l.name (Some (pcm_of l.fn.self.fast.frames l.self.fast.log)) (g.S.Store.files l.store);
 }

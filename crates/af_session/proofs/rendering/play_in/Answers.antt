@@ -1,0 +1,87 @@
+use Rattle.std.proofs.Common.{rules, ◌≡◌, ◌*◌, ◌≤◌, ℕ, List, [], Some, OnOk, OnErr, length, take, sym, ap, subst, ◌∙◌, arith}
+use Rattle.std.specs.Prelude.{All}
+use Rattle.std.proofs.lemmas.Result.{on_ok_weaker}
+use Rattle.af_io.specs.Files.{Files, SetsFile, LeavesFront}
+use Rattle.af_script.specs.Form.{IsScript, IsTurn}
+use Rattle.af_script.specs.declared.op.TurnSpec.{TurnSpec}
+use Rattle.af_script.specs.declared.track.TrackSpec.{TrackSpec}
+use Rattle.af_session.specs.Rendered.{Rendered, Runs}
+use Rattle.af_session.specs.Rounds.{Given, IsReady}
+use Rattle.af_session.specs.Sound.{pcm_of}
+use Rattle.af_session.specs.Together.{SessionState}
+use Rattle.af_session.proofs.FirstRound.{frames_first, ready_first, rendered, silent_first}
+use Rattle.af_session.proofs.rendering.play_in.Goals as goal
+
+pub play_all-requires-clause-turns : goal.play_all-requires-clause-turns
+play_all-requires-clause-turns g c =
+    let script : IsScript c.args.script.now = c.turns-turns.ensures.script in
+    subst (λ (x : List TrackSpec × List TurnSpec). All (IsTurn (length x.0)) x.1) (λ k. (sym c.tracks-tracks.ensures.value k, sym c.turns-turns.ensures.value k)) script.turns
+
+pub play_all-requires-clause-few : goal.play_all-requires-clause-few
+play_all-requires-clause-few g c =
+    let script : IsScript c.args.script.now = c.turns-turns.ensures.script in
+    subst (λ (x : List TurnSpec). length x ≤ 100000) (sym c.turns-turns.ensures.value) script.turn_count
+
+pub play_all-requires-clause-buffer : goal.play_all-requires-clause-buffer
+play_all-requires-clause-buffer g c = c.requires.buffer ∙ sym (frames_first c.args.script.now c.args.shared.now c.args.parties.now c.requires.new c.args.files.now)
+
+pub play_all-requires-clause-room : goal.play_all-requires-clause-room
+play_all-requires-clause-room g c =
+    let same = frames_first c.args.script.now c.args.shared.now c.args.parties.now c.requires.new c.args.files.now in
+    omega (arith, same, c.requires.room)
+
+pub play_all-requires-clause-ready : goal.play_all-requires-clause-ready
+play_all-requires-clause-ready g c =
+    let links = c.links-links.result in
+    subst (λ (x : List TrackSpec). IsReady links (record { tracks = x; files = c.args.files.now }) 0 c.args.parties.now) (sym c.tracks-tracks.ensures.value)
+    (ready_first c.args.script.now c.args.shared.now c.args.parties.now c.requires.new c.args.files.now links c.requires.files (c.requires.together links c.links-links.ensures))
+
+pub returns-clause-some : goal.returns-clause-some
+returns-clause-some g c =
+    let files = c.args.files.now in
+    let was : SessionState = c.args.parties.now in
+    let is : SessionState = c.play_all.new.self in
+    let n : ℕ = c.play_all.ensures.run.0 in
+    let runs : Runs (record { tracks = c.args.script.now.tracks; files = files }) (take n c.args.script.now.turns) was is =
+    subst (λ (x : List TrackSpec × List TurnSpec). Runs (record { tracks = x.0; files = files }) (take n x.1) was is) (λ k. (c.tracks-tracks.ensures.value k, c.turns-turns.ensures.value k)) c.play_all.ensures.run.1 in
+    (n, rendered c.args.script.now c.args.shared.now was c.requires.new files (take n c.args.script.now.turns) is runs)
+
+pub returns-clause-all : goal.returns-clause-all
+returns-clause-all g c =
+    let files = c.args.files.now in
+    let was : SessionState = c.args.parties.now in
+    let is : SessionState = c.play_all.new.self in
+    on_ok_weaker c.play_all.result
+    (λ (runs : Runs (record { tracks = c.tracks-tracks.result.now; files = files }) c.turns-turns.result.now was is).
+    rendered c.args.script.now c.args.shared.now was c.requires.new files c.args.script.now.turns is
+    (subst (λ (x : List TrackSpec × List TurnSpec). Runs (record { tracks = x.0; files = files }) x.1 was is) (λ k. (c.tracks-tracks.ensures.value k, c.turns-turns.ensures.value k)) runs))
+    c.play_all.ensures.all
+
+pub returns-clause-count : goal.returns-clause-count
+returns-clause-count g c =
+    let given : Given = record { tracks = c.tracks-tracks.result.now; files = c.args.files.now } in
+    on_ok_weaker c.play_all.result
+    (λ (ready : IsReady c.links-links.result given (length c.turns-turns.result.now) c.play_all.new.self). sym ready.given.0 ∙ ap (λ (ts : List TrackSpec). length ts) c.tracks-tracks.ensures.value)
+    c.play_all.ensures.ready
+
+pub returns-clause-written : goal.returns-clause-written
+returns-clause-written g c = λ told base set.
+    let script = c.args.script.now in
+    let was : SessionState = c.args.parties.now in
+    let is : SessionState = c.play_all.new.self in
+    let name = c.args.name.now in
+    let same = frames_first script c.args.shared.now was c.requires.new c.args.files.now in
+    let silent = silent_first script c.args.shared.now was c.requires.new c.args.files.now was.fast.frames in
+    let made = subst (λ (xs : List ℕ). SetsFile base name (Some xs) (g.S.Store.files c.args.store.now)) (sym silent) set in
+    subst (λ (n : ℕ). OnOk c.play_all.result (SetsFile base name (Some (pcm_of n is.fast.log)) (g.S.Store.files c.play_all.new.store))) same (c.play_all.ensures.written told base made)
+
+pub returns-clause-left : goal.returns-clause-left
+returns-clause-left g c = λ told base set.
+    let script = c.args.script.now in
+    let was : SessionState = c.args.parties.now in
+    let is : SessionState = c.play_all.new.self in
+    let name = c.args.name.now in
+    let same = frames_first script c.args.shared.now was c.requires.new c.args.files.now in
+    let silent = silent_first script c.args.shared.now was c.requires.new c.args.files.now was.fast.frames in
+    let made = subst (λ (xs : List ℕ). SetsFile base name (Some xs) (g.S.Store.files c.args.store.now)) (sym silent) set in
+    subst (λ (n : ℕ). OnErr c.play_all.result (LeavesFront base name (pcm_of n is.fast.log) (g.S.Store.files c.play_all.new.store))) same (c.play_all.ensures.left told base made)

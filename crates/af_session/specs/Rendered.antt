@@ -1,0 +1,90 @@
+-- What the turns of a script come to, and what they leave in a file.
+use Rattle.std.specs.Prelude.{◌≡◌, ◌⊎◌, ℕ, ◌<◌, ◌≤◌, ◌++◌, List, length, take, slice_get, Option, option_map, Result, IsErrOf}
+use Rattle.af_base.specs.declared.frame.Frame.{Frame}
+use Rattle.af_base.specs.Log.{Logged}
+use Rattle.af_client.specs.Order.{ClientState}
+use Rattle.af_io.specs.Causes.{Rose}
+use Rattle.af_io.specs.Files.{Files, SameFiles, LeavesFront}
+use Rattle.af_io.specs.declared.store.StoreError.{StoreError}
+use Rattle.af_io.specs.declared.store.StoreError.TheVariants as store
+use Rattle.af_model.specs.Journals.{RoundNoted}
+use Rattle.af_normal.specs.State.{NormalState}
+use Rattle.af_script.specs.Data.{ScriptData}
+use Rattle.af_script.specs.declared.op.TurnSpec.{TurnSpec}
+use Rattle.af_session.specs.declared.rendering.SessionFault.{SessionFault}
+use Rattle.af_session.specs.declared.rendering.SessionFault.TheVariants as fault
+use Rattle.af_session.specs.NewSession.{IsNewSession}
+use Rattle.af_session.specs.Parties.{PartyState}
+use Rattle.af_session.specs.Rounds.{Given, IsTurnRun, ops_at, file_at}
+use Rattle.af_session.specs.Shares.{SharedState}
+use Rattle.af_session.specs.Sound.{pcm_of}
+use Rattle.af_session.specs.Together.{SessionState}
+use Rattle.af_session.specs.Works.{frames_to_come}
+
+-- each track has a file, which has the frames that the track's writes ask for, and not too many
+pub record HaveFiles (g : Given) : Type 0 where
+  pub count : length g.files ≡ length g.tracks
+  pub enough : (i : ℕ) → i < length g.tracks → frames_to_come (ops_at g i) ≤ length (file_at g i)
+  pub few : (i : ℕ) → i < length g.tracks → length (file_at g i) ≤ 4194304
+
+-- ## Turns
+
+-- these turns were played from s to t, and the sound of the log grew by just the bytes of their rounds
+pub record Runs (g : Given) (turns : List TurnSpec) (s t : SessionState) : Type 0 where
+  pub rounds : List RoundNoted
+  pub bytes : List ℕ
+  pub run : IsTurnRun g turns s rounds bytes t
+  pub sound : pcm_of s.fast.frames t.fast.log ≡ pcm_of s.fast.frames s.fast.log ++ bytes
+
+-- The parties t have played these turns since they were made of the script: a turn run with the files, whose bytes are the sound of the log
+pub record Rendered (script : ScriptData) (files : List (List Frame)) (turns : List TurnSpec) (t : SessionState) : Type 0 where
+  pub shared : SharedState
+  pub start : SessionState
+  pub new : IsNewSession script shared start
+  pub rounds : List RoundNoted
+  pub bytes : List ℕ
+  pub run : IsTurnRun (record { tracks = script.tracks; files = files }) turns start rounds bytes t
+  pub sound : bytes ≡ pcm_of script.frames t.fast.log
+
+-- ## Files
+
+-- no file has changed, or only that of this name, which holds a front of the sound of some first turns
+abbrev pub LeavesSound : ScriptData → List (List Frame) → List ℕ → Files → Files → Type 0
+LeavesSound script files name old new = SameFiles old new
+    ⊎ ((n : ℕ) × (t : SessionState) × Rendered script files (take n script.turns) t × LeavesFront old name (pcm_of script.frames t.fast.log) new)
+
+-- what the store's refusal is in a session
+abbrev pub fault_of : StoreError → SessionFault
+fault_of store.Failed = fault.Store
+fault_of store.Memory = fault.Memory
+
+-- the count of the store's faults never falls, and rises exactly where the answer is Store
+pub record HasStoreCause {T : Type 0} (before now : ℕ) (result : Result T SessionFault) : Type 0 where
+  pub later : before ≤ now
+  pub failed : IsErrOf result fault.Store → Rose before now
+  pub only : before < now → IsErrOf result fault.Store
+
+-- ## What a run hands back
+
+-- the clients and the normal mixer
+pub record EndsState : Type 0 where
+  pub clients : List PartyState
+  pub normal : NormalState
+
+abbrev pub ends_from : SessionState → EndsState
+ends_from s = record { clients = s.clients; normal = s.normal }
+
+-- the proxies of a track's client
+abbrev pub stream_proxy : EndsState → ℕ → Option ClientState
+stream_proxy e track = option_map (λ (p : PartyState). p.stream) (slice_get e.clients track)
+
+abbrev pub command_proxy : EndsState → ℕ → Option ClientState
+command_proxy e track = option_map (λ (p : PartyState). p.command) (slice_get e.clients track)
+
+-- the log and the ends of the parties that have played all turns, with a client for each track
+pub record HandsBack (script : ScriptData) (files : List (List Frame)) (log : Logged) (ends : EndsState) : Type 0 where
+  pub parties : SessionState
+  pub rendered : Rendered script files script.turns parties
+  pub log_is : log ≡ parties.fast.log
+  pub ends_are : ends ≡ ends_from parties
+  pub count : length ends.clients ≡ length script.tracks

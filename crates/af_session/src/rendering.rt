@@ -1,0 +1,235 @@
+//! A script's turns from first to last, one after the other.
+ghost use Rattle.std.specs.Prelude.{◌≡◌, ◌*◌, ◌<◌, ◌≤◌, ℕ, [], Some, length, take, IfOk, OnOk, OnErr};
+ghost use Rattle.af_io.specs.Causes.{HasCause};
+ghost use Rattle.af_io.specs.Files.{Files, SetsFile, LeavesFront};
+ghost use Rattle.af_link.specs.declared.links.Links.{Links};
+ghost use Rattle.af_session.specs.NewSession.{IsNewSession};
+ghost use Rattle.af_session.specs.Rendered.{HandsBack, HasStoreCause, HaveFiles, LeavesSound, Rendered, command_proxy, ends_from, stream_proxy};
+ghost use Rattle.af_session.specs.Shares.{AreLinksOf};
+ghost use Rattle.af_session.specs.Sound.{pcm_of};
+ghost use Rattle.af_session.specs.Together.{AreTogether};
+
+use crate::making::make;
+use crate::parties::Parties;
+use crate::party::Party;
+use crate::shared::Shared;
+use af_base::{FastLog, Frame, Items, Memory, Steps};
+use af_client::Client;
+use af_io::{Pcm, Store, StoreError};
+use af_normal::NormalMixer;
+use af_script::Script;
+use std::alloc::Global;
+use std::marker::{Brand, Model};
+use std::sync::ledger::{Blank, Ledger};
+
+/// Why a session was not played to its end.
+#[derive(Debug, Drop)]
+pub enum SessionFault {
+    /// The store failed, and its count of faults rose.
+    Store,
+    /// Memory ran out.
+    Memory,
+}
+
+impl From<StoreError> for SessionFault {
+    ghost use Rattle.std.specs.Prelude.{◌≡◌};
+    ghost use Rattle.af_session.specs.Rendered.{fault_of};
+
+    ghost from_gives = { λ error fault. fault ≡ fault_of error };
+
+    fn from(error: StoreError) -> Self {
+        match error {
+            StoreError::Failed => SessionFault::Store,
+            StoreError::Memory => SessionFault::Memory,
+        }
+    }
+}
+
+impl From<Memory> for SessionFault {
+    ghost use Rattle.std.specs.Prelude.{◌≡◌};
+    ghost use Rattle.af_session.specs.declared.rendering.SessionFault.TheVariants.{Memory};
+
+    ghost from_gives = { λ _ fault. fault ≡ Memory };
+
+    fn from(_: Memory) -> Self {
+        SessionFault::Memory
+    }
+}
+
+/// The client proxies and the normal mixer of a run that is over. Contracts see the lists that their passes keep.
+#[derive(Drop)]
+pub struct Ends {
+    clients: Vec<Party>,
+    normal: NormalMixer,
+}
+
+impl Model for Ends {
+    ghost use Rattle.af_session.specs.Rendered.{EndsState};
+
+    ghost Value = { EndsState };
+
+    ghost view = { λ e. record { clients = e.clients.items; normal = e.normal } };
+}
+
+impl Ends {
+    /// The client proxy of the stream's block of a track.
+    pub fn stream(&self, track: u32) -> &Client
+        requires { track < length self.now.clients }
+        ensures { stream_proxy self.now track ≡ Some result.now }
+    {
+        &self.clients[track as usize].stream
+    }
+
+    /// The client proxy of the command block of a track.
+    pub fn command(&self, track: u32) -> &Client
+        requires { track < length self.now.clients }
+        ensures { command_proxy self.now track ≡ Some result.now }
+    {
+        &self.clients[track as usize].command
+    }
+
+    /// The normal mixer.
+    pub fn normal(&self) -> &NormalMixer
+        ensures { result.now ≡ self.now.normal }
+    {
+        &self.normal
+    }
+}
+
+/// What was played: the fast mixer's log, and the ends.
+#[derive(Drop)]
+pub struct Played {
+    pub log: FastLog,
+    pub ends: Ends,
+}
+
+// The frames of a cycle, and room for the bytes of the most cycles of a round.
+fn make_room(alloc: Global, frames: usize) -> Result<(Vec<Frame>, Items<u8>), Memory>
+    requires { frames ≤ 1024 }
+    ensures { IfOk result (λ r. (length r.0.items ≡ frames) × (r.1 ≡ record { items = []; room = 64 * frames })) }
+{
+    let mut buffer = Vec::with_capacity(alloc, frames)?;
+    buffer.resize(frames, Frame { left: 0, right: 0 })?;
+    let bytes = Items::with_room(alloc, 64 * frames)?;
+    Ok((buffer, bytes))
+}
+
+// All turns of a script by its new parties, with a count of steps of its own, into a file that is empty.
+fn play_in<S: Store, L: Ledger>(
+    blank: Blank,
+    shared: &Shared,
+    parties: &mut Parties,
+    script: &Script,
+    files: &[Pcm],
+    store: &mut S,
+    name: &str,
+    buffer: &mut [Frame],
+    bytes: &mut Items<u8>,
+) -> Result<(), StoreError>
+    requires ledger { (blank.name ≡ L.name) × (blank.parts ≡ L.parts) × (0 < blank.parts) }
+    requires new { IsNewSession script.now shared.now parties.old }
+    requires together { (links : Links) → AreLinksOf shared.now links → AreTogether links parties.old }
+    requires files { HaveFiles (record { tracks = script.now.tracks; files = files.now }) }
+    requires buffer { length buffer.old ≡ script.now.frames }
+    requires room { bytes.old.room ≡ 64 * script.now.frames }
+    ensures some { (n : ℕ) × Rendered script.now files.now (take n script.now.turns) parties.new }
+    ensures all { OnOk result (Rendered script.now files.now script.now.turns parties.new) }
+    ensures count { OnOk result (length parties.new.clients ≡ length script.now.tracks) }
+    ensures written { S.told store.old → (base : Files) → SetsFile base name.now (Some []) (S.files store.old) → OnOk result (SetsFile base name.now (Some (pcm_of script.now.frames parties.new.fast.log)) (S.files store.new)) }
+    ensures left { S.told store.old → (base : Files) → SetsFile base name.now (Some []) (S.files store.old) → OnErr result (LeavesFront base name.now (pcm_of script.now.frames parties.new.fast.log) (S.files store.new)) }
+    ensures tells { S.told store.old → S.told store.new }
+    ensures cause { HasCause (S.faults store.old) (S.faults store.new) result }
+{
+    let mut steps = Steps::<L>::start(blank);
+    let links = shared.links();
+    let turns = script.turns();
+    let tracks = script.tracks();
+    parties.play_all(
+        &links, turns, tracks, files, store, name, buffer, bytes, &mut steps,
+    )
+}
+
+// Makes the file, and plays all turns of a script by its new parties.
+fn play_new<S: Store>(
+    shared: &Shared,
+    parties: &mut Parties,
+    script: &Script,
+    files: &[Pcm],
+    store: &mut S,
+    name: &str,
+    buffer: &mut [Frame],
+    bytes: &mut Items<u8>,
+) -> Result<(), StoreError>
+    requires new { IsNewSession script.now shared.now parties.old }
+    requires together { (links : Links) → AreLinksOf shared.now links → AreTogether links parties.old }
+    requires files { HaveFiles (record { tracks = script.now.tracks; files = files.now }) }
+    requires buffer { length buffer.old ≡ script.now.frames }
+    requires room { bytes.old.room ≡ 64 * script.now.frames }
+    ensures all { OnOk result (Rendered script.now files.now script.now.turns parties.new) }
+    ensures count { OnOk result (length parties.new.clients ≡ length script.now.tracks) }
+    ensures written { S.told store.old → OnOk result (SetsFile (S.files store.old) name.now (Some (pcm_of script.now.frames parties.new.fast.log)) (S.files store.new)) }
+    ensures left { S.told store.old → OnErr result (LeavesSound script.now files.now name.now (S.files store.old) (S.files store.new)) }
+    ensures tells { S.told store.old → S.told store.new }
+    ensures cause { HasCause (S.faults store.old) (S.faults store.new) result }
+{
+    store.create(name)?;
+    play_in::<S, Brand>(
+        Blank::new(1),
+        shared,
+        parties,
+        script,
+        files,
+        store,
+        name,
+        buffer,
+        bytes,
+    )
+}
+
+// What parties hand back.
+fn hand_back(parties: Parties) -> Played
+    ensures log { result.log ≡ parties.fast.log }
+    ensures ends { result.ends ≡ ends_from parties }
+{
+    let Parties {
+        clients,
+        normal,
+        fast,
+    } = parties;
+    Played {
+        log: fast.into_log(),
+        ends: Ends { clients, normal },
+    }
+}
+
+/// Plays the turns of a script one after the other, each as a round after which all parties meet, and writes the sound to the file of this name. All blocks, logs and mixers are made before the file is.
+///
+/// What was played is a turn run of the script and its files, and where the store tells it the file is the sound of the log. After a fault no file has changed, or the file holds a front of the sound of some first turns.
+pub fn render<S: Store>(
+    alloc: Global,
+    script: &Script,
+    files: &[Pcm],
+    store: &mut S,
+    name: &str,
+) -> Result<Played, SessionFault>
+    requires { HaveFiles (record { tracks = script.now.tracks; files = files.now }) }
+    ensures played { IfOk result (λ p. HandsBack script.now files.now p.log p.ends) }
+    ensures written { S.told store.old → IfOk result (λ p. SetsFile (S.files store.old) name.now (Some (pcm_of script.now.frames p.log)) (S.files store.new)) }
+    ensures left { S.told store.old → OnErr result (LeavesSound script.now files.now name.now (S.files store.old) (S.files store.new)) }
+    ensures tells { S.told store.old → S.told store.new }
+    ensures cause { HasStoreCause (S.faults store.old) (S.faults store.new) result }
+{
+    let (shared, mut parties) = make(alloc, script)?;
+    let (mut buffer, mut bytes) = make_room(alloc, script.frames() as usize)?;
+    play_new(
+        &shared,
+        &mut parties,
+        script,
+        files,
+        store,
+        name,
+        &mut buffer,
+        &mut bytes,
+    )?;
+    Ok(hand_back(parties))
+}
