@@ -83,3 +83,8 @@ cause_ok {T} played x before now cause = record {
   failed = (λ h. absurd (not_err {T = T} played fault.Store h));
   only = (λ lt. absurd (no_fault x (cause.only lt)));
 }
+
+-- a fact that holds anyway holds after an error
+pub on_err : {T E P : Type 0} (r : Result T E) → P → OnErr r P
+on_err (Ok x) p = tt
+on_err (Err e) p = p

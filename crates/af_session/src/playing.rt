@@ -13,7 +13,8 @@ use af_base::{Frame, Items, Steps};
 use af_io::{Pcm, Store, StoreError};
 use af_link::Links;
 use af_script::{TrackSpec, TurnSpec};
-use std::sync::ledger::Ledger;
+use std::marker::Brand;
+use std::sync::ledger::{Blank, Ledger};
 
 // The bytes are added to a file as one piece, where there are some.
 fn send_out<S: Store>(store: &mut S, name: &str, bytes: &[u8]) -> Result<(), StoreError>
@@ -28,9 +29,34 @@ fn send_out<S: Store>(store: &mut S, name: &str, bytes: &[u8]) -> Result<(), Sto
     store.append(name, bytes)
 }
 
+// A round, whose steps are counted by themselves.
+fn round_in<L: Ledger>(
+    blank: Blank,
+    parties: &mut Parties,
+    links: &Links<'_>,
+    turn: TurnSpec,
+    tracks: &[TrackSpec],
+    files: &[Pcm],
+    buffer: &mut [Frame],
+    bytes: &mut Items<u8>,
+)
+    requires ledger { (blank.name ≡ L.name) × (blank.parts ≡ L.parts) × (0 < blank.parts) }
+    requires turn { IsTurn (length parties.old.clients) turn }
+    requires buffer { length buffer.old ≡ parties.old.fast.frames }
+    requires room { length bytes.old.items + 64 * parties.old.fast.frames ≤ bytes.old.room }
+    requires ready { (n : ℕ) × (n < 100000) × IsReady links.now (record { tracks = tracks.now; files = files.now }) n parties.old }
+    ensures ready { (n : ℕ) → IsReady links.now (record { tracks = tracks.now; files = files.now }) n parties.old → IsReady links.now (record { tracks = tracks.now; files = files.now }) (n + 1) parties.new }
+    ensures sizes { (parties.new.fast.frames ≡ parties.old.fast.frames) × (parties.new.fast.cycles ≡ parties.old.fast.cycles) }
+    ensures round { (r : RoundNoted) × (added : List ℕ) × (bytes.new ≡ record bytes.old { items = bytes.old.items ++ added }) × IsRound (record { tracks = tracks.now; files = files.now }) turn parties.old r added parties.new }
+    ensures sound { (before : List ℕ) → before ++ bytes.old.items ≡ pcm_of parties.old.fast.frames parties.old.fast.log → before ++ bytes.new.items ≡ pcm_of parties.old.fast.frames parties.new.fast.log }
+{
+    let mut steps = Steps::<L>::start(blank);
+    parties.round(links, turn, tracks, files, buffer, bytes, &mut steps);
+}
+
 impl Parties {
     // A round, and the bytes of what it mixed.
-    fn play_out<S: Store, L: Ledger>(
+    fn play_out<S: Store>(
         &mut self,
         links: &Links<'_>,
         turn: TurnSpec,
@@ -40,7 +66,6 @@ impl Parties {
         name: &str,
         buffer: &mut [Frame],
         bytes: &mut Items<u8>,
-        steps: &mut Steps<L>,
     ) -> Result<(), StoreError>
         requires turn { IsTurn (length self.old.clients) turn }
         requires buffer { length buffer.old ≡ self.old.fast.frames }
@@ -56,14 +81,23 @@ impl Parties {
         ensures cause { HasCause (S.faults store.old) (S.faults store.new) result }
     {
         bytes.clear();
-        self.round(links, turn, tracks, files, buffer, bytes, steps);
+        round_in::<Brand>(
+            Blank::new(1),
+            self,
+            links,
+            turn,
+            tracks,
+            files,
+            buffer,
+            bytes,
+        );
         send_out(store, name, bytes.as_slice())
     }
 
     /// Plays these turns one after the other, each as a round after which all meet. The bytes of each round's mixed cycles are added to the file as one piece, where there are some.
     ///
     /// What was played is a turn run of the script and its files, and where the file held the sound of the fast mixer's log before it does so again. After a fault of the store some first turns were played, and the file holds a front of their sound.
-    pub fn play_all<S: Store, L: Ledger>(
+    pub fn play_all<S: Store>(
         &mut self,
         links: &Links<'_>,
         turns: &[TurnSpec],
@@ -73,7 +107,6 @@ impl Parties {
         name: &str,
         buffer: &mut [Frame],
         bytes: &mut Items<u8>,
-        steps: &mut Steps<L>,
     ) -> Result<(), StoreError>
         requires turns { All (IsTurn (length tracks.now)) turns.now }
         requires few { length turns.now ≤ 100000 }
@@ -89,9 +122,7 @@ impl Parties {
         ensures cause { HasCause (S.faults store.old) (S.faults store.new) result }
     {
         for i in 0..turns.len() {
-            self.play_out(
-                links, turns[i], tracks, files, store, name, buffer, bytes, steps,
-            )?;
+            self.play_out(links, turns[i], tracks, files, store, name, buffer, bytes)?;
         }
         Ok(())
     }

@@ -13,14 +13,13 @@ use crate::making::make;
 use crate::parties::Parties;
 use crate::party::Party;
 use crate::shared::Shared;
-use af_base::{FastLog, Frame, Items, Memory, Steps};
+use af_base::{FastLog, Frame, Items, Memory};
 use af_client::Client;
 use af_io::{Pcm, Store, StoreError};
 use af_normal::NormalMixer;
 use af_script::Script;
 use std::alloc::Global;
-use std::marker::{Brand, Model};
-use std::sync::ledger::{Blank, Ledger};
+use std::marker::Model;
 
 /// Why a session was not played to its end.
 #[derive(Debug, Drop)]
@@ -114,9 +113,8 @@ fn make_room(alloc: Global, frames: usize) -> Result<(Vec<Frame>, Items<u8>), Me
     Ok((buffer, bytes))
 }
 
-// All turns of a script by its new parties, with a count of steps of its own, into a file that is empty.
-fn play_in<S: Store, L: Ledger>(
-    blank: Blank,
+// All turns of a script by its new parties, into a file that is empty.
+fn play_turns<S: Store>(
     shared: &Shared,
     parties: &mut Parties,
     script: &Script,
@@ -126,7 +124,6 @@ fn play_in<S: Store, L: Ledger>(
     buffer: &mut [Frame],
     bytes: &mut Items<u8>,
 ) -> Result<(), StoreError>
-    requires ledger { (blank.name ≡ L.name) × (blank.parts ≡ L.parts) × (0 < blank.parts) }
     requires new { IsNewSession script.now shared.now parties.old }
     requires together { (links : Links) → AreLinksOf shared.now links → AreTogether links parties.old }
     requires files { HaveFiles (record { tracks = script.now.tracks; files = files.now }) }
@@ -140,13 +137,10 @@ fn play_in<S: Store, L: Ledger>(
     ensures tells { S.told store.old → S.told store.new }
     ensures cause { HasCause (S.faults store.old) (S.faults store.new) result }
 {
-    let mut steps = Steps::<L>::start(blank);
     let links = shared.links();
     let turns = script.turns();
     let tracks = script.tracks();
-    parties.play_all(
-        &links, turns, tracks, files, store, name, buffer, bytes, &mut steps,
-    )
+    parties.play_all(&links, turns, tracks, files, store, name, buffer, bytes)
 }
 
 // Makes the file, and plays all turns of a script by its new parties.
@@ -173,17 +167,7 @@ fn play_new<S: Store>(
     ensures cause { HasCause (S.faults store.old) (S.faults store.new) result }
 {
     store.create(name)?;
-    play_in::<S, Brand>(
-        Blank::new(1),
-        shared,
-        parties,
-        script,
-        files,
-        store,
-        name,
-        buffer,
-        bytes,
-    )
+    play_turns(shared, parties, script, files, store, name, buffer, bytes)
 }
 
 // What parties hand back.

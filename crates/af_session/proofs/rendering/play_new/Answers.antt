@@ -24,21 +24,21 @@ returns-in_err-create-clause-left g c = λ told.
 pub returns-clause-written : goal.returns-clause-written
 returns-clause-written g c = λ told.
     let old = g.S.Store.files c.args.store.now in
-    c.play_in.ensures.written (c.in_ok-create.ensures.tells told) old (c.in_ok-create.ensures.created told)
+    c.play_turns.ensures.written (c.in_ok-create.ensures.tells told) old (c.in_ok-create.ensures.created told)
 
 pub returns-clause-left : goal.returns-clause-left
 returns-clause-left g c = λ told.
     let script = c.args.script.now in
     let files = c.args.files.now in
     let name = c.args.name.now in
-    let is = c.play_in.new.parties in
+    let is = c.play_turns.new.parties in
     let old = g.S.Store.files c.args.store.now in
-    let new = g.S.Store.files c.play_in.new.store in
-    let some = c.play_in.ensures.some in
-    on_err_weaker c.play_in.result
+    let new = g.S.Store.files c.play_turns.new.store in
+    let some = c.play_turns.ensures.some in
+    on_err_weaker c.play_turns.result
     (λ (front : LeavesFront old name (pcm_of script.frames is.fast.log) new). let left : LeavesSound script files name old new = inr (some.0, is, some.1, front) in left)
-    (c.play_in.ensures.left (c.in_ok-create.ensures.tells told) old (c.in_ok-create.ensures.created told))
+    (c.play_turns.ensures.left (c.in_ok-create.ensures.tells told) old (c.in_ok-create.ensures.created told))
 
 pub returns-clause-cause : goal.returns-clause-cause
 returns-clause-cause g c =
-    then_cause (g.S.Store.faults c.args.store.now) (g.S.Store.faults c.create.new.self) (g.S.Store.faults c.play_in.new.store) c.in_ok-create.field-0 c.play_in.result c.in_ok-create.ensures.cause c.play_in.ensures.cause
+    then_cause (g.S.Store.faults c.args.store.now) (g.S.Store.faults c.create.new.self) (g.S.Store.faults c.play_turns.new.store) c.in_ok-create.field-0 c.play_turns.result c.in_ok-create.ensures.cause c.play_turns.ensures.cause

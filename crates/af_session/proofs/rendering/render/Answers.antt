@@ -1,19 +1,23 @@
-use Rattle.std.proofs.Common.{rules, ◌≡◌, ℕ, List, Some, inl, refl, sym, ap, subst, ◌∙◌, length}
+use Rattle.std.proofs.Common.{◌≡◌, ◌*◌, ℕ, List, Some, inl, refl, sym, ap, subst, ◌∙◌, length}
 use Rattle.af_base.specs.Log.{Logged}
+use Rattle.af_base.specs.Roomy.{Roomy}
 use Rattle.af_io.specs.Files.{SetsFile}
 use Rattle.af_session.specs.Rendered.{EndsState, LeavesSound}
 use Rattle.af_session.specs.Sound.{pcm_of}
-use Rattle.af_session.proofs.Outgoing.{cause_memory, cause_ok, cause_store}
+use Rattle.af_session.proofs.Outgoing.{cause_memory, cause_ok, cause_store, on_err}
 use Rattle.af_session.proofs.rendering.render.Goals as goal
 
 pub play_new-requires-clause-together : goal.play_new-requires-clause-together
 play_new-requires-clause-together g c = λ links of. c.in_ok-shared.ensures.together links of
 
+pub play_new-requires-clause-room : goal.play_new-requires-clause-room
+play_new-requires-clause-room g c = ap (λ (b : Roomy ℕ). b.room) c.in_ok-buffer.ensures.1 ∙ ap (λ (n : ℕ). 64 * n) c.frames.ensures.value
+
 pub returns-in_err-shared-clause-left : goal.returns-in_err-shared-clause-left
 returns-in_err-shared-clause-left g c = λ told.
     let files = g.S.Store.files c.args.store.now in
     let left : LeavesSound c.args.script.now c.args.files.now c.args.name.now files files = inl (λ name. refl) in
-    search (rules, left)
+    on_err c.from_residual.result left
 
 pub returns-in_err-shared-clause-cause : goal.returns-in_err-shared-clause-cause
 returns-in_err-shared-clause-cause g c = cause_memory c.from_residual.result (g.S.Store.faults c.args.store.now) c.from_residual.ensures.1
@@ -22,19 +26,19 @@ pub returns-in_err-buffer-clause-left : goal.returns-in_err-buffer-clause-left
 returns-in_err-buffer-clause-left g c = λ told.
     let files = g.S.Store.files c.args.store.now in
     let left : LeavesSound c.args.script.now c.args.files.now c.args.name.now files files = inl (λ name. refl) in
-    search (rules, left)
+    on_err c.from_residual-in_err-buffer.result left
 
 pub returns-in_err-buffer-clause-cause : goal.returns-in_err-buffer-clause-cause
-returns-in_err-buffer-clause-cause g c = cause_memory c.from_residual.result (g.S.Store.faults c.args.store.now) c.from_residual.ensures.1
+returns-in_err-buffer-clause-cause g c = cause_memory c.from_residual-in_err-buffer.result (g.S.Store.faults c.args.store.now) c.from_residual-in_err-buffer.ensures.1
 
 pub returns-in_err-play_new-clause-left : goal.returns-in_err-play_new-clause-left
 returns-in_err-play_new-clause-left g c = λ told.
     let left : LeavesSound c.args.script.now c.args.files.now c.args.name.now (g.S.Store.files c.args.store.now) (g.S.Store.files c.play_new.new.store) = c.in_err-play_new.ensures.left told in
-    search (rules, left)
+    on_err c.from_residual-in_err-play_new.result left
 
 pub returns-in_err-play_new-clause-cause : goal.returns-in_err-play_new-clause-cause
 returns-in_err-play_new-clause-cause g c =
-    cause_store c.from_residual.result c.in_err-play_new.field-0.0 (g.S.Store.faults c.args.store.now) (g.S.Store.faults c.play_new.new.store) c.from_residual.ensures.1 c.in_err-play_new.ensures.cause
+    cause_store c.from_residual-in_err-play_new.result c.in_err-play_new.field-0.0 (g.S.Store.faults c.args.store.now) (g.S.Store.faults c.play_new.new.store) c.from_residual-in_err-play_new.ensures.1 c.in_err-play_new.ensures.cause
 
 pub returns-clause-played : goal.returns-clause-played
 returns-clause-played g c = record {

@@ -10,7 +10,7 @@ use Rattle.af_session.specs.Rounds.{Given, IsReady}
 use Rattle.af_session.specs.Sound.{pcm_of}
 use Rattle.af_session.specs.Together.{SessionState}
 use Rattle.af_session.proofs.FirstRound.{frames_first, ready_first, rendered, silent_first}
-use Rattle.af_session.proofs.rendering.play_in.Goals as goal
+use Rattle.af_session.proofs.rendering.play_turns.Goals as goal
 
 pub play_all-requires-clause-turns : goal.play_all-requires-clause-turns
 play_all-requires-clause-turns g c =

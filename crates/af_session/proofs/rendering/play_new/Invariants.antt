@@ -1,4 +1,0 @@
-use Rattle.af_session.proofs.rendering.play_new.Given as goal
-
-abbrev pub ghosts-play_in : goal.ghosts-play_in
-ghosts-play_in g a = record { name = a.blank.name; parts = a.blank.parts }
