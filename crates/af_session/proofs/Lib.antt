@@ -24,3 +24,4 @@ mod ClientRounds
 mod NormalRounds
 mod MapMore
 pub mod RunMore
+mod NotedCalls
