@@ -25,3 +25,4 @@ mod NormalRounds
 mod MapMore
 pub mod RunMore
 mod NotedCalls
+mod RoundTold

@@ -1,9 +1,16 @@
 //! What a journal notes of a round.
-ghost use Rattle.std.specs.Prelude.{◌≡◌, ◌<◌, List, [], length, map, replicate, slice_set, IfOk};
+ghost use Rattle.std.specs.Prelude.{◌≡◌, ◌+◌, ◌<◌, ◌≤◌, ◌^◌, ◌++◌, ◌∷◌, List, [], length, map, replicate, slice_set, IfOk};
 ghost use Rattle.af_base.specs.declared.event.ClientCall.{ClientCall as CallSeen};
 ghost use Rattle.af_base.specs.Turn.{take_seen, track_seen, turn_of};
+ghost use Rattle.af_model.specs.Journals.{cycles_of};
+ghost use Rattle.af_script.specs.Form.{IsTurn};
+ghost use Rattle.af_session.specs.Rounds.{round_told};
+ghost use Rattle.af_session.specs.Together.{SessionState};
 
+use crate::parties::Parties;
 use af_base::{ClientCall, Items, Memory, NormalTake, TrackTurn, TurnEntry};
+use af_model::Rounds;
+use af_script::TurnSpec;
 use std::alloc::Global;
 
 // The items of a list, in a list of its own.
@@ -101,4 +108,39 @@ pub fn calls_of_one(
     let mut calls = no_calls(alloc, clients)?;
     calls[track].extend_from_slice(made)?;
     Ok(calls)
+}
+
+impl Parties {
+    /// Notes a round that is over: that of this turn of the script, before which the normal mixer had ended or not, and the fast mixer's log had so many entries. Memory is its only refusal.
+    pub fn note_round(
+        &self,
+        alloc: Global,
+        turn: TurnSpec,
+        had_ended: bool,
+        entries: usize,
+        rounds: &mut Rounds,
+    ) -> Result<(), Memory>
+        requires turn { IsTurn (length self.now.clients) turn }
+        requires more { entries ≤ length self.now.fast.log.entries }
+        requires few { cycles_of rounds.old.rounds + length self.now.fast.log.entries < 2 ^ 62 }
+        ensures { (s : SessionState) → had_ended ≡ s.normal.ended → entries ≡ length s.fast.log.entries → length s.clients ≡ length self.now.clients → IfOk result (λ _. rounds.new ≡ record rounds.old { rounds = rounds.old.rounds ++ round_told turn s self.now ∷ [] }) }
+    {
+        let clients = self.clients.len();
+        match turn {
+            TurnSpec::Client { track } => {
+                let made = self.clients[track as usize].calls.as_slice();
+                let calls = calls_of_one(alloc, clients, track as usize, made)?;
+                rounds.push(calls, None, 0)
+            }
+            TurnSpec::Normal if had_ended => rounds.push(no_calls(alloc, clients)?, None, 0),
+            TurnSpec::Normal => {
+                let entry = copied_turn(alloc, self.normal.last())?;
+                rounds.push(no_calls(alloc, clients)?, Some(entry), 0)
+            }
+            TurnSpec::Fast { .. } => {
+                let cycles = self.fast.log().len() - entries;
+                rounds.push(no_calls(alloc, clients)?, None, cycles)
+            }
+        }
+    }
 }
