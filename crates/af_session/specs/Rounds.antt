@@ -95,6 +95,17 @@ pub record IsRound (g : Given) (turn : TurnSpec) (s : SessionState) (r : RoundNo
   pub meets : Met turned met
   pub ends : t ≡ with_ends met
 
+-- the calls of the last turn of a client
+abbrev pub calls_in : Option PartyState → List ClientCall
+calls_in None = []
+calls_in (Some p) = p.calls.items
+
+-- what is to be noted of a round, by the parties before it and after it
+abbrev pub round_told : TurnSpec → SessionState → SessionState → RoundNoted
+round_told (spec.Client i) s t = client_round s i (calls_in (slice_get t.clients i))
+round_told spec.Normal s t = if s.normal.ended then still_round s else normal_round s (turn_of t.normal.entry)
+round_told (spec.Fast count) s t = fast_round s t
+
 -- ## A run
 
 -- the rounds of these turns, one after the other, from s to t, with what the journal notes and the bytes of the sound

@@ -7,6 +7,7 @@ mod client_tests;
 mod client_turn;
 mod fast_turns;
 mod meetings;
+mod noting;
 mod party;
 mod playing;
 mod rendering;
