@@ -26,3 +26,4 @@ mod MapMore
 pub mod RunMore
 pub mod Outgoing
 pub mod FirstRound
+mod FilesGiven
