@@ -37,8 +37,8 @@ module _ (script : ScriptData) (shared : SharedState) (s : SessionState) (new : 
       let lt : i < length script.tracks = omega (arith, slice_get_within s.clients i p at, new.tracks.parties) in
       let ops : one.spec.ops ≡ ops_at given i = sym (ap ops_of one.spec_at) in
       let frames = length (file_at given i) in
-      let enough : frames_to_come one.spec.ops ≤ frames = subst (λ (os : List Op). frames_to_come os ≤ frames) (sym ops) (have.enough i lt) in
-      subst (λ (x : List Op × PartyState). CanWork x.0 frames x.1) (λ k. (ops k, party_is i p at k)) (one.new.party.work frames enough (have.few i lt))
+      let enough : frames_to_come one.spec.ops ≤ frames = subst (λ (os : List Op). frames_to_come os ≤ frames) (sym ops) (have.each i lt).enough in
+      subst (λ (x : List Op × PartyState). CanWork x.0 frames x.1) (λ k. (ops k, party_is i p at k)) (one.new.party.work frames enough (have.each i lt).few)
 
   sent_none : (i : ℕ) (p : PartyState) → slice_get s.clients i ≡ Some p → p.command.released ≡ 0
   sent_none i p at = ap (λ (x : PartyState). x.command.released) (sym (party_is i p at)) ∙ (track_at i p at).new.party.command.kept.1

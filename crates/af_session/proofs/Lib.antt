@@ -27,3 +27,4 @@ pub mod RunMore
 pub mod Outgoing
 pub mod FirstRound
 mod NotedCalls
+mod FilesGiven

@@ -10,6 +10,7 @@ use Rattle.af_io.specs.declared.store.StoreError.TheVariants as store
 use Rattle.af_model.specs.Journals.{RoundNoted}
 use Rattle.af_normal.specs.State.{NormalState}
 use Rattle.af_script.specs.Data.{ScriptData}
+use Rattle.af_script.specs.declared.op.Op.{Op}
 use Rattle.af_script.specs.declared.op.TurnSpec.{TurnSpec}
 use Rattle.af_session.specs.declared.rendering.SessionFault.{SessionFault}
 use Rattle.af_session.specs.declared.rendering.SessionFault.TheVariants as fault
@@ -21,11 +22,15 @@ use Rattle.af_session.specs.Sound.{pcm_of}
 use Rattle.af_session.specs.Together.{SessionState}
 use Rattle.af_session.specs.Works.{frames_to_come}
 
--- each track has a file, which has the frames that the track's writes ask for, and not too many
+-- a file has the frames that these ops write, and not too many
+pub record IsFileFor (ops : List Op) (file : List Frame) : Type 0 where
+  pub enough : frames_to_come ops ≤ length file
+  pub few : length file ≤ 4194304
+
+-- each track has its file
 pub record HaveFiles (g : Given) : Type 0 where
   pub count : length g.files ≡ length g.tracks
-  pub enough : (i : ℕ) → i < length g.tracks → frames_to_come (ops_at g i) ≤ length (file_at g i)
-  pub few : (i : ℕ) → i < length g.tracks → length (file_at g i) ≤ 4194304
+  pub each : (i : ℕ) → i < length g.tracks → IsFileFor (ops_at g i) (file_at g i)
 
 -- ## Turns
 

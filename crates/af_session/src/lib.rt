@@ -6,6 +6,7 @@ mod asking;
 mod client_tests;
 mod client_turn;
 mod fast_turns;
+mod given_files;
 mod meetings;
 mod noting;
 mod party;
@@ -15,6 +16,7 @@ mod rounds;
 mod sound;
 
 pub use fast_turns::fast_turn;
+pub use given_files::have_files;
 pub use party::Party;
 pub use rendering::{Ends, Played, SessionFault, render};
 pub use sound::{pcm, push_pcm};

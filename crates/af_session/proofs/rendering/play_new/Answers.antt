@@ -1,4 +1,4 @@
-use Rattle.std.proofs.Common.{rules, ◌≡◌, ℕ, List, [], Some, inr}
+use Rattle.std.proofs.Common.{rules, inr}
 use Rattle.std.proofs.lemmas.Result.{on_err_weaker}
 use Rattle.af_io.specs.Files.{LeavesFront}
 use Rattle.af_io.proofs.Steps.{LeavesFront-created}

@@ -1,11 +1,11 @@
-use Rattle.std.proofs.Common.{rules, ◌≡◌, ◌*◌, ◌≤◌, ℕ, List, [], Some, OnOk, OnErr, length, take, sym, ap, subst, ◌∙◌, arith}
+use Rattle.std.proofs.Common.{◌≤◌, ℕ, List, Some, OnOk, OnErr, length, take, sym, ap, subst, ◌∙◌, arith}
 use Rattle.std.specs.Prelude.{All}
 use Rattle.std.proofs.lemmas.Result.{on_ok_weaker}
-use Rattle.af_io.specs.Files.{Files, SetsFile, LeavesFront}
+use Rattle.af_io.specs.Files.{SetsFile, LeavesFront}
 use Rattle.af_script.specs.Form.{IsScript, IsTurn}
 use Rattle.af_script.specs.declared.op.TurnSpec.{TurnSpec}
 use Rattle.af_script.specs.declared.track.TrackSpec.{TrackSpec}
-use Rattle.af_session.specs.Rendered.{Rendered, Runs}
+use Rattle.af_session.specs.Rendered.{Runs}
 use Rattle.af_session.specs.Rounds.{Given, IsReady}
 use Rattle.af_session.specs.Sound.{pcm_of}
 use Rattle.af_session.specs.Together.{SessionState}

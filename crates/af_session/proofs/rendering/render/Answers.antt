@@ -1,4 +1,4 @@
-use Rattle.std.proofs.Common.{◌≡◌, ◌*◌, ℕ, List, Some, inl, refl, sym, ap, subst, ◌∙◌, length}
+use Rattle.std.proofs.Common.{◌*◌, ℕ, Some, inl, refl, sym, ap, subst, ◌∙◌, length}
 use Rattle.af_base.specs.Log.{Logged}
 use Rattle.af_base.specs.Roomy.{Roomy}
 use Rattle.af_io.specs.Files.{SetsFile}

@@ -1,7 +1,7 @@
-use Rattle.std.proofs.Common.{◌≡◌, ◌*◌, ◌≤◌, ℕ, List, Some, length, take}
+use Rattle.std.proofs.Common.{◌≡◌, Some, length, take}
 use Rattle.af_io.specs.Files.{Files, SetsFile}
 use Rattle.af_session.specs.Rendered.{Runs}
-use Rattle.af_session.specs.Rounds.{Given, IsReady}
+use Rattle.af_session.specs.Rounds.{IsReady}
 use Rattle.af_session.specs.Sound.{pcm_of}
 use Rattle.af_session.proofs.parties.Parties.play_all.Given as goal
 
