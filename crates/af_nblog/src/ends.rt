@@ -89,6 +89,7 @@ pub fn meet_notes<L: Ledger>(
     ensures made { (writer_made writer.new ≡ block.now) × (reader_made reader.new ≡ block.now) }
     ensures writer { writer.new ≡ (record writer.old { pass = record writer.old.pass { part = client_met writer.old.pass.part reader.old.pass.part.events } }) }
     ensures reader { reader.new ≡ (record reader.old { pass = record reader.old.pass { part = server_did reader.old.pass.part (server_event.Learn (length writer.old.pass.part.events)) } }) }
+    ensures kept { (accepted writer.new ≡ accepted writer.old) × (writer.new.refused ≡ writer.old.refused) × (read reader.new ≡ read reader.old) }
     ensures history { HasPipeHistory block.now.shape.frames writer.new.pass.part.events writer.new.pass.part.frames reader.new.pass.part.events reader.new.pass.part.frames }
     ensures order { AreInOrder (accepted writer.new) (read reader.new) }
     ensures fronts { SeesRead block.now.shape.frames reader.new.pass.part.events 0 0 writer.new.pass.part.events }

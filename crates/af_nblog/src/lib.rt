@@ -10,3 +10,6 @@ mod writing;
 pub use ends::{NoteReader, NoteWriter, meet_notes, ring};
 pub use entries::{Note, note_of};
 pub use writing::Noted;
+
+#[cfg(test)]
+mod tests;

@@ -1,7 +1,8 @@
-use Rattle.std.proofs.Common.{[], ◌∷◌, length, refl, ap}
+use Rattle.std.proofs.Common.{[], ◌∷◌, length, refl, ap, ◌∙◌}
 use Rattle.af_base.specs.declared.event.ServerEvent.TheVariants as server
-use Rattle.af_link.specs.PipeEnds.{OutSide}
+use Rattle.af_link.specs.PipeEnds.{InSide, OutSide}
 use Rattle.af_nblog.specs.Notes.{notes_in}
+use Rattle.af_nblog.specs.NoteEnds.{WriterState, ReaderState, accepted, read}
 use Rattle.af_nblog.proofs.Spelling.{in_order}
 use Rattle.af_nblog.proofs.NotesRead.{reading_same}
 use Rattle.af_nblog.proofs.Fronts.{sees_read}
@@ -12,6 +13,13 @@ invariant_of-reader g c =
     let is = c.meet_pipe.ensures.to in
     reading_same c.reader.inside.takes.pass.part c.meet_pipe.new.to.pass.part (server.Learn (length c.writer.inside.puts.pass.part.events) ∷ [])
     (ap (λ (x : OutSide). x.pass.part.frames) is) (ap (λ (x : OutSide). x.pass.part.events) is) refl c.reader.invariant
+
+pub returns-clause-kept : goal.returns-clause-kept
+returns-clause-kept g c = (
+  ap (λ (x : InSide). notes_in x.pass.part.frames) c.meet_pipe.ensures.from ∙ ap (λ (w : WriterState). accepted w) c.writer.view_is,
+  ap (λ (w : WriterState). w.refused) c.writer.view_is,
+  ap (λ (x : OutSide). notes_in x.pass.part.frames) c.meet_pipe.ensures.to ∙ ap (λ (r : ReaderState). read r) c.reader.view_is,
+)
 
 pub returns-clause-order : goal.returns-clause-order
 returns-clause-order g c =
