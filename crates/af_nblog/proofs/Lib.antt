@@ -1,0 +1,5 @@
+pub mod Spelling
+mod Releases
+pub mod Noting
+pub mod Fronts
+pub mod NotesRead

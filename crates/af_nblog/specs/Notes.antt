@@ -1,0 +1,89 @@
+-- What a note tells of an entry of the fast mixer's log, and the words that spell it.
+use Rattle.std.specs.Prelude.{ℕ, ◌+◌, ◌*◌, ◌/◌, ◌%◌, ◌^◌, ◌==◌, nat_lt, Bool, true, false, List, [], ◌∷◌}
+use Rattle.std.specs.List.{count_by, slice_range}
+use Rattle.af_base.specs.Log.{slots}
+use Rattle.af_base.specs.declared.log.Cycle.{Cycle}
+use Rattle.af_base.specs.declared.log.Cycle.TheVariants as cycle
+use Rattle.af_base.specs.declared.log.CycleEntry.{CycleEntry}
+use Rattle.af_base.specs.declared.log.SlotEntry.{SlotEntry}
+use Rattle.af_base.specs.declared.seen.Seen.{Seen}
+use Rattle.af_base.specs.declared.seen.Seen.TheVariants as seen
+use Rattle.af_nblog.specs.declared.entries.Note.{Note}
+
+-- ## The note of an entry
+
+-- the number of a kind of cycle
+abbrev pub kind_of : Cycle → ℕ
+kind_of cycle.Mixed = 0
+kind_of cycle.Idle = 1
+kind_of cycle.Cold = 2
+kind_of cycle.Exit = 3
+kind_of (cycle.Spent cycles) = 4
+
+-- a look showed exactly so many frames
+abbrev pub is_full : ℕ → Seen → Bool
+is_full frames (seen.Frames count) = count == frames
+is_full frames _ = false
+
+-- a look showed fewer
+abbrev pub is_partial : ℕ → Seen → Bool
+is_partial frames (seen.Frames count) = nat_lt count frames
+is_partial frames _ = false
+
+-- a look showed that no frame is there
+abbrev pub is_empty : Seen → Bool
+is_empty seen.Empty = true
+is_empty _ = false
+
+-- the same of what a slot showed
+abbrev pub full_slot : ℕ → SlotEntry → Bool
+full_slot frames slot = is_full frames slot.seen
+
+abbrev pub partial_slot : ℕ → SlotEntry → Bool
+partial_slot frames slot = is_partial frames slot.seen
+
+abbrev pub empty_slot : SlotEntry → Bool
+empty_slot slot = is_empty slot.seen
+
+-- The note of an entry at a place of the log, where a cycle has so many frames. It counts the slots but the first
+abbrev pub note_of : ℕ → CycleEntry → ℕ → Note
+note_of place entry frames =
+    record {
+      place = place;
+      state = entry.state;
+      kind = kind_of entry.cycle;
+      fulls = count_by (full_slot frames) (slice_range entry.slots 1 slots);
+      partials = count_by (partial_slot frames) (slice_range entry.slots 1 slots);
+      empties = count_by empty_slot (slice_range entry.slots 1 slots);
+    }
+
+-- ## Its words
+
+-- the halves of a number of 64 bits, and the number of two halves
+abbrev pub low_half : ℕ → ℕ
+low_half number = number % 2 ^ 32
+
+abbrev pub high_half : ℕ → ℕ
+high_half number = number / 2 ^ 32
+
+abbrev pub joined : ℕ → ℕ → ℕ
+joined low high = low + high * 2 ^ 32
+
+-- the eight words of a note
+abbrev pub words_of : Note → List ℕ
+words_of note =
+    low_half note.place
+    ∷ high_half note.place
+    ∷ low_half note.state
+    ∷ high_half note.state
+    ∷ note.kind
+    ∷ note.fulls
+    ∷ note.partials
+    ∷ note.empties
+    ∷ []
+
+-- The notes that words spell, eight for each. Fewer at the end spell none
+unfoldable pub notes_in : List ℕ → List Note
+notes_in (a ∷ b ∷ c ∷ d ∷ kind ∷ fulls ∷ partials ∷ empties ∷ words) =
+    record { place = joined a b; state = joined c d; kind = kind; fulls = fulls; partials = partials; empties = empties } ∷ notes_in words
+notes_in _ = []
