@@ -32,8 +32,6 @@ pub use making::make;
 pub use parties::Parties;
 pub use shared::Shared;
 
-#[cfg(test)]
-mod making_tests;
 mod summary;
 mod tally;
 #[cfg(test)]
