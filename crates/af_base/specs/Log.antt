@@ -6,7 +6,8 @@ use Rattle.af_base.specs.declared.frame.Frame.{Frame}
 use Rattle.af_base.specs.declared.seen.Seen.{Seen}
 use Rattle.af_base.specs.declared.seen.Seen.TheVariants.{Frames, Absent}
 use Rattle.af_base.specs.declared.log.SlotEntry.{SlotEntry}
-use Rattle.af_base.specs.declared.log.Cycle.TheVariants.{Idle}
+use Rattle.af_base.specs.declared.log.Cycle.{Cycle}
+use Rattle.af_base.specs.declared.log.Cycle.TheVariants.{Cold, Exit, Idle, Mixed, Spent}
 use Rattle.af_base.specs.declared.log.CycleEntry.{CycleEntry}
 use Rattle.af_base.specs.declared.state.TheConstants.{SLOTS}
 use Rattle.af_base.specs.Mix.{Take}
@@ -29,6 +30,14 @@ pub record LogContents : Type 0 where
 
 abbrev pub log_of : Logged → LogContents
 log_of l = record { entries = l.entries; frames = l.frames }
+
+-- the number of a kind of cycle
+abbrev pub kind_of : Cycle → ℕ
+kind_of Mixed = 0
+kind_of Idle = 1
+kind_of Cold = 2
+kind_of Exit = 3
+kind_of (Spent cycles) = 4
 
 -- the entry of a number, from 0
 abbrev pub no_entry : CycleEntry

@@ -37,6 +37,24 @@ pub enum Cycle {
     Spent { cycles: usize },
 }
 
+impl Cycle {
+    ghost use Rattle.std.specs.Prelude.{◌≡◌};
+    ghost use Rattle.af_base.specs.Log.{kind_of};
+
+    /// The number of a kind of cycle, by which journals and notes name it: 0 mixed, 1 idle, 2 cold, 3 exit, 4 spent.
+    pub fn kind(self) -> u32
+        ensures { result ≡ kind_of self }
+    {
+        match self {
+            Cycle::Mixed => 0,
+            Cycle::Idle => 1,
+            Cycle::Cold => 2,
+            Cycle::Exit => 3,
+            Cycle::Spent { .. } => 4,
+        }
+    }
+}
+
 /// What a log keeps of one cycle.
 #[derive(Clone, Copy, Debug, PartialEq, Eq)]
 pub struct CycleEntry {

@@ -8,14 +8,14 @@ use mathlib.Core.Logic.{dite}
 use native.Mathlib.Decide.{ℕ_discrete}
 use Rattle.af_base.specs.declared.frame.Frame.{Frame}
 use Rattle.af_base.specs.declared.log.CycleEntry.{CycleEntry}
-use Rattle.af_base.specs.Log.{count_seen, entry_slot, frames_taken, slots}
+use Rattle.af_base.specs.Log.{count_seen, entry_slot, frames_taken, kind_of, slots}
 use Rattle.af_base.specs.Sample.{packed_word}
 use Rattle.af_model.specs.Cycles.{is_mixed, taken_before}
 use Rattle.af_model.specs.Journals.{EntrySeen, RoundSeen, entries_of, frames_of, no_round, slot_frames, taken_by}
 use Rattle.af_model.specs.JournalForm.{AreEntries, IsEntry, IsMixed}
 use Rattle.af_journal.specs.Lines.{Written, numbers}
 use Rattle.af_journal.specs.declared.line.Line.TheVariants as line
-use Rattle.af_journal.specs.Texts.{entry_lines, fast_lines, is_shown, kind_of, slot_lines, slots_lines, words_after}
+use Rattle.af_journal.specs.Texts.{entry_lines, fast_lines, is_shown, slot_lines, slots_lines, words_after}
 use Rattle.af_journal.specs.Logged.{LieWithin, logged_entry, logged_fast, logged_slot, logged_slots}
 use Rattle.af_journal.proofs.Texts.{range-more}
 

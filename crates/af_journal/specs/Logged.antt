@@ -4,12 +4,12 @@ use Rattle.std.specs.Int.{bit_at}
 use Rattle.std.specs.List.{range_with_len}
 use Rattle.af_base.specs.declared.frame.Frame.{Frame}
 use Rattle.af_base.specs.declared.log.CycleEntry.{CycleEntry}
-use Rattle.af_base.specs.Log.{count_seen, entry_slot, frames_taken, slots}
+use Rattle.af_base.specs.Log.{count_seen, entry_slot, frames_taken, kind_of, slots}
 use Rattle.af_base.specs.Sample.{packed_word}
 use Rattle.af_model.specs.Cycles.{is_mixed}
 use Rattle.af_journal.specs.declared.line.Line.TheVariants as line
 use Rattle.af_journal.specs.Lines.{Written, numbers}
-use Rattle.af_journal.specs.Texts.{is_shown, kind_of, words_after}
+use Rattle.af_journal.specs.Texts.{is_shown, words_after}
 
 -- a slot that shows something
 abbrev pub logged_shown : List Frame → CycleEntry → ℕ → List Written

@@ -3,12 +3,10 @@ use Rattle.std.specs.Prelude.{◌≡◌, ℕ, ◌+◌, ◌==◌, Bool, true, fal
 use Rattle.std.specs.Int.{bit_at}
 use Rattle.std.specs.List.{range_with_len}
 use Rattle.af_base.specs.declared.event.ClientCall.{ClientCall}
-use Rattle.af_base.specs.declared.log.Cycle.{Cycle}
-use Rattle.af_base.specs.declared.log.Cycle.TheVariants as cycle
 use Rattle.af_base.specs.declared.turn.CommandLook.{CommandLook}
 use Rattle.af_base.specs.declared.seen.Seen.{Seen}
 use Rattle.af_base.specs.declared.seen.Seen.TheVariants.{Absent}
-use Rattle.af_base.specs.Log.{count_seen, entry_slot, slots}
+use Rattle.af_base.specs.Log.{count_seen, entry_slot, kind_of, slots}
 use Rattle.af_base.specs.Sample.{packed_word}
 use Rattle.af_model.specs.Cycles.{is_mixed}
 use Rattle.af_journal.specs.declared.line.Line.TheVariants as line
@@ -67,14 +65,6 @@ abbrev pub turn_lines : Turn → List Written
 turn_lines e =
     if e.ended then numbers line.Ended ∷ []
     else numbers (line.Turn e.room e.ack e.cycle) ∷ each_from track_lines 0 e.tracks ++ numbers (line.Pushed e.push) ∷ flat_map take_lines e.mixes
-
--- the number of a kind of cycle
-abbrev pub kind_of : Cycle → ℕ
-kind_of cycle.Mixed = 0
-kind_of cycle.Idle = 1
-kind_of cycle.Cold = 2
-kind_of cycle.Exit = 3
-kind_of (cycle.Spent cycles) = 4
 
 -- a slot shows something
 abbrev pub is_shown : Seen → Bool

@@ -2,25 +2,12 @@
 ghost use Rattle.std.specs.Prelude.{◌≡◌, ◌+◌, ◌<◌, ◌≤◌, true, take, drop, flat_map, length, string_bytes, IfOk, All};
 ghost use Rattle.af_base.specs.Log.{count_seen, entry_slot, slots};
 ghost use Rattle.af_model.specs.Cycles.{is_mixed};
-ghost use Rattle.af_journal.specs.Texts.{GoesOn, is_shown, kind_of};
+ghost use Rattle.af_journal.specs.Texts.{GoesOn, is_shown};
 ghost use Rattle.af_journal.specs.Logged.{LieWithin, logged_entry, logged_fast, logged_shown, logged_slot, logged_slots};
 
 use crate::line::Line;
 use crate::turn::{add, add_frames};
 use af_base::{Cycle, CycleEntry, FastLog, Frame, Memory, SLOTS, Seen};
-
-// The number of a kind of cycle.
-fn kind_of(cycle: Cycle) -> u32
-    ensures { result ≡ kind_of cycle }
-{
-    match cycle {
-        Cycle::Mixed => 0,
-        Cycle::Idle => 1,
-        Cycle::Cold => 2,
-        Cycle::Exit => 3,
-        Cycle::Spent { .. } => 4,
-    }
-}
 
 // Whether a slot shows something.
 fn is_shown(seen: Seen) -> bool
@@ -90,7 +77,7 @@ fn add_entry(text: &mut String, frames: &[Frame], entry: &CycleEntry) -> Result<
     requires within { LieWithin frames.now entry.now }
     ensures { IfOk result (λ _. GoesOn (string_bytes text.old) (logged_entry frames.now entry.now) (string_bytes text.new)) }
 {
-    let kind = kind_of(entry.cycle);
+    let kind = entry.cycle.kind();
     add(
         text,
         Line::Entry {

@@ -1,9 +1,7 @@
 -- What a note tells of an entry of the fast mixer's log, and the words that spell it.
 use Rattle.std.specs.Prelude.{ℕ, ◌+◌, ◌*◌, ◌/◌, ◌%◌, ◌^◌, ◌==◌, nat_lt, Bool, true, false, List, [], ◌∷◌}
 use Rattle.std.specs.List.{count_by, slice_range}
-use Rattle.af_base.specs.Log.{slots}
-use Rattle.af_base.specs.declared.log.Cycle.{Cycle}
-use Rattle.af_base.specs.declared.log.Cycle.TheVariants as cycle
+use Rattle.af_base.specs.Log.{kind_of, slots}
 use Rattle.af_base.specs.declared.log.CycleEntry.{CycleEntry}
 use Rattle.af_base.specs.declared.log.SlotEntry.{SlotEntry}
 use Rattle.af_base.specs.declared.seen.Seen.{Seen}
@@ -11,14 +9,6 @@ use Rattle.af_base.specs.declared.seen.Seen.TheVariants as seen
 use Rattle.af_nblog.specs.declared.entries.Note.{Note}
 
 -- ## The note of an entry
-
--- the number of a kind of cycle
-abbrev pub kind_of : Cycle → ℕ
-kind_of cycle.Mixed = 0
-kind_of cycle.Idle = 1
-kind_of cycle.Cold = 2
-kind_of cycle.Exit = 3
-kind_of (cycle.Spent cycles) = 4
 
 -- a look showed exactly so many frames
 abbrev pub is_full : ℕ → Seen → Bool

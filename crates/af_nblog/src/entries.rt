@@ -2,9 +2,9 @@
 ghost use Rattle.std.specs.Prelude.{◌≡◌, ◌≤◌, false, length};
 ghost use Rattle.std.specs.List.{count_by};
 ghost use Rattle.af_model.specs.JournalForm.{is_spent};
-ghost use Rattle.af_nblog.specs.Notes.{kind_of, is_full, is_partial, is_empty, full_slot, partial_slot, empty_slot, note_of};
+ghost use Rattle.af_nblog.specs.Notes.{is_full, is_partial, is_empty, full_slot, partial_slot, empty_slot, note_of};
 
-use af_base::{Cycle, CycleEntry, Seen, SlotEntry};
+use af_base::{CycleEntry, Seen, SlotEntry};
 
 /// What the log tells of one entry of the fast mixer.
 #[derive(Clone, Copy, Debug, PartialEq, Eq)]
@@ -21,19 +21,6 @@ pub struct Note {
     pub partials: u32,
     /// How many showed no frame.
     pub empties: u32,
-}
-
-// The number of a kind of cycle.
-fn kind_of(cycle: Cycle) -> u32
-    ensures { result ≡ kind_of cycle }
-{
-    match cycle {
-        Cycle::Mixed => 0,
-        Cycle::Idle => 1,
-        Cycle::Cold => 2,
-        Cycle::Exit => 3,
-        Cycle::Spent { .. } => 4,
-    }
 }
 
 // Whether a look showed exactly so many frames.
@@ -102,7 +89,7 @@ pub fn note_of(place: u64, entry: &CycleEntry, frames: u32) -> Note
     Note {
         place,
         state: entry.state,
-        kind: kind_of(entry.cycle),
+        kind: entry.cycle.kind(),
         fulls: count_fulls(slots, frames) as u32,
         partials: count_partials(slots, frames) as u32,
         empties: count_empties(slots) as u32,

@@ -9,4 +9,4 @@ pub returns : goal.returns
 unfolding noted
 returns c =
     ap (noted c.args.place c.args.entry.now.state)
-    (λ i. (c.kind_of.ensures i, c.count_fulls.ensures.value i, c.count_partials.ensures.value i, c.count_empties.ensures.value i))
+    (λ i. (c.kind.ensures i, c.count_fulls.ensures.value i, c.count_partials.ensures.value i, c.count_empties.ensures.value i))
