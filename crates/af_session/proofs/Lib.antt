@@ -28,3 +28,5 @@ pub mod Outgoing
 pub mod FirstRound
 mod NotedCalls
 mod FilesGiven
+mod Following
+mod FollowingRounds

@@ -17,7 +17,7 @@ use Rattle.af_model.proofs.EntrySlots.{taken_stay}
 use Rattle.af_session.specs.Sound.{entry_pcm, entries_pcm, pcm_of, IsWhole, Grows}
 
 -- two functions that agree below n give one list
-map_same : {X : Type 0} (f g : ℕ → X) (n : ℕ) (d : X) → ((i : ℕ) → i < n → f i ≡ g i) → map f (range_with_len 0 n) ≡ map g (range_with_len 0 n)
+pub map_same : {X : Type 0} (f g : ℕ → X) (n : ℕ) (d : X) → ((i : ℕ) → i < n → f i ≡ g i) → map f (range_with_len 0 n) ≡ map g (range_with_len 0 n)
 map_same f g n d same = fill_by_all g (map f (range_with_len 0 n)) n d (length-map-range_with_len f 0 n)
     (λ k lt. get_or-map-range_with_len f 0 n k k d lt (omega arith) ∙ same k lt)
 
@@ -26,7 +26,7 @@ no_take : Take
 no_take = record { frames = []; mono = false; gains = 0; scale = 0 }
 
 -- frames that are added leave the takes of a mix as they were
-takes_stay : (frames more : List Frame) (entry : CycleEntry) → LieWithin frames entry → is_mixed entry.cycle ≡ true → takes_of (frames ++ more) entry ≡ takes_of frames entry
+pub takes_stay : (frames more : List Frame) (entry : CycleEntry) → LieWithin frames entry → is_mixed entry.cycle ≡ true → takes_of (frames ++ more) entry ≡ takes_of frames entry
 takes_stay frames more entry within mixed = map_same (slot_take (frames ++ more) entry) (slot_take frames entry) slots no_take
     (λ i lt. ap (λ (taken : List Frame). record { frames = taken; mono = (slot_take frames entry i).mono; gains = (slot_take frames entry i).gains; scale = (slot_take frames entry i).scale })
     (taken_stay frames more (entry_slot entry i) (within mixed i lt)))

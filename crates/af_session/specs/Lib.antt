@@ -12,4 +12,5 @@ pub mod NewTracks
 pub mod NewSession
 pub mod Summaries
 pub mod Tallies
+pub mod Shown
 pub mod Rendered

@@ -1,14 +1,21 @@
-//! A turn of the fast mixer, and the bytes that it mixes.
-ghost use Rattle.std.specs.Prelude.{◌≡◌, ℕ, ◌+◌, ◌*◌, ◌≤◌, ◌++◌, false, List, length};
+//! A turn of the fast mixer, the bytes that it mixes, and what its tally notes.
+ghost use Rattle.std.specs.Prelude.{◌≡◌, ℕ, ◌+◌, ◌-◌, ◌*◌, ◌<◌, ◌≤◌, ◌^◌, ◌++◌, false, true, List, length};
+ghost use Rattle.af_base.specs.Log.{slots, entry_at};
+ghost use Rattle.af_fast.specs.Mixer.{IsInOrder as IsFastInOrder, IsLinked};
+ghost use Rattle.af_fast.specs.Mixing.{MixesOnce};
 ghost use Rattle.af_model.specs.Cycles.{is_mixed};
 ghost use Rattle.af_session.specs.FastTurns.{IsCycle, Turned};
+ghost use Rattle.af_session.specs.Shown.{Follows, HasPlaces, frames_written};
 ghost use Rattle.af_session.specs.Sound.{IsWhole, pcm_of, written};
+ghost use Rattle.af_session.specs.Summaries.{Shown, with_entry, with_written};
+ghost use Rattle.af_session.specs.Tallies.{IsTally, Keeps, most_looks};
 ghost use Rattle.af_session.specs.Together.{AreTogether};
 
 use crate::meetings::meet;
 use crate::party::Party;
 use crate::sound::push_pcm;
-use af_base::{Cycle, Frame, Items, Steps};
+use crate::tally::Tally;
+use af_base::{Cycle, FastState, Frame, Items, Steps};
 use af_fast::FastMixer;
 use af_link::Links;
 use af_normal::NormalMixer;
@@ -31,7 +38,77 @@ fn push_written(cycle: Cycle, buffer: &[Frame], bytes: &mut Items<u8>)
     }
 }
 
-// One cycle: a poll, the meetings of all parties, and the mix, whose bytes are appended.
+// The state that a fast mixer polled last, None where it polled none.
+fn state_polled(fast: &mut FastMixer) -> Option<FastState>
+    requires order { IsFastInOrder fast.old }
+    ensures same { fast.new ≡ fast.old }
+    ensures state { result ≡ fast.old.observer.current }
+{
+    let observer = fast.observer();
+    observer.current().copied()
+}
+
+// Notes the frames of a buffer, if it was mixed.
+fn note_written(cycle: Cycle, buffer: &[Frame], tally: &mut Tally)
+    ensures tally { (run : Shown) → IsTally run tally.old → IsTally (with_written run (frames_written cycle buffer.now)) tally.new }
+    ensures keeps { Keeps 0 0 tally.old tally.new }
+{
+    if is_mixed(cycle) {
+        tally.note_frames(buffer);
+    }
+}
+
+// Notes the entry that was added last, with the state that it used.
+fn note_last(fast: &mut FastMixer, tally: &mut Tally)
+    requires order { IsFastInOrder fast.old }
+    requires some { 0 < length fast.old.log.entries }
+    requires room { tally.old.looks + slots ≤ most_looks }
+    requires cycles { tally.old.cycles < 2 ^ 32 }
+    ensures same { fast.new ≡ fast.old }
+    ensures tally { (run : Shown) → IsTally run tally.old → IsTally (with_entry run (record { entry = entry_at fast.old.log.entries (length fast.old.log.entries - 1); state = fast.old.observer.current })) tally.new }
+    ensures keeps { Keeps slots 1 tally.old tally.new }
+{
+    let state = state_polled(fast);
+    let log = fast.log();
+    let Some(entry) = log.entry(log.len() - 1) else {
+        unreachable!()
+    };
+    tally.note_entry(entry, state.as_ref());
+}
+
+// The mix of a cycle. The entry that it adds is noted, with the state that it used, and the frames that it writes; where it adds none nothing is.
+fn mix_noted<L: Ledger>(
+    fast: &mut FastMixer,
+    links: &Links<'_>,
+    buffer: &mut [Frame],
+    tally: &mut Tally,
+    steps: &mut Steps<L>,
+) -> Cycle
+    requires linked { IsLinked links.now fast.old }
+    requires order { IsFastInOrder fast.old }
+    requires turn { fast.old.adopted ≡ true }
+    requires buffer { length buffer.old ≡ fast.old.frames }
+    requires whole { IsWhole fast.old.log }
+    requires places { (n : ℕ) × (tracks : ℕ) × (n ≤ 100000) × HasPlaces n tracks (length fast.old.log.entries) tally.old }
+    ensures linked { IsLinked links.now fast.new }
+    ensures order { IsFastInOrder fast.new }
+    ensures turn { fast.new.adopted ≡ false }
+    ensures sizes { (fast.new.frames ≡ fast.old.frames) × (fast.new.cycles ≡ fast.old.cycles) }
+    ensures mixes { MixesOnce fast.old buffer.old result fast.new buffer.new }
+    ensures length { length buffer.new ≡ length buffer.old }
+    ensures tally { Follows fast.old fast.new tally.old tally.new }
+    ensures places { (n tracks : ℕ) → HasPlaces n tracks (length fast.old.log.entries) tally.old → HasPlaces n tracks (length fast.new.log.entries) tally.new }
+{
+    let entries = fast.log().len();
+    let cycle = fast.mix(links, buffer, steps);
+    if fast.log().len() > entries {
+        note_last(fast, tally);
+        note_written(cycle, buffer, tally);
+    }
+    cycle
+}
+
+// One cycle: a poll, the meetings of all parties, and the mix, which is noted, and whose bytes are appended.
 fn fast_cycle<L: Ledger>(
     clients: &mut [Party],
     normal: &mut NormalMixer,
@@ -39,20 +116,25 @@ fn fast_cycle<L: Ledger>(
     links: &Links<'_>,
     buffer: &mut [Frame],
     bytes: &mut Items<u8>,
+    tally: &mut Tally,
     steps: &mut Steps<L>,
 ) -> Cycle
     requires together { AreTogether links.now (record { clients = clients.old; normal = normal.old; fast = fast.old }) }
     requires between { fast.old.adopted ≡ false }
     requires buffer { length buffer.old ≡ fast.old.frames }
     requires room { length bytes.old.items + 4 * fast.old.frames ≤ bytes.old.room }
+    requires whole { IsWhole fast.old.log }
+    requires places { (n : ℕ) × (tracks : ℕ) × (n ≤ 100000) × HasPlaces n tracks (length fast.old.log.entries) tally.old }
     ensures together { AreTogether links.now (record { clients = clients.new; normal = normal.new; fast = fast.new }) }
     ensures between { fast.new.adopted ≡ false }
     ensures cycle { IsCycle (record { clients = clients.old; normal = normal.old; fast = fast.old }) buffer.old result (record { clients = clients.new; normal = normal.new; fast = fast.new }) buffer.new }
     ensures bytes { bytes.new ≡ record bytes.old { items = bytes.old.items ++ written result buffer.new } }
+    ensures tally { Follows fast.old fast.new tally.old tally.new }
+    ensures places { (n tracks : ℕ) → HasPlaces n tracks (length fast.old.log.entries) tally.old → HasPlaces n tracks (length fast.new.log.entries) tally.new }
 {
     fast.adopt(links, steps);
     meet(clients, normal, fast, links, steps);
-    let cycle = fast.mix(links, buffer, steps);
+    let cycle = mix_noted(fast, links, buffer, tally, steps);
     push_written(cycle, buffer, bytes);
     cycle
 }
@@ -66,6 +148,7 @@ fn fast_cycles<L: Ledger>(
     count: u32,
     buffer: &mut [Frame],
     bytes: &mut Items<u8>,
+    tally: &mut Tally,
     steps: &mut Steps<L>,
 )
     requires together { AreTogether links.now (record { clients = clients.old; normal = normal.old; fast = fast.old }) }
@@ -73,20 +156,23 @@ fn fast_cycles<L: Ledger>(
     requires buffer { length buffer.old ≡ fast.old.frames }
     requires room { length bytes.old.items + 4 * (count * fast.old.frames) ≤ bytes.old.room }
     requires whole { IsWhole fast.old.log }
+    requires places { (n : ℕ) × (tracks : ℕ) × (n ≤ 100000) × HasPlaces n tracks (length fast.old.log.entries) tally.old }
     ensures together { AreTogether links.now (record { clients = clients.new; normal = normal.new; fast = fast.new }) }
     ensures between { fast.new.adopted ≡ false }
     ensures sizes { (fast.new.frames ≡ fast.old.frames) × (fast.new.cycles ≡ fast.old.cycles) }
     ensures turned { Turned count (record { clients = clients.old; normal = normal.old; fast = fast.old }) (record { clients = clients.new; normal = normal.new; fast = fast.new }) bytes.old bytes.new }
+    ensures tally { Follows fast.old fast.new tally.old tally.new }
+    ensures places { (n tracks : ℕ) → HasPlaces n tracks (length fast.old.log.entries) tally.old → HasPlaces n tracks (length fast.new.log.entries) tally.new }
 {
     for i in 0..count {
-        let cycle = fast_cycle(clients, normal, fast, links, buffer, bytes, steps);
+        let cycle = fast_cycle(clients, normal, fast, links, buffer, bytes, tally, steps);
         if !is_mixed(cycle) {
             return;
         }
     }
 }
 
-/// The fast mixer's turn: up to `count` cycles, in each of which all parties meet between the poll and the mix. The first cycle that mixes nothing is the last. The bytes of each mix are appended to `bytes`, which has room for all of them. It answers how many entries were added to the log, and takes no memory.
+/// The fast mixer's turn: up to `count` cycles, in each of which all parties meet between the poll and the mix. The first cycle that mixes nothing is the last. The bytes of each mix are appended to `bytes`, which has room for all of them, and the tally notes each entry and what it wrote. It answers how many entries were added to the log, and takes no memory.
 ///
 /// The bytes are the sound of the entries added, and the sound that the log had before stays: where `bytes`, behind what went out before, were the sound of the log, they are so again.
 pub fn fast_turn<L: Ledger>(
@@ -97,6 +183,7 @@ pub fn fast_turn<L: Ledger>(
     count: u32,
     buffer: &mut [Frame],
     bytes: &mut Items<u8>,
+    tally: &mut Tally,
     steps: &mut Steps<L>,
 ) -> usize
     requires together { AreTogether links.now (record { clients = clients.old; normal = normal.old; fast = fast.old }) }
@@ -104,6 +191,7 @@ pub fn fast_turn<L: Ledger>(
     requires buffer { length buffer.old ≡ fast.old.frames }
     requires room { length bytes.old.items + 4 * (count * fast.old.frames) ≤ bytes.old.room }
     requires whole { IsWhole fast.old.log }
+    requires places { (n : ℕ) × (tracks : ℕ) × (n ≤ 100000) × HasPlaces n tracks (length fast.old.log.entries) tally.old }
     ensures together { AreTogether links.now (record { clients = clients.new; normal = normal.new; fast = fast.new }) }
     ensures between { fast.new.adopted ≡ false }
     ensures sizes { (fast.new.frames ≡ fast.old.frames) × (fast.new.cycles ≡ fast.old.cycles) }
@@ -111,8 +199,10 @@ pub fn fast_turn<L: Ledger>(
     ensures turned { Turned count (record { clients = clients.old; normal = normal.old; fast = fast.old }) (record { clients = clients.new; normal = normal.new; fast = fast.new }) bytes.old bytes.new }
     ensures answer { length fast.old.log.entries + result ≡ length fast.new.log.entries }
     ensures sound { (before : List ℕ) → before ++ bytes.old.items ≡ pcm_of fast.old.frames fast.old.log → before ++ bytes.new.items ≡ pcm_of fast.old.frames fast.new.log }
+    ensures tally { Follows fast.old fast.new tally.old tally.new }
+    ensures places { (n tracks : ℕ) → HasPlaces n tracks (length fast.old.log.entries) tally.old → HasPlaces n tracks (length fast.new.log.entries) tally.new }
 {
     let start = fast.log().len();
-    fast_cycles(clients, normal, fast, links, count, buffer, bytes, steps);
+    fast_cycles(clients, normal, fast, links, count, buffer, bytes, tally, steps);
     fast.log().len() - start
 }

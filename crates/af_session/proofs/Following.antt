@@ -1,0 +1,213 @@
+-- How what a run shows follows the cycles of the fast mixer.
+use Rattle.std.proofs.Common.{◌≡◌, ℕ, zero, suc, ◌+◌, ◌-◌, ◌<◌, ◌≤◌, if◌then◌else◌, Bool, true, false, All, List, [], ◌∷◌, ◌++◌, length, map, Option, Some, None, refl, sym, ap, subst, ◌∙◌, append-nil, append_assoc, arith}
+use Rattle.std.proofs.lemmas.List.{map-append, length_push, get_or_push}
+use Rattle.std.proofs.lemmas.List.Concat.{flat_map-append, flat_map-cons}
+use Rattle.std.proofs.lemmas.List.Elements.{All-head, All-tail}
+use Rattle.af_base.specs.declared.event.ClientCall.{ClientCall}
+use Rattle.af_base.specs.declared.frame.Frame.{Frame}
+use Rattle.af_base.specs.declared.log.Cycle.{Cycle}
+use Rattle.af_base.specs.declared.log.CycleEntry.{CycleEntry}
+use Rattle.af_base.specs.declared.state.FastState.{FastState}
+use Rattle.af_base.specs.Log.{Logged, entry_at, no_entry, takes_of}
+use Rattle.af_base.specs.Mix.{Take, mix}
+use Rattle.af_base.specs.Turn.{Turn}
+use Rattle.af_journal.specs.Logged.{LieWithin}
+use Rattle.af_model.specs.declared.plain_calls.Poll.{Poll}
+use Rattle.af_model.specs.declared.plain_calls.Poll.TheVariants.{Nothing, Same, New}
+use Rattle.af_model.specs.declared.states.ObserverEvent.{ObserverEvent}
+use Rattle.af_model.specs.declared.states.ObserverEvent.TheVariants.{SawNext, Ack}
+use Rattle.af_model.specs.declared.states.ObserverEvent.TheVariants as observer
+use Rattle.af_model.specs.Cycles.{UseUpTo, is_mixed, last_used, state_of}
+use Rattle.af_model.specs.Journals.{RoundNoted}
+use Rattle.af_server.specs.Order.{ServerState}
+use Rattle.af_stateq.specs.Answers.{WasPolled}
+use Rattle.af_stateq.specs.Laws.{polled_states}
+use Rattle.af_stateq.specs.Observes.{Observes}
+use Rattle.af_link.specs.declared.names.StreamNames.{StreamNames}
+use Rattle.af_fast.specs.Mixer.{IsInOrder, MixerState, is_over}
+use Rattle.af_fast.specs.Mixing.{AddsCycle, Adopts, Writes}
+use Rattle.af_session.specs.Met.{Met}
+use Rattle.af_session.specs.Shown.{Follows, entries_written, entry_written, frames_written, shown_at, shows, use_of}
+use Rattle.af_session.specs.Sound.{IsWhole}
+use Rattle.af_session.specs.Summaries.{EntryUsed, Shown, with_entry, with_written}
+use Rattle.af_session.specs.Tallies.{Tallied, IsTally}
+use Rattle.af_session.specs.Together.{SessionState}
+use Rattle.af_session.proofs.Sounding.{takes_stay}
+
+-- ## States
+
+-- a state keeps its number where more states follow
+pub state_of-front : (xs more : List FastState) (k : ℕ) → k ≤ length xs → state_of (xs ++ more) k ≡ state_of xs k
+state_of-front xs more zero few = refl
+state_of-front [] more (suc k) few = absurd (omega arith)
+state_of-front (x ∷ xs) more (suc zero) few = refl
+state_of-front (x ∷ xs) more (suc (suc k)) few = state_of-front xs more (suc k) (omega arith)
+
+-- so entries that name no later ones use the same states
+pub uses_stay : (xs more : List FastState) (n : ℕ) (entries : List CycleEntry) → n ≤ length xs → UseUpTo n entries → map (use_of (xs ++ more)) entries ≡ map (use_of xs) entries
+uses_stay xs more n [] few up = refl
+uses_stay xs more n (entry ∷ entries) few up =
+    let here : state_of (xs ++ more) entry.state ≡ state_of xs entry.state = state_of-front xs more entry.state (let le = up.0 in omega arith) in
+    λ i. record { entry = entry; state = here i } ∷ uses_stay xs more n entries few up.1 i
+
+-- events after which these states more are polled
+polled_more : (rest : List (ObserverEvent ServerState)) (more : List FastState) → ((y : FastState) → polled_states y rest ≡ more) → (y : FastState) (es : List (ObserverEvent ServerState)) → polled_states y (es ++ rest) ≡ polled_states y es ++ more
+polled_more rest more h y [] = h y
+polled_more rest more h y (SawNext k (Some x) items ∷ es) = polled_more rest more h x es
+polled_more rest more h y (SawNext k None items ∷ es) = polled_more rest more h y es
+polled_more rest more h y (Ack k items ∷ es) = ap (λ (l : List FastState). y ∷ l) (polled_more rest more h y es)
+polled_more rest more h y (observer.Learn c ∷ es) = polled_more rest more h y es
+
+-- the states that a mixer polled
+abbrev states_at : FastState → MixerState → List FastState
+states_at first m = polled_states first m.observer.past.events
+
+-- the mixer has polled some states more, and else is as it was
+record PollsMore (first : FastState) (m m' : MixerState) : Type 0 where
+  more : List FastState
+  states : states_at first m' ≡ states_at first m ++ more
+  frames : m'.frames ≡ m.frames
+  log : m'.log ≡ m.log
+
+-- whatever a poll found
+poll_more : (first : FastState) (o o' : Observes ServerState StreamNames) (poll : Poll) (s s' : ℕ) → WasPolled o poll o' s s' → (more : List FastState) × (polled_states first o'.past.events ≡ polled_states first o.past.events ++ more)
+poll_more first o o' Nothing s s' (none, is, stepped) =
+    ([], ap (λ (y : Observes ServerState StreamNames). polled_states first y.past.events) is ∙ polled_more (SawNext o.past.number None [] ∷ []) [] (λ _. refl) first o.past.events)
+poll_more first o o' Same s s' (some, is, stepped) =
+    ([], ap (λ (y : Observes ServerState StreamNames). polled_states first y.past.events) is ∙ polled_more (SawNext o.past.number None [] ∷ []) [] (λ _. refl) first o.past.events)
+poll_more first o o' (New number) s s' (next, (x, took), stepped) =
+    (x ∷ [], ap (λ (y : Observes ServerState StreamNames). polled_states first y.past.events) took.2
+        ∙ ap (polled_states first) (append_assoc o.past.events (SawNext (o.past.number + 1) (Some x) took.0 ∷ []) (Ack (o.past.number + 1) took.1 ∷ []))
+        ∙ polled_more (SawNext (o.past.number + 1) (Some x) took.0 ∷ Ack (o.past.number + 1) took.1 ∷ []) (x ∷ []) (λ _. refl) first o.past.events)
+
+-- what a poll leaves
+adopt_more : (first : FastState) (m p : MixerState) → Adopts m p → PollsMore first m p
+adopt_more first m p adopts = by_over (is_over m) refl
+  where
+    by_over : (over : Bool) → is_over m ≡ over → PollsMore first m p
+    by_over true is = record {
+      more = [];
+      states = ap (states_at first) (adopts.rests is) ∙ sym (append-nil (states_at first m));
+      frames = ap (λ (y : MixerState). y.frames) adopts.same;
+      log = ap (λ (y : MixerState). y.log) adopts.same;
+    }
+    by_over false is =
+        let poll = adopts.polls is in
+        let more = poll_more first m.observer p.observer poll.0 poll.1 poll.2 poll.3 in
+        record {
+          more = more.0;
+          states = more.1;
+          frames = ap (λ (y : MixerState). y.frames) adopts.same;
+          log = ap (λ (y : MixerState). y.log) adopts.same;
+        }
+
+-- what the meetings leave
+meet_more : (first : FastState) (a b : SessionState) → Met a b → PollsMore first a.fast b.fast
+meet_more first a b met = record {
+  more = [];
+  states = ap (λ (y : MixerState). states_at first y) met.ends.fast ∙ polled_more (observer.Learn (length a.normal.mutator.past.events) ∷ []) [] (λ _. refl) first a.fast.observer.past.events;
+  frames = ap (λ (y : MixerState). y.frames) met.ends.fast;
+  log = ap (λ (y : MixerState). y.log) met.ends.fast;
+}
+
+-- the entries of a mixer in order use no later states than it polled
+shows_more : (xs more : List FastState) (len tracks : ℕ) (calls : List (List (List ClientCall))) (turns : List (Option Turn)) (frames : List Frame) (n : ℕ) (entries : List CycleEntry) → n ≤ length xs → UseUpTo n entries
+    → shows (xs ++ more) len tracks calls turns frames entries ≡ shows xs len tracks calls turns frames entries
+unfolding shows
+shows_more xs more len tracks calls turns frames n entries few up =
+    let before : Shown = shows xs len tracks calls turns frames entries in
+    ap (λ (used : List EntryUsed). record before { entries = used }) (uses_stay xs more n entries few up)
+
+shown_more : (first : FastState) (tracks : ℕ) (rounds : List RoundNoted) (m m' : MixerState) → IsInOrder m → PollsMore first m m' → shown_at first tracks rounds m' ≡ shown_at first tracks rounds m
+shown_more first tracks rounds m m' order p =
+    let calls = map (λ (r : RoundNoted). r.calls) rounds in
+    let turns = map (λ (r : RoundNoted). r.turn) rounds in
+    let few : last_used m.log.entries ≤ length (states_at first m) = let low = order.uses.low in omega (arith, order.observer.told.counted first) in
+    (λ i. shows (p.states i) (p.frames i) tracks calls turns (p.log i).frames (p.log i).entries)
+    ∙ shows_more (states_at first m) p.more m.frames tracks calls turns m.log.frames (last_used m.log.entries) m.log.entries few order.uses.used
+
+pub shown_adopted : (first : FastState) (tracks : ℕ) (rounds : List RoundNoted) (m p : MixerState) → IsInOrder m → Adopts m p → shown_at first tracks rounds p ≡ shown_at first tracks rounds m
+shown_adopted first tracks rounds m p order adopts = shown_more first tracks rounds m p order (adopt_more first m p adopts)
+
+pub shown_met : (first : FastState) (tracks : ℕ) (rounds : List RoundNoted) (a b : SessionState) → IsInOrder a.fast → Met a b → shown_at first tracks rounds b.fast ≡ shown_at first tracks rounds a.fast
+shown_met first tracks rounds a b order met = shown_more first tracks rounds a.fast b.fast order (meet_more first a b met)
+
+-- ## Frames written
+
+-- frames that are those of a mix alone
+same_written : (cycle : Cycle) (xs ys : List Frame) → (is_mixed cycle ≡ true → xs ≡ ys) → frames_written cycle xs ≡ frames_written cycle ys
+same_written cycle xs ys same = by_mixed (is_mixed cycle) same
+  where
+    by_mixed : (mixed : Bool) → (mixed ≡ true → xs ≡ ys) → (if mixed then xs else []) ≡ (if mixed then ys else [])
+    by_mixed true h = h refl
+    by_mixed false h = refl
+
+-- frames that are added to a log leave what its entries wrote as it was
+entry_written_stays : (len : ℕ) (frames more : List Frame) (entry : CycleEntry) → LieWithin frames entry → entry_written len (frames ++ more) entry ≡ entry_written len frames entry
+entry_written_stays len frames more entry within = same_written entry.cycle (mix (takes_of (frames ++ more) entry) len) (mix (takes_of frames entry) len)
+    (λ mixed. ap (λ (takes : List Take). mix takes len) (takes_stay frames more entry within mixed))
+
+written_stays : (len : ℕ) (frames more : List Frame) (entries : List CycleEntry) → All (LieWithin frames) entries → entries_written len (frames ++ more) entries ≡ entries_written len frames entries
+written_stays len frames more [] all = refl
+written_stays len frames more (entry ∷ entries) all =
+    flat_map-cons (entry_written len (frames ++ more)) entry entries
+    ∙ ap (λ (out : List Frame). out ++ entries_written len (frames ++ more) entries) (entry_written_stays len frames more entry (All-head (LieWithin frames) entry entries all))
+    ∙ ap (λ (out : List Frame). entry_written len frames entry ++ out) (written_stays len frames more entries (All-tail (LieWithin frames) entry entries all))
+    ∙ sym (flat_map-cons (entry_written len frames) entry entries)
+
+-- ## A mix
+
+-- what one entry more shows
+shows_entry : (states : List FastState) (len tracks : ℕ) (calls : List (List (List ClientCall))) (turns : List (Option Turn)) (frames more : List Frame) (entries : List CycleEntry) (entry : CycleEntry) (state : Option FastState) (out : List Frame)
+    → All (LieWithin frames) entries → state_of states entry.state ≡ state → entry_written len (frames ++ more) entry ≡ out
+    → shows states len tracks calls turns (frames ++ more) (entries ++ entry ∷ []) ≡ with_written (with_entry (shows states len tracks calls turns frames entries) (record { entry = entry; state = state })) out
+unfolding shows
+shows_entry states len tracks calls turns frames more entries entry state out within is wrote =
+    let before : Shown = shows states len tracks calls turns frames entries in
+    let used : map (use_of states) (entries ++ entry ∷ []) ≡ before.entries ++ record { entry = entry; state = state } ∷ [] =
+    map-append (use_of states) entries (entry ∷ []) ∙ (λ i. map (use_of states) entries ++ record { entry = entry; state = is i } ∷ []) in
+    let alone : entries_written len (frames ++ more) (entry ∷ []) ≡ out = flat_map-cons (entry_written len (frames ++ more)) entry [] ∙ append-nil (entry_written len (frames ++ more) entry) ∙ wrote in
+    let written : entries_written len (frames ++ more) (entries ++ entry ∷ []) ≡ before.written ++ out =
+    flat_map-append (entry_written len (frames ++ more)) entries (entry ∷ [])
+    ∙ ap (λ (xs : List Frame). entries_written len (frames ++ more) entries ++ xs) alone
+    ∙ ap (λ (xs : List Frame). xs ++ out) (written_stays len frames more entries within) in
+    λ i. record before { entries = used i; written = written i }
+
+-- the entry that was added last
+pub last_entry : (m m' : MixerState) (entry : CycleEntry) → AddsCycle m m' entry → entry_at m'.log.entries (length m'.log.entries - 1) ≡ entry
+last_entry m m' entry a =
+    ap (λ (es : List CycleEntry). entry_at es (length es - 1)) a.entries
+    ∙ get_or_push m.log.entries entry no_entry (length (m.log.entries ++ entry ∷ []) - 1) (omega (arith, length_push m.log.entries entry))
+
+-- what a cycle shows that adds an entry
+pub shown_added : (first : FastState) (tracks : ℕ) (rounds : List RoundNoted) (m m' : MixerState) (entry : CycleEntry) (out out' : List Frame) → IsInOrder m → IsWhole m.log → length out ≡ m.frames → m'.frames ≡ m.frames
+    → AddsCycle m m' entry → Writes m' entry out out'
+    → shown_at first tracks rounds m' ≡ with_written (with_entry (shown_at first tracks rounds m) (record { entry = entry; state = m'.observer.current })) (frames_written entry.cycle out')
+shown_added first tracks rounds m m' entry out out' order whole long sizes a w =
+    let calls = map (λ (r : RoundNoted). r.calls) rounds in
+    let turns = map (λ (r : RoundNoted). r.turn) rounds in
+    let states : List FastState = states_at first m in
+    let same : states_at first m' ≡ states = ap (λ (o : Observes ServerState StreamNames). polled_states first o.past.events) a.takes.observer in
+    let taken = a.takes.grown in
+    let frames : List Frame = m.log.frames ++ taken.0 in
+    let state : state_of states entry.state ≡ m'.observer.current = ap (state_of states) a.state ∙ order.observer.told.current first ∙ sym (ap (λ (o : Observes ServerState StreamNames). o.current) a.takes.observer) in
+    let wrote : entry_written m.frames frames entry ≡ frames_written entry.cycle out' =
+    same_written entry.cycle (mix (takes_of frames entry) m.frames) out' (λ mixed. (λ i. mix (takes_of (sym taken.1 i) entry) (sym long i)) ∙ sym (w.0 mixed)) in
+    (λ i. shows (same i) (sizes i) tracks calls turns (taken.1 i) (a.entries i))
+    ∙ shows_entry states m.frames tracks calls turns m.log.frames taken.0 m.log.entries entry m'.observer.current (frames_written entry.cycle out') whole state wrote
+
+-- one that adds none
+pub shown_still : (first : FastState) (tracks : ℕ) (rounds : List RoundNoted) (m m' : MixerState) → m' ≡ record m { adopted = false } → shown_at first tracks rounds m' ≡ shown_at first tracks rounds m
+shown_still first tracks rounds m m' same = ap (shown_at first tracks rounds) same
+
+-- ## Cycles
+
+-- one after the other
+pub follows_on : (a b c : MixerState) (x y z : Tallied) → Follows a b x y → Follows b c y z → Follows a c x z
+follows_on a b c x y z p q = λ first tracks rounds is. q first tracks rounds (p first tracks rounds is)
+
+-- a cycle follows where its mix does
+pub follows_cycle : (s : SessionState) (p : MixerState) (met : SessionState) (m' : MixerState) (x y : Tallied) → IsInOrder s.fast → IsInOrder p → Adopts s.fast p → Met (record s { fast = p }) met → Follows met.fast m' x y → Follows s.fast m' x y
+follows_cycle s p met m' x y order polled adopts meets mixes = λ first tracks rounds is.
+    mixes first tracks rounds
+    (subst (λ (run : Shown). IsTally run x) (sym (shown_met first tracks rounds (record s { fast = p }) met polled meets ∙ shown_adopted first tracks rounds s.fast p order adopts)) is)

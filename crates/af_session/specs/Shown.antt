@@ -1,0 +1,86 @@
+-- What a run shows for its summary: a function of its rounds, of the states that were pushed and of the log.
+use Rattle.std.specs.Prelude.{ℕ, ◌+◌, ◌*◌, ◌≡◌, ◌≤◌, if◌then◌else◌, List, [], ◌∷◌, ◌++◌, length, map, slice_index_or, Option, Some, None}
+use Rattle.std.specs.List.{flat_map, range_with_len}
+use Rattle.af_base.specs.declared.event.ClientCall.{ClientCall}
+use Rattle.af_base.specs.declared.frame.Frame.{Frame}
+use Rattle.af_base.specs.declared.log.Cycle.{Cycle}
+use Rattle.af_base.specs.declared.log.CycleEntry.{CycleEntry}
+use Rattle.af_base.specs.declared.state.FastState.{FastState}
+use Rattle.af_base.specs.Log.{slots, takes_of}
+use Rattle.af_base.specs.Mix.{mix}
+use Rattle.af_base.specs.Turn.{Turn}
+use Rattle.af_model.specs.declared.states.MutatorEvent.{MutatorEvent}
+use Rattle.af_model.specs.Cycles.{is_mixed, state_of}
+use Rattle.af_model.specs.Journals.{JournalData, RoundNoted, entries_of, frames_of}
+use Rattle.af_fast.specs.Mixer.{MixerState}
+use Rattle.af_server.specs.Order.{ServerState}
+use Rattle.af_stateq.specs.Laws.{polled_states, pushed_states}
+use Rattle.af_session.specs.Summaries.{EntryUsed, Shown}
+use Rattle.af_session.specs.Tallies.{Tallied, IsTally}
+
+-- ## Of rounds and a log
+
+-- an entry with the state that it names among these, of which the first has the number 1
+abbrev pub use_of : List FastState → CycleEntry → EntryUsed
+use_of states entry = record { entry = entry; state = state_of states entry.state }
+
+-- the frames that a cycle wrote: none where it didn't mix
+abbrev pub frames_written : Cycle → List Frame → List Frame
+frames_written cycle out = if is_mixed cycle then out else []
+
+-- those of an entry at a length: those of its mix, from the frames of its log
+abbrev pub entry_written : ℕ → List Frame → CycleEntry → List Frame
+entry_written len frames entry = frames_written entry.cycle (mix (takes_of frames entry) len)
+
+-- those of some entries, one after the other
+abbrev pub entries_written : ℕ → List Frame → List CycleEntry → List Frame
+entries_written len frames entries = flat_map (entry_written len frames) entries
+
+-- all calls of the client of track i, by the calls of each round
+abbrev pub calls_over : List (List (List ClientCall)) → ℕ → List ClientCall
+calls_over rounds i = flat_map (λ calls. slice_index_or calls i []) rounds
+
+-- the turn of a round, if it had one, and those of all rounds
+abbrev pub turn_in : Option Turn → List Turn
+turn_in None = []
+turn_in (Some turn) = turn ∷ []
+
+abbrev pub turns_over : List (Option Turn) → List Turn
+turns_over rounds = flat_map turn_in rounds
+
+-- what rounds with these calls and turns show of so many tracks, with the entries of a log, which name these states
+unfoldable pub shows : (states : List FastState) (len tracks : ℕ) (calls : List (List (List ClientCall))) (turns : List (Option Turn)) (frames : List Frame) (entries : List CycleEntry) → Shown
+shows states len tracks calls turns frames entries = record {
+  calls = map (calls_over calls) (range_with_len 0 tracks);
+  turns = turns_over turns;
+  entries = map (use_of states) entries;
+  written = entries_written len frames entries;
+}
+
+-- ## Of a journal
+
+-- what a run shows by its journal, at so many frames a cycle, and by what the mutator pushed
+abbrev pub shown_by : ℕ → JournalData → List (MutatorEvent ServerState) → Shown
+shown_by len j events = let seen = entries_of j.rounds in
+    shows (pushed_states events) len j.tracks (map (λ r. r.calls) j.rounds) (map (λ r. r.turn) j.rounds) (frames_of seen) (map (λ e. e.entry) seen)
+
+-- ## While the run goes on
+
+-- what the rounds noted so far show, by the states that the fast mixer polled, whatever stood before the first, and by its log
+abbrev pub shown_at : FastState → ℕ → List RoundNoted → MixerState → Shown
+shown_at first tracks rounds m =
+    shows (polled_states first m.observer.past.events) m.frames tracks (map (λ r. r.calls) rounds) (map (λ r. r.turn) rounds) m.log.frames m.log.entries
+
+-- A tally follows the fast mixer: where it was that of some rounds before, it is so again
+abbrev pub Follows : MixerState → MixerState → Tallied → Tallied → Type 0
+Follows m m' a b = (first : FastState) (tracks : ℕ) (rounds : List RoundNoted) → IsTally (shown_at first tracks rounds m) a → IsTally (shown_at first tracks rounds m') b
+
+-- It follows a round: where it was that of the rounds before, it is that of them and this one
+abbrev pub FollowsRound : RoundNoted → MixerState → MixerState → Tallied → Tallied → Type 0
+FollowsRound r m m' a b = (first : FastState) (tracks : ℕ) (rounds : List RoundNoted) → IsTally (shown_at first tracks rounds m) a → IsTally (shown_at first tracks (rounds ++ r ∷ []) m') b
+
+-- After so many rounds with so many entries it has each track, and no more looks and cycles than those can show
+pub record HasPlaces (rounds tracks entries : ℕ) (t : Tallied) : Type 0 where
+  pub tracks_are : length t.tracks ≡ tracks
+  pub looks : t.looks ≤ slots * (rounds + entries)
+  pub cycles : t.cycles ≤ entries
