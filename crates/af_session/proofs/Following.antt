@@ -111,7 +111,7 @@ meet_more first a b met = record {
 }
 
 -- the entries of a mixer in order use no later states than it polled
-shows_more : (xs more : List FastState) (len tracks : ℕ) (calls : List (List (List ClientCall))) (turns : List (Option Turn)) (frames : List Frame) (n : ℕ) (entries : List CycleEntry) → n ≤ length xs → UseUpTo n entries
+pub shows_more : (xs more : List FastState) (len tracks : ℕ) (calls : List (List (List ClientCall))) (turns : List (Option Turn)) (frames : List Frame) (n : ℕ) (entries : List CycleEntry) → n ≤ length xs → UseUpTo n entries
     → shows (xs ++ more) len tracks calls turns frames entries ≡ shows xs len tracks calls turns frames entries
 unfolding shows
 shows_more xs more len tracks calls turns frames n entries few up =

@@ -38,7 +38,7 @@ AllCalls = List (List (List ClientCall))
 -- ## One round more
 
 -- none of many empty lists has items
-empty_at : {X : Type 0} (n i : ℕ) → slice_index_or (replicate n []) i [] ≡ [] {A = X}
+pub empty_at : {X : Type 0} (n i : ℕ) → slice_index_or (replicate n []) i [] ≡ [] {A = X}
 empty_at zero i = refl
 empty_at (suc n) zero = refl
 empty_at (suc n) (suc i) = empty_at n i

@@ -6,12 +6,12 @@ use Rattle.af_base.specs.declared.frame.Frame.{Frame}
 use Rattle.af_base.specs.declared.log.Cycle.{Cycle}
 use Rattle.af_base.specs.declared.log.CycleEntry.{CycleEntry}
 use Rattle.af_base.specs.declared.state.FastState.{FastState}
-use Rattle.af_base.specs.Log.{slots, takes_of}
+use Rattle.af_base.specs.Log.{Logged, slots, takes_of}
 use Rattle.af_base.specs.Mix.{mix}
 use Rattle.af_base.specs.Turn.{Turn}
 use Rattle.af_model.specs.declared.states.MutatorEvent.{MutatorEvent}
 use Rattle.af_model.specs.Cycles.{is_mixed, state_of}
-use Rattle.af_model.specs.Journals.{JournalData, RoundNoted, entries_of, frames_of}
+use Rattle.af_model.specs.Journals.{JournalData, RoundNoted, RoundsNoted, entries_of, frames_of}
 use Rattle.af_fast.specs.Mixer.{MixerState}
 use Rattle.af_server.specs.Order.{ServerState}
 use Rattle.af_stateq.specs.Laws.{polled_states, pushed_states}
@@ -63,6 +63,10 @@ shows states len tracks calls turns frames entries = record {
 abbrev pub shown_by : ℕ → JournalData → List (MutatorEvent ServerState) → Shown
 shown_by len j events = let seen = entries_of j.rounds in
     shows (pushed_states events) len j.tracks (map (λ r. r.calls) j.rounds) (map (λ r. r.turn) j.rounds) (frames_of seen) (map (λ e. e.entry) seen)
+
+-- by rounds noted and the log of their cycles
+abbrev pub shown_in : ℕ → RoundsNoted → Logged → List (MutatorEvent ServerState) → Shown
+shown_in len noted log events = shows (pushed_states events) len noted.tracks (map (λ r. r.calls) noted.rounds) (map (λ r. r.turn) noted.rounds) log.frames log.entries
 
 -- ## While the run goes on
 
