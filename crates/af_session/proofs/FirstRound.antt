@@ -4,6 +4,7 @@ use Rattle.std.proofs.lemmas.Option.{same_Some, slice_get_within}
 use Rattle.af_base.specs.declared.frame.Frame.{Frame}
 use Rattle.af_fast.specs.Mixer.{MixerState}
 use Rattle.af_link.specs.declared.links.Links.{Links}
+use Rattle.af_model.specs.Journals.{RoundNoted}
 use Rattle.af_normal.specs.State.{NormalState}
 use Rattle.af_script.specs.Data.{ScriptData}
 use Rattle.af_script.specs.declared.op.Op.{Op}
@@ -11,7 +12,7 @@ use Rattle.af_script.specs.declared.op.TurnSpec.{TurnSpec}
 use Rattle.af_session.specs.NewSession.{IsNewSession, tracks_of}
 use Rattle.af_session.specs.NewTracks.{IsTrackAt}
 use Rattle.af_session.specs.Parties.{PartyState}
-use Rattle.af_session.specs.Rendered.{HaveFiles, Rendered, Runs}
+use Rattle.af_session.specs.Rendered.{HaveFiles, Rendered, Renders, Runs}
 use Rattle.af_session.specs.Rounds.{Given, IsReady, file_at, ops_at, ops_of}
 use Rattle.af_session.specs.Shares.{SharedState}
 use Rattle.af_session.specs.Sound.{pcm_of}
@@ -59,20 +60,23 @@ module _ (script : ScriptData) (shared : SharedState) (s : SessionState) (new : 
   pub frames_first : s.fast.frames ≡ script.frames
   frames_first = ap (λ (m : MixerState). m.frames) new.fast
 
+  -- the log is empty
+  pub empty_first : (s.fast.log.entries ≡ []) × (s.fast.log.frames ≡ [])
+  empty_first = (ap (λ (m : MixerState). m.log.entries) new.fast, ap (λ (m : MixerState). m.log.frames) new.fast)
+
   -- nothing was heard yet
   pub silent_first : (len : ℕ) → pcm_of len s.fast.log ≡ []
   silent_first len = ap (λ (m : MixerState). pcm_of len m.log) new.fast
 
   -- turns that were played since are a run of the script
-  pub rendered : (turns : List TurnSpec) (t : SessionState) → Runs given turns s t → Rendered script files turns t
-  rendered turns t runs =
+  pub rendered : (turns : List TurnSpec) (rounds : List RoundNoted) (t : SessionState) → Runs given turns s rounds t → Renders script files turns rounds t
+  rendered turns rounds t runs =
       let len = s.fast.frames in
       let heard : pcm_of len t.fast.log ≡ runs.bytes = runs.sound ∙ ap (λ (xs : List ℕ). xs ++ runs.bytes) (silent_first len) in
       record {
         shared = shared;
         start = s;
         new = new;
-        rounds = runs.rounds;
         bytes = runs.bytes;
         run = runs.run;
         sound = sym heard ∙ ap (λ (n : ℕ). pcm_of n t.fast.log) frames_first;
@@ -80,4 +84,4 @@ module _ (script : ScriptData) (shared : SharedState) (s : SessionState) (new : 
 
   -- no turn was
   pub rendered_none : Rendered script files [] s
-  rendered_none = record { shared = shared; start = s; new = new; rounds = []; bytes = []; run = (refl, refl, refl); sound = sym (silent_first script.frames) }
+  rendered_none = ([], record { shared = shared; start = s; new = new; bytes = []; run = (refl, refl, refl); sound = sym (silent_first script.frames) })

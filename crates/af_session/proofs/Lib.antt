@@ -27,6 +27,11 @@ pub mod RunMore
 pub mod Outgoing
 pub mod FirstRound
 mod NotedCalls
+mod RoundTold
+mod LogGoes
+mod RoundForms
+mod JournalSound
+mod NotedRounds
 mod FilesGiven
 mod Following
 mod FollowingRounds

@@ -9,24 +9,41 @@ use Rattle.af_session.specs.Sound.{pcm_of}
 use Rattle.af_session.specs.Together.{SessionState}
 
 -- none were played
-pub run_none : (g : Given) (s : SessionState) → Runs g [] s s
-run_none g s = record { rounds = []; bytes = []; run = (refl, refl, refl); sound = sym (append-nil (pcm_of s.fast.frames s.fast.log)) }
+pub run_none : (g : Given) (s : SessionState) → Runs g [] s [] s
+run_none g s = record { bytes = []; run = (refl, refl, refl); sound = sym (append-nil (pcm_of s.fast.frames s.fast.log)) }
 
 run_behind : (g : Given) (turns : List TurnSpec) (turn : TurnSpec) (s m t : SessionState) (rounds : List RoundNoted) (out : List ℕ) → IsTurnRun g turns s rounds out m → (r : RoundNoted) (bytes : List ℕ) → IsRound g turn m r bytes t
-    → (noted : List RoundNoted) × IsTurnRun g (turns ++ turn ∷ []) s noted (out ++ bytes) t
-run_behind g [] turn s m t rounds out run r bytes round =
-    (r ∷ [], (r, [], bytes, [], t, refl, ap (λ (xs : List ℕ). xs ++ bytes) run.1 ∙ sym (append-nil bytes), subst (λ (x : SessionState). IsRound g turn x r bytes t) run.2 round, (refl, refl, refl)))
-run_behind g (x ∷ xs) turn s m t rounds out run r bytes round =
-    let later = run_behind g xs turn run.4 m t run.1 run.3 run.8 r bytes round in
-    (run.0 ∷ later.0, (run.0, later.0, run.2, run.3 ++ bytes, run.4, refl, ap (λ (ys : List ℕ). ys ++ bytes) run.6 ∙ append_assoc run.2 run.3 bytes, run.7, later.1))
+    → IsTurnRun g (turns ++ turn ∷ []) s (rounds ++ r ∷ []) (out ++ bytes) t
+run_behind g [] turn s m t rounds out run r bytes round = (
+  r,
+  [],
+  bytes,
+  [],
+  t,
+  ap (λ (xs : List RoundNoted). xs ++ r ∷ []) run.0,
+  ap (λ (xs : List ℕ). xs ++ bytes) run.1 ∙ sym (append-nil bytes),
+  subst (λ (x : SessionState). IsRound g turn x r bytes t) run.2 round,
+  (refl, refl, refl),
+)
+run_behind g (x ∷ xs) turn s m t rounds out run r bytes round = (
+  run.0,
+  run.1 ++ r ∷ [],
+  run.2,
+  run.3 ++ bytes,
+  run.4,
+  ap (λ (ys : List RoundNoted). ys ++ r ∷ []) run.5,
+  ap (λ (ys : List ℕ). ys ++ bytes) run.6 ∙ append_assoc run.2 run.3 bytes,
+  run.7,
+  run_behind g xs turn run.4 m t run.1 run.3 run.8 r bytes round,
+)
 
 -- one more was, whatever stands for a turn that isn't there
-pub run_more : (d : TurnSpec) (g : Given) (turns : List TurnSpec) (i : ℕ) (s m t : SessionState) → i < length turns → Runs g (take i turns) s m
-    → (r : RoundNoted) (bytes : List ℕ) → IsRound g (get_or turns i d) m r bytes t → pcm_of s.fast.frames m.fast.log ++ bytes ≡ pcm_of s.fast.frames t.fast.log → Runs g (take (i + 1) turns) s t
-run_more d g turns i s m t lt runs r bytes round sound =
+pub run_more : (d : TurnSpec) (g : Given) (turns : List TurnSpec) (i : ℕ) (s m t : SessionState) (rounds : List RoundNoted) → i < length turns → Runs g (take i turns) s rounds m
+    → (r : RoundNoted) (bytes : List ℕ) → IsRound g (get_or turns i d) m r bytes t → pcm_of s.fast.frames m.fast.log ++ bytes ≡ pcm_of s.fast.frames t.fast.log → Runs g (take (i + 1) turns) s (rounds ++ r ∷ []) t
+run_more d g turns i s m t rounds lt runs r bytes round sound =
     let turn = get_or turns i d in
-    let more = run_behind g (take i turns) turn s m t runs.rounds runs.bytes runs.run r bytes round in
+    let more = run_behind g (take i turns) turn s m t rounds runs.bytes runs.run r bytes round in
     let len = s.fast.frames in
     let heard : pcm_of len t.fast.log ≡ pcm_of len s.fast.log ++ (runs.bytes ++ bytes) =
     sym sound ∙ ap (λ (xs : List ℕ). xs ++ bytes) runs.sound ∙ append_assoc (pcm_of len s.fast.log) runs.bytes bytes in
-    subst (λ (xs : List TurnSpec). Runs g xs s t) (sym (take_more turns i d lt)) (record { rounds = more.0; bytes = runs.bytes ++ bytes; run = more.1; sound = heard })
+    subst (λ (xs : List TurnSpec). Runs g xs s (rounds ++ r ∷ []) t) (sym (take_more turns i d lt)) (record { bytes = runs.bytes ++ bytes; run = more; sound = heard })

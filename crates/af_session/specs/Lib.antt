@@ -1,6 +1,7 @@
 pub mod FastTurns
 pub mod Parties
 pub mod Rounds
+pub mod Noted
 pub mod Sound
 pub mod Together
 pub mod Works

@@ -1,13 +1,12 @@
 -- What the turns of a script come to, and what they leave in a file.
 use Rattle.std.specs.Prelude.{◌≡◌, ◌⊎◌, ℕ, ◌<◌, ◌≤◌, ◌++◌, List, length, take, slice_get, Option, option_map, Result, IsErrOf}
 use Rattle.af_base.specs.declared.frame.Frame.{Frame}
-use Rattle.af_base.specs.Log.{Logged}
 use Rattle.af_client.specs.Order.{ClientState}
 use Rattle.af_io.specs.Causes.{Rose}
 use Rattle.af_io.specs.Files.{Files, SameFiles, LeavesFront}
 use Rattle.af_io.specs.declared.store.StoreError.{StoreError}
 use Rattle.af_io.specs.declared.store.StoreError.TheVariants as store
-use Rattle.af_model.specs.Journals.{RoundNoted}
+use Rattle.af_model.specs.Journals.{JournalData, RoundNoted, journal_of}
 use Rattle.af_normal.specs.State.{NormalState}
 use Rattle.af_script.specs.Data.{ScriptData}
 use Rattle.af_script.specs.declared.op.Op.{Op}
@@ -34,22 +33,24 @@ pub record HaveFiles (g : Given) : Type 0 where
 
 -- ## Turns
 
--- these turns were played from s to t, and the sound of the log grew by just the bytes of their rounds
-pub record Runs (g : Given) (turns : List TurnSpec) (s t : SessionState) : Type 0 where
-  pub rounds : List RoundNoted
+-- these turns were played from s to t with these rounds, and the sound of the log grew by just the bytes of the rounds
+pub record Runs (g : Given) (turns : List TurnSpec) (s : SessionState) (rounds : List RoundNoted) (t : SessionState) : Type 0 where
   pub bytes : List ℕ
   pub run : IsTurnRun g turns s rounds bytes t
   pub sound : pcm_of s.fast.frames t.fast.log ≡ pcm_of s.fast.frames s.fast.log ++ bytes
 
--- The parties t have played these turns since they were made of the script: a turn run with the files, whose bytes are the sound of the log
-pub record Rendered (script : ScriptData) (files : List (List Frame)) (turns : List TurnSpec) (t : SessionState) : Type 0 where
+-- The parties t have played these turns since they were made of the script, with these rounds: a turn run with the files, whose bytes are the sound of the log
+pub record Renders (script : ScriptData) (files : List (List Frame)) (turns : List TurnSpec) (rounds : List RoundNoted) (t : SessionState) : Type 0 where
   pub shared : SharedState
   pub start : SessionState
   pub new : IsNewSession script shared start
-  pub rounds : List RoundNoted
   pub bytes : List ℕ
   pub run : IsTurnRun (record { tracks = script.tracks; files = files }) turns start rounds bytes t
   pub sound : bytes ≡ pcm_of script.frames t.fast.log
+
+-- with some rounds
+abbrev pub Rendered : ScriptData → List (List Frame) → List TurnSpec → SessionState → Type 0
+Rendered script files turns t = (rounds : List RoundNoted) × Renders script files turns rounds t
 
 -- ## Files
 
@@ -86,10 +87,11 @@ stream_proxy e track = option_map (λ (p : PartyState). p.stream) (slice_get e.c
 abbrev pub command_proxy : EndsState → ℕ → Option ClientState
 command_proxy e track = option_map (λ (p : PartyState). p.command) (slice_get e.clients track)
 
--- the log and the ends of the parties that have played all turns, with a client for each track
-pub record HandsBack (script : ScriptData) (files : List (List Frame)) (log : Logged) (ends : EndsState) : Type 0 where
+-- The journal and the ends of the parties that have played all turns, with a client for each track: the journal has the rounds of the turn run, and the entries of the fast mixer's log
+pub record HandsBack (script : ScriptData) (files : List (List Frame)) (journal : JournalData) (ends : EndsState) : Type 0 where
   pub parties : SessionState
-  pub rendered : Rendered script files script.turns parties
-  pub log_is : log ≡ parties.fast.log
+  pub rounds : List RoundNoted
+  pub rendered : Renders script files script.turns rounds parties
+  pub journal_is : journal ≡ journal_of (record { tracks = length script.tracks; rounds = rounds }) parties.fast.log
   pub ends_are : ends ≡ ends_from parties
   pub count : length ends.clients ≡ length script.tracks

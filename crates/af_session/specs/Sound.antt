@@ -1,5 +1,5 @@
 -- The sound of a log: the bytes of the mix of each Mixed entry, in order.
-use Rattle.std.specs.Prelude.{◌≡◌, ℕ, ◌++◌, if◌then◌else◌, true, List, [], All}
+use Rattle.std.specs.Prelude.{◌≡◌, ℕ, ◌++◌, if◌then◌else◌, true, List, [], All, map}
 use Rattle.std.specs.List.{flat_map}
 use Rattle.af_base.specs.declared.frame.Frame.{Frame}
 use Rattle.af_base.specs.declared.log.Cycle.{Cycle}
@@ -9,6 +9,7 @@ use Rattle.af_base.specs.Mix.{mix}
 use Rattle.af_base.specs.Sample.{pcm_bytes}
 use Rattle.af_journal.specs.Logged.{LieWithin}
 use Rattle.af_model.specs.Cycles.{is_mixed}
+use Rattle.af_model.specs.Journals.{JournalData, entries_of, frames_of}
 
 -- the bytes of a cycle that wrote these frames: none where it didn't mix
 abbrev pub written : Cycle → List Frame → List ℕ
@@ -25,6 +26,10 @@ entries_pcm len frames entries = flat_map (entry_pcm len frames) entries
 -- the sound of a log
 abbrev pub pcm_of : ℕ → Logged → List ℕ
 pcm_of len log = entries_pcm len log.frames log.entries
+
+-- the sound of a journal: that of the entries of its rounds, by the frames that they took
+abbrev pub journal_pcm : ℕ → JournalData → List ℕ
+journal_pcm len j = entries_pcm len (frames_of (entries_of j.rounds)) (map (λ e. e.entry) (entries_of j.rounds))
 
 -- the frames that the slots of each mix name lie in the log
 abbrev pub IsWhole : Logged → Type 0

@@ -1,14 +1,16 @@
 //! What a journal notes of a round.
-ghost use Rattle.std.specs.Prelude.{◌≡◌, ◌+◌, ◌<◌, ◌≤◌, ◌^◌, ◌++◌, ◌∷◌, List, [], length, map, replicate, slice_set, IfOk};
+ghost use Rattle.std.specs.Prelude.{◌≡◌, ◌+◌, ◌<◌, ◌≤◌, ◌^◌, ◌++◌, ◌∷◌, List, [], length, map, replicate, slice_set, All, IfOk};
 ghost use Rattle.af_base.specs.declared.event.ClientCall.{ClientCall as CallSeen};
+ghost use Rattle.af_base.specs.Sample.{IsFrame};
 ghost use Rattle.af_base.specs.Turn.{take_seen, track_seen, turn_of};
 ghost use Rattle.af_model.specs.Journals.{cycles_of};
 ghost use Rattle.af_script.specs.Form.{IsTurn};
+ghost use Rattle.af_session.specs.Noted.{HasFrames, NotesFrames};
 ghost use Rattle.af_session.specs.Rounds.{round_told};
 ghost use Rattle.af_session.specs.Together.{SessionState};
 
 use crate::parties::Parties;
-use af_base::{ClientCall, Items, Memory, NormalTake, TrackTurn, TurnEntry};
+use af_base::{ClientCall, Frame, Items, Memory, NormalTake, TrackTurn, TurnEntry};
 use af_model::Rounds;
 use af_script::TurnSpec;
 use std::alloc::Global;
@@ -25,6 +27,32 @@ fn copied_items<T: Copy + Drop>(alloc: Global, list: &Items<T>) -> Result<Items<
     Ok(copy)
 }
 
+// A frame as it is. Both samples have 16 bits.
+fn known(frame: Frame) -> Frame
+    ensures value { result ≡ frame }
+    ensures frame { IsFrame frame }
+{
+    frame
+}
+
+/// Each of these frames has two samples of 16 bits: it is read to know it.
+pub fn know_frames(frames: &[Frame])
+    ensures { All IsFrame frames.now }
+{
+    for i in 0..frames.len() {
+        known(frames[i]);
+    }
+}
+
+// The frames of a list, in a list of its own.
+fn copied_frames(alloc: Global, list: &Items<Frame>) -> Result<Items<Frame>, Memory>
+    ensures same { IfOk result (λ l. l.items ≡ list.now.items) }
+    ensures frames { IfOk result (λ l. All IsFrame l.items) }
+{
+    know_frames(list.as_slice());
+    copied_items(alloc, list)
+}
+
 // What a turn saw and did of one track.
 fn copied_track(alloc: Global, track: &TrackTurn) -> Result<TrackTurn, Memory>
     ensures { IfOk result (λ t. track_seen t ≡ track_seen track.now) }
@@ -38,12 +66,13 @@ fn copied_track(alloc: Global, track: &TrackTurn) -> Result<TrackTurn, Memory>
 
 // What a turn took of one track.
 fn copied_take(alloc: Global, take: &NormalTake) -> Result<NormalTake, Memory>
-    ensures { IfOk result (λ t. take_seen t ≡ take_seen take.now) }
+    ensures same { IfOk result (λ t. take_seen t ≡ take_seen take.now) }
+    ensures frames { IfOk result (λ t. All IsFrame t.frames.items) }
 {
     Ok(NormalTake {
         track: take.track,
         slot: take.slot,
-        frames: copied_items(alloc, &take.frames)?,
+        frames: copied_frames(alloc, &take.frames)?,
     })
 }
 
@@ -60,7 +89,8 @@ fn copied_tracks(alloc: Global, tracks: &[TrackTurn]) -> Result<Items<TrackTurn>
 
 // The takes of a turn.
 fn copied_takes(alloc: Global, takes: &[NormalTake]) -> Result<Items<NormalTake>, Memory>
-    ensures { IfOk result (λ l. map take_seen l.items ≡ map take_seen takes.now) }
+    ensures same { IfOk result (λ l. map take_seen l.items ≡ map take_seen takes.now) }
+    ensures frames { IfOk result (λ l. All (λ t. All IsFrame t.frames.items) l.items) }
 {
     let mut copy = Items::with_room(alloc, takes.len())?;
     for i in 0..takes.len() {
@@ -71,7 +101,8 @@ fn copied_takes(alloc: Global, takes: &[NormalTake]) -> Result<Items<NormalTake>
 
 /// A copy of a turn's entry. Memory is its only refusal.
 pub fn copied_turn(alloc: Global, entry: &TurnEntry) -> Result<TurnEntry, Memory>
-    ensures { IfOk result (λ e. turn_of e ≡ turn_of entry.now) }
+    ensures same { IfOk result (λ e. turn_of e ≡ turn_of entry.now) }
+    ensures frames { IfOk result (λ e. HasFrames (turn_of e)) }
 {
     Ok(TurnEntry {
         ended: entry.ended,
@@ -123,7 +154,8 @@ impl Parties {
         requires turn { IsTurn (length self.now.clients) turn }
         requires more { entries ≤ length self.now.fast.log.entries }
         requires few { cycles_of rounds.old.rounds + length self.now.fast.log.entries < 2 ^ 62 }
-        ensures { (s : SessionState) → had_ended ≡ s.normal.ended → entries ≡ length s.fast.log.entries → length s.clients ≡ length self.now.clients → IfOk result (λ _. rounds.new ≡ record rounds.old { rounds = rounds.old.rounds ++ round_told turn s self.now ∷ [] }) }
+        ensures noted { (s : SessionState) → had_ended ≡ s.normal.ended → entries ≡ length s.fast.log.entries → length s.clients ≡ length self.now.clients → IfOk result (λ _. rounds.new ≡ record rounds.old { rounds = rounds.old.rounds ++ round_told turn s self.now ∷ [] }) }
+        ensures frames { (s : SessionState) → had_ended ≡ s.normal.ended → IfOk result (λ _. NotesFrames (round_told turn s self.now)) }
     {
         let clients = self.clients.len();
         match turn {

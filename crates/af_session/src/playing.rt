@@ -1,18 +1,23 @@
 //! All turns of a script, and the file of what they mixed.
-ghost use Rattle.std.specs.Prelude.{◌≡◌, ◌+◌, ◌*◌, ◌<◌, ◌≤◌, ◌++◌, ℕ, List, Some, length, take, All, OnOk, OnErr};
+ghost use Rattle.std.specs.Prelude.{◌≡◌, ◌+◌, ◌*◌, ◌<◌, ◌≤◌, ◌++◌, ◌∷◌, ℕ, List, [], Some, length, take, All, OnOk, OnErr};
 ghost use Rattle.af_io.specs.Causes.{HasCause};
 ghost use Rattle.af_io.specs.Files.{Files, SetsFile, LeavesFront};
-ghost use Rattle.af_model.specs.Journals.{RoundNoted};
+ghost use Rattle.af_model.specs.JournalForm.{IsJournal, IsWhole};
+ghost use Rattle.af_model.specs.Journals.{RoundNoted, cycles_of, journal_of};
 ghost use Rattle.af_script.specs.Form.{IsTurn};
+ghost use Rattle.af_session.specs.Noted.{NotesFrames};
 ghost use Rattle.af_session.specs.Rendered.{Runs};
-ghost use Rattle.af_session.specs.Rounds.{IsReady, IsRound};
+ghost use Rattle.af_session.specs.Rounds.{IsReady, IsRound, round_told};
 ghost use Rattle.af_session.specs.Sound.{pcm_of};
 
+use crate::noting::know_frames;
 use crate::parties::Parties;
 use af_base::{Frame, Items, Steps};
 use af_io::{Pcm, Store, StoreError};
 use af_link::Links;
+use af_model::Rounds;
 use af_script::{TrackSpec, TurnSpec};
+use std::alloc::Global;
 use std::marker::Brand;
 use std::sync::ledger::{Blank, Ledger};
 
@@ -94,11 +99,49 @@ impl Parties {
         send_out(store, name, bytes.as_slice())
     }
 
-    /// Plays these turns one after the other, each as a round after which all meet. The bytes of each round's mixed cycles are added to the file as one piece, where there are some.
+    // A round that is noted. After want of memory its bytes may be in the file, but it isn't noted.
+    fn play_noted<S: Store>(
+        &mut self,
+        alloc: Global,
+        links: &Links<'_>,
+        turn: TurnSpec,
+        tracks: &[TrackSpec],
+        files: &[Pcm],
+        store: &mut S,
+        name: &str,
+        buffer: &mut [Frame],
+        bytes: &mut Items<u8>,
+        rounds: &mut Rounds,
+    ) -> Result<(), StoreError>
+        requires turn { IsTurn (length self.old.clients) turn }
+        requires buffer { length buffer.old ≡ self.old.fast.frames }
+        requires room { 64 * self.old.fast.frames ≤ bytes.old.room }
+        requires ready { (n : ℕ) × (n < 100000) × IsReady links.now (record { tracks = tracks.now; files = files.now }) n self.old }
+        requires count { cycles_of rounds.old.rounds ≡ length self.old.fast.log.entries }
+        ensures ready { (n : ℕ) → IsReady links.now (record { tracks = tracks.now; files = files.now }) n self.old → IsReady links.now (record { tracks = tracks.now; files = files.now }) (n + 1) self.new }
+        ensures sizes { (self.new.fast.frames ≡ self.old.fast.frames) × (bytes.new.room ≡ bytes.old.room) }
+        ensures round { IsRound (record { tracks = tracks.now; files = files.now }) turn self.old (round_told turn self.old self.new) bytes.new.items self.new }
+        ensures noted { OnOk result (rounds.new ≡ record rounds.old { rounds = rounds.old.rounds ++ round_told turn self.old self.new ∷ [] }) }
+        ensures frames { OnOk result (NotesFrames (round_told turn self.old self.new)) }
+        ensures sound { (out : List ℕ) → out ≡ pcm_of self.old.fast.frames self.old.fast.log → out ++ bytes.new.items ≡ pcm_of self.old.fast.frames self.new.fast.log }
+        ensures written { S.told store.old → (base : Files) (out : List ℕ) → SetsFile base name.now (Some out) (S.files store.old) → OnOk result (SetsFile base name.now (Some (out ++ bytes.new.items)) (S.files store.new)) }
+        ensures left { S.told store.old → (base : Files) (out : List ℕ) → SetsFile base name.now (Some out) (S.files store.old) → OnErr result (LeavesFront base name.now (out ++ bytes.new.items) (S.files store.new)) }
+        ensures tells { S.told store.old → S.told store.new }
+        ensures cause { HasCause (S.faults store.old) (S.faults store.new) result }
+    {
+        let had_ended = self.normal.has_ended();
+        let entries = self.fast.log().len();
+        self.play_out(links, turn, tracks, files, store, name, buffer, bytes)?;
+        self.note_round(alloc, turn, had_ended, entries, rounds)?;
+        Ok(())
+    }
+
+    /// Plays these turns one after the other, each as a round after which all meet, and notes each. The bytes of each round's mixed cycles are added to the file as one piece, where there are some.
     ///
-    /// What was played is a turn run of the script and its files, and where the file held the sound of the fast mixer's log before it does so again. After a fault of the store some first turns were played, and the file holds a front of their sound.
+    /// What was played is a turn run of the script and its files with the rounds noted, which make a journal with the log; and where the file held the sound of the fast mixer's log before it does so again. After a fault of the store, or want of memory, some first turns were played, and the file holds a front of their sound.
     pub fn play_all<S: Store>(
         &mut self,
+        alloc: Global,
         links: &Links<'_>,
         turns: &[TurnSpec],
         tracks: &[TrackSpec],
@@ -107,23 +150,32 @@ impl Parties {
         name: &str,
         buffer: &mut [Frame],
         bytes: &mut Items<u8>,
+        rounds: &mut Rounds,
     ) -> Result<(), StoreError>
         requires turns { All (IsTurn (length tracks.now)) turns.now }
         requires few { length turns.now ≤ 100000 }
         requires buffer { length buffer.old ≡ self.old.fast.frames }
         requires room { 64 * self.old.fast.frames ≤ bytes.old.room }
         requires ready { IsReady links.now (record { tracks = tracks.now; files = files.now }) 0 self.old }
+        requires rounds { rounds.old ≡ record { tracks = length tracks.now; rounds = [] } }
+        requires log { (self.old.fast.log.entries ≡ []) × (self.old.fast.log.frames ≡ []) }
         ensures ready { OnOk result (IsReady links.now (record { tracks = tracks.now; files = files.now }) (length turns.now) self.new) }
-        ensures run { (n : ℕ) × Runs (record { tracks = tracks.now; files = files.now }) (take n turns.now) self.old self.new }
-        ensures all { OnOk result (Runs (record { tracks = tracks.now; files = files.now }) turns.now self.old self.new) }
+        ensures run { (n : ℕ) × (played : List RoundNoted) × Runs (record { tracks = tracks.now; files = files.now }) (take n turns.now) self.old played self.new }
+        ensures all { OnOk result (Runs (record { tracks = tracks.now; files = files.now }) turns.now self.old rounds.new.rounds self.new) }
+        ensures tracks { OnOk result (rounds.new.tracks ≡ length tracks.now) }
+        ensures whole { OnOk result (IsWhole rounds.new self.new.fast.log) }
+        ensures form { OnOk result (IsJournal (journal_of rounds.new self.new.fast.log)) }
         ensures written { S.told store.old → (base : Files) → SetsFile base name.now (Some (pcm_of self.old.fast.frames self.old.fast.log)) (S.files store.old) → OnOk result (SetsFile base name.now (Some (pcm_of self.old.fast.frames self.new.fast.log)) (S.files store.new)) }
         ensures left { S.told store.old → (base : Files) → SetsFile base name.now (Some (pcm_of self.old.fast.frames self.old.fast.log)) (S.files store.old) → OnErr result (LeavesFront base name.now (pcm_of self.old.fast.frames self.new.fast.log) (S.files store.new)) }
         ensures tells { S.told store.old → S.told store.new }
         ensures cause { HasCause (S.faults store.old) (S.faults store.new) result }
     {
         for i in 0..turns.len() {
-            self.play_out(links, turns[i], tracks, files, store, name, buffer, bytes)?;
+            self.play_noted(
+                alloc, links, turns[i], tracks, files, store, name, buffer, bytes, rounds,
+            )?;
         }
+        know_frames(self.fast.log().frames());
         Ok(())
     }
 }

@@ -3,19 +3,22 @@ ghost use Rattle.std.specs.Prelude.{◌≡◌, ◌*◌, ◌<◌, ◌≤◌, ℕ,
 ghost use Rattle.af_io.specs.Causes.{HasCause};
 ghost use Rattle.af_io.specs.Files.{Files, SetsFile, LeavesFront};
 ghost use Rattle.af_link.specs.declared.links.Links.{Links};
+ghost use Rattle.af_model.specs.JournalForm.{IsJournal, IsWhole};
+ghost use Rattle.af_model.specs.Journals.{journal_of};
 ghost use Rattle.af_session.specs.NewSession.{IsNewSession};
-ghost use Rattle.af_session.specs.Rendered.{HandsBack, HasStoreCause, HaveFiles, LeavesSound, Rendered, command_proxy, ends_from, stream_proxy};
+ghost use Rattle.af_session.specs.Rendered.{HandsBack, HasStoreCause, HaveFiles, LeavesSound, Rendered, Renders, command_proxy, ends_from, stream_proxy};
 ghost use Rattle.af_session.specs.Shares.{AreLinksOf};
-ghost use Rattle.af_session.specs.Sound.{pcm_of};
+ghost use Rattle.af_session.specs.Sound.{journal_pcm, pcm_of};
 ghost use Rattle.af_session.specs.Together.{AreTogether};
 
 use crate::making::make;
 use crate::parties::Parties;
 use crate::party::Party;
 use crate::shared::Shared;
-use af_base::{FastLog, Frame, Items, Memory};
+use af_base::{Frame, Items, Memory};
 use af_client::Client;
 use af_io::{Pcm, Store, StoreError};
+use af_model::{Journal, Rounds};
 use af_normal::NormalMixer;
 use af_script::Script;
 use std::alloc::Global;
@@ -95,10 +98,10 @@ impl Ends {
     }
 }
 
-/// What was played: the fast mixer's log, and the ends.
+/// What was played: its journal, and the ends.
 #[derive(Drop)]
 pub struct Played {
-    pub log: FastLog,
+    pub journal: Journal,
     pub ends: Ends,
 }
 
@@ -115,6 +118,7 @@ fn make_room(alloc: Global, frames: usize) -> Result<(Vec<Frame>, Items<u8>), Me
 
 // All turns of a script by its new parties, into a file that is empty.
 fn play_turns<S: Store>(
+    alloc: Global,
     shared: &Shared,
     parties: &mut Parties,
     script: &Script,
@@ -123,14 +127,19 @@ fn play_turns<S: Store>(
     name: &str,
     buffer: &mut [Frame],
     bytes: &mut Items<u8>,
+    rounds: &mut Rounds,
 ) -> Result<(), StoreError>
     requires new { IsNewSession script.now shared.now parties.old }
     requires together { (links : Links) → AreLinksOf shared.now links → AreTogether links parties.old }
     requires files { HaveFiles (record { tracks = script.now.tracks; files = files.now }) }
     requires buffer { length buffer.old ≡ script.now.frames }
     requires room { bytes.old.room ≡ 64 * script.now.frames }
+    requires rounds { rounds.old ≡ record { tracks = length script.now.tracks; rounds = [] } }
     ensures some { (n : ℕ) × Rendered script.now files.now (take n script.now.turns) parties.new }
-    ensures all { OnOk result (Rendered script.now files.now script.now.turns parties.new) }
+    ensures all { OnOk result (Renders script.now files.now script.now.turns rounds.new.rounds parties.new) }
+    ensures tracks { OnOk result (rounds.new.tracks ≡ length script.now.tracks) }
+    ensures whole { OnOk result (IsWhole rounds.new parties.new.fast.log) }
+    ensures form { OnOk result (IsJournal (journal_of rounds.new parties.new.fast.log)) }
     ensures count { OnOk result (length parties.new.clients ≡ length script.now.tracks) }
     ensures written { S.told store.old → (base : Files) → SetsFile base name.now (Some []) (S.files store.old) → OnOk result (SetsFile base name.now (Some (pcm_of script.now.frames parties.new.fast.log)) (S.files store.new)) }
     ensures left { S.told store.old → (base : Files) → SetsFile base name.now (Some []) (S.files store.old) → OnErr result (LeavesFront base name.now (pcm_of script.now.frames parties.new.fast.log) (S.files store.new)) }
@@ -140,11 +149,14 @@ fn play_turns<S: Store>(
     let links = shared.links();
     let turns = script.turns();
     let tracks = script.tracks();
-    parties.play_all(&links, turns, tracks, files, store, name, buffer, bytes)
+    parties.play_all(
+        alloc, &links, turns, tracks, files, store, name, buffer, bytes, rounds,
+    )
 }
 
 // Makes the file, and plays all turns of a script by its new parties.
 fn play_new<S: Store>(
+    alloc: Global,
     shared: &Shared,
     parties: &mut Parties,
     script: &Script,
@@ -153,13 +165,18 @@ fn play_new<S: Store>(
     name: &str,
     buffer: &mut [Frame],
     bytes: &mut Items<u8>,
+    rounds: &mut Rounds,
 ) -> Result<(), StoreError>
     requires new { IsNewSession script.now shared.now parties.old }
     requires together { (links : Links) → AreLinksOf shared.now links → AreTogether links parties.old }
     requires files { HaveFiles (record { tracks = script.now.tracks; files = files.now }) }
     requires buffer { length buffer.old ≡ script.now.frames }
     requires room { bytes.old.room ≡ 64 * script.now.frames }
-    ensures all { OnOk result (Rendered script.now files.now script.now.turns parties.new) }
+    requires rounds { rounds.old ≡ record { tracks = length script.now.tracks; rounds = [] } }
+    ensures all { OnOk result (Renders script.now files.now script.now.turns rounds.new.rounds parties.new) }
+    ensures tracks { OnOk result (rounds.new.tracks ≡ length script.now.tracks) }
+    ensures whole { OnOk result (IsWhole rounds.new parties.new.fast.log) }
+    ensures form { OnOk result (IsJournal (journal_of rounds.new parties.new.fast.log)) }
     ensures count { OnOk result (length parties.new.clients ≡ length script.now.tracks) }
     ensures written { S.told store.old → OnOk result (SetsFile (S.files store.old) name.now (Some (pcm_of script.now.frames parties.new.fast.log)) (S.files store.new)) }
     ensures left { S.told store.old → OnErr result (LeavesSound script.now files.now name.now (S.files store.old) (S.files store.new)) }
@@ -167,12 +184,16 @@ fn play_new<S: Store>(
     ensures cause { HasCause (S.faults store.old) (S.faults store.new) result }
 {
     store.create(name)?;
-    play_turns(shared, parties, script, files, store, name, buffer, bytes)
+    play_turns(
+        alloc, shared, parties, script, files, store, name, buffer, bytes, rounds,
+    )
 }
 
-// What parties hand back.
-fn hand_back(parties: Parties) -> Played
-    ensures log { result.log ≡ parties.fast.log }
+// What parties hand back, with the rounds that were noted.
+fn hand_back(parties: Parties, rounds: Rounds) -> Played
+    requires whole { IsWhole rounds parties.fast.log }
+    requires form { IsJournal (journal_of rounds parties.fast.log) }
+    ensures journal { result.journal ≡ journal_of rounds parties.fast.log }
     ensures ends { result.ends ≡ ends_from parties }
 {
     let Parties {
@@ -181,14 +202,14 @@ fn hand_back(parties: Parties) -> Played
         fast,
     } = parties;
     Played {
-        log: fast.into_log(),
+        journal: Journal::new(rounds, fast.into_log()),
         ends: Ends { clients, normal },
     }
 }
 
-/// Plays the turns of a script one after the other, each as a round after which all parties meet, and writes the sound to the file of this name. All blocks, logs and mixers are made before the file is.
+/// Plays the turns of a script one after the other, each as a round after which all parties meet, and writes the sound to the file of this name. All blocks, logs and mixers are made before the file is; the rounds are noted as they are played.
 ///
-/// What was played is a turn run of the script and its files, and where the store tells it the file is the sound of the log. After a fault no file has changed, or the file holds a front of the sound of some first turns.
+/// What was played is a turn run of the script and its files, whose rounds the journal has, and where the store tells it the file is the sound of the journal. After a fault no file has changed, or the file holds a front of the sound of some first turns.
 pub fn render<S: Store>(
     alloc: Global,
     script: &Script,
@@ -197,15 +218,17 @@ pub fn render<S: Store>(
     name: &str,
 ) -> Result<Played, SessionFault>
     requires { HaveFiles (record { tracks = script.now.tracks; files = files.now }) }
-    ensures played { IfOk result (λ p. HandsBack script.now files.now p.log p.ends) }
-    ensures written { S.told store.old → IfOk result (λ p. SetsFile (S.files store.old) name.now (Some (pcm_of script.now.frames p.log)) (S.files store.new)) }
+    ensures played { IfOk result (λ p. HandsBack script.now files.now p.journal p.ends) }
+    ensures written { S.told store.old → IfOk result (λ p. SetsFile (S.files store.old) name.now (Some (journal_pcm script.now.frames p.journal)) (S.files store.new)) }
     ensures left { S.told store.old → OnErr result (LeavesSound script.now files.now name.now (S.files store.old) (S.files store.new)) }
     ensures tells { S.told store.old → S.told store.new }
     ensures cause { HasStoreCause (S.faults store.old) (S.faults store.new) result }
 {
     let (shared, mut parties) = make(alloc, script)?;
     let (mut buffer, mut bytes) = make_room(alloc, script.frames() as usize)?;
+    let mut rounds = Rounds::new(alloc, script.tracks().len() as u32);
     play_new(
+        alloc,
         &shared,
         &mut parties,
         script,
@@ -214,6 +237,7 @@ pub fn render<S: Store>(
         name,
         &mut buffer,
         &mut bytes,
+        &mut rounds,
     )?;
-    Ok(hand_back(parties))
+    Ok(hand_back(parties, rounds))
 }

@@ -1,24 +1,36 @@
-use Rattle.std.proofs.Common.{rules, ◌≡◌, ◌+◌, ◌++◌, ℕ, List, Some, refl, sym, ap, subst, ◌∙◌, arith}
+use Rattle.std.proofs.Common.{rules, ◌≡◌, ◌+◌, ◌++◌, ◌∷◌, ℕ, List, [], Some, length, take, refl, sym, ap, subst, ◌∙◌, arith}
+use Rattle.std.specs.Prelude.{All}
 use Rattle.std.proofs.lemmas.List.{take_all}
+use Rattle.af_base.specs.declared.frame.Frame.{Frame}
+use Rattle.af_base.specs.Log.{Logged}
+use Rattle.af_base.specs.Sample.{IsFrame}
 use Rattle.af_io.specs.Files.{SetsFile, LeavesFront}
+use Rattle.af_model.specs.Journals.{RoundNoted, RoundsNoted}
 use Rattle.af_script.specs.declared.op.TurnSpec.{TurnSpec}
 use Rattle.af_session.specs.Rendered.{Runs}
 use Rattle.af_session.specs.Rounds.{Given}
 use Rattle.af_session.specs.Sound.{pcm_of}
+use Rattle.af_session.proofs.JournalSound.{journal_form, journal_whole}
 use Rattle.af_session.proofs.Outgoing.{stays_at}
+use Rattle.af_session.proofs.RoundForms.{AreNoted, noted_none, noted_round}
 use Rattle.af_session.proofs.RunMore.{run_none, run_more}
 use Rattle.af_session.proofs.parties.Parties.play_all.Goals as goal
 
 pub loop-i-init : goal.loop-i-init
-loop-i-init g c = record {
-  ready = c.requires.ready;
-  run = run_none (record { tracks = c.args.tracks.now; files = c.args.files.now }) c.args.self.now;
-  sizes = (refl, refl);
-  buffer = c.requires.buffer;
-  tells = (λ told. told);
-  stays = refl;
-  written = (λ told base set. set);
-}
+loop-i-init g c =
+    let given : Given = record { tracks = c.args.tracks.now; files = c.args.files.now } in
+    let was = c.args.self.now in
+    let tracks : ℕ = length c.args.tracks.now in
+    record {
+      ready = c.requires.ready;
+      run = subst (λ (x : RoundsNoted). Runs given [] was x.rounds was) (sym c.requires.rounds) (run_none given was);
+      noted = subst (λ (x : RoundsNoted). AreNoted tracks x was.fast.log) (sym c.requires.rounds) (noted_none tracks was.fast.log c.requires.log.0 c.requires.log.1);
+      sizes = (refl, refl);
+      buffer = c.requires.buffer;
+      tells = (λ told. told);
+      stays = refl;
+      written = (λ told base set. set);
+    }
 
 pub loop-i-preserved : goal.loop-i-preserved
 loop-i-preserved g c =
@@ -26,57 +38,72 @@ loop-i-preserved g c =
     let inv = c.loop-i.invariant in
     let i = c.loop-i.i in
     let now = c.loop-i.self in
-    let next = c.play_out.new.self in
+    let next = c.play_noted.new.self in
     let frames : ℕ = c.args.self.now.fast.frames in
-    let more = c.play_out.new.bytes.items in
+    let more = c.play_noted.new.bytes.items in
     let then : List ℕ = pcm_of frames now.fast.log in
     let grown : then ++ more ≡ pcm_of frames next.fast.log =
-    c.play_out.ensures.sound then (ap (λ (n : ℕ). pcm_of n now.fast.log) (sym inv.sizes.0)) ∙ ap (λ (n : ℕ). pcm_of n next.fast.log) inv.sizes.0 in
+    c.play_noted.ensures.sound then (ap (λ (n : ℕ). pcm_of n now.fast.log) (sym inv.sizes.0)) ∙ ap (λ (n : ℕ). pcm_of n next.fast.log) inv.sizes.0 in
+    let round = c.play_noted.ensures.round in
+    let noted = c.in_ok-play_noted.ensures.noted in
     record {
-      ready = c.play_out.ensures.ready i inv.ready;
-      run = run_more _ given c.args.turns.now i c.args.self.now now next (omega (arith, c.loop-i-test.true, c.loop-i.auto.i-end)) inv.run c.play_out.ensures.round.0 more c.play_out.ensures.round.1 grown;
-      sizes = (c.play_out.ensures.sizes.0 ∙ inv.sizes.0, c.play_out.ensures.sizes.1 ∙ inv.sizes.1);
+      ready = c.play_noted.ensures.ready i inv.ready;
+      run = subst (λ (x : RoundsNoted). Runs given (take (i + 1) c.args.turns.now) c.args.self.now x.rounds next) (sym noted)
+          (run_more _ given c.args.turns.now i c.args.self.now now next c.loop-i.rounds.rounds (omega (arith, c.loop-i-test.true, c.loop-i.auto.i-end)) inv.run _ more round grown);
+      noted = subst (λ (x : RoundsNoted). AreNoted (length c.args.tracks.now) x next.fast.log) (sym noted)
+          (noted_round c.args.links.now given i now inv.ready _ _ more next round c.in_ok-play_noted.ensures.frames c.loop-i.rounds inv.noted);
+      sizes = (c.play_noted.ensures.sizes.0 ∙ inv.sizes.0, c.play_noted.ensures.sizes.1 ∙ inv.sizes.1);
       buffer = search rules;
-      tells = (λ told. c.play_out.ensures.tells (inv.tells told));
-      stays = sym (stays_at (g.S.Store.faults c.loop-i.store) (g.S.Store.faults c.play_out.new.store) c.in_ok-play_out.field-0 c.in_ok-play_out.ensures.cause) ∙ inv.stays;
+      tells = (λ told. c.play_noted.ensures.tells (inv.tells told));
+      stays = sym (stays_at (g.S.Store.faults c.loop-i.store) (g.S.Store.faults c.play_noted.new.store) c.in_ok-play_noted.field-0 c.in_ok-play_noted.ensures.cause) ∙ inv.stays;
       written = (λ told base set.
-          subst (λ (xs : List ℕ). SetsFile base c.args.name.now (Some xs) (g.S.Store.files c.play_out.new.store)) grown
-          (c.in_ok-play_out.ensures.written (inv.tells told) base then (inv.written told base set)));
+          subst (λ (xs : List ℕ). SetsFile base c.args.name.now (Some xs) (g.S.Store.files c.play_noted.new.store)) grown
+          (c.in_ok-play_noted.ensures.written (inv.tells told) base then (inv.written told base set)));
     }
 
-pub returns-in_err-play_out-clause-run : goal.returns-in_err-play_out-clause-run
-returns-in_err-play_out-clause-run g c =
+pub returns-in_err-play_noted-clause-run : goal.returns-in_err-play_noted-clause-run
+returns-in_err-play_noted-clause-run g c =
     let given : Given = record { tracks = c.args.tracks.now; files = c.args.files.now } in
     let inv = c.loop-i.invariant in
     let i = c.loop-i.i in
     let now = c.loop-i.self in
-    let next = c.play_out.new.self in
+    let next = c.play_noted.new.self in
     let frames : ℕ = c.args.self.now.fast.frames in
-    let more = c.play_out.new.bytes.items in
+    let more = c.play_noted.new.bytes.items in
     let then : List ℕ = pcm_of frames now.fast.log in
     let grown : then ++ more ≡ pcm_of frames next.fast.log =
-    c.play_out.ensures.sound then (ap (λ (n : ℕ). pcm_of n now.fast.log) (sym inv.sizes.0)) ∙ ap (λ (n : ℕ). pcm_of n next.fast.log) inv.sizes.0 in
-    (i + 1, run_more _ given c.args.turns.now i c.args.self.now now next (omega (arith, c.loop-i-test.true, c.loop-i.auto.i-end)) inv.run c.play_out.ensures.round.0 more c.play_out.ensures.round.1 grown)
+    c.play_noted.ensures.sound then (ap (λ (n : ℕ). pcm_of n now.fast.log) (sym inv.sizes.0)) ∙ ap (λ (n : ℕ). pcm_of n next.fast.log) inv.sizes.0 in
+    (i + 1, _, run_more _ given c.args.turns.now i c.args.self.now now next c.loop-i.rounds.rounds (omega (arith, c.loop-i-test.true, c.loop-i.auto.i-end)) inv.run _ more c.play_noted.ensures.round grown)
 
-pub returns-in_err-play_out-clause-left : goal.returns-in_err-play_out-clause-left
-returns-in_err-play_out-clause-left g c = λ told base set.
+pub returns-in_err-play_noted-clause-left : goal.returns-in_err-play_noted-clause-left
+returns-in_err-play_noted-clause-left g c = λ told base set.
     let inv = c.loop-i.invariant in
     let now = c.loop-i.self in
-    let next = c.play_out.new.self in
+    let next = c.play_noted.new.self in
     let frames : ℕ = c.args.self.now.fast.frames in
-    let more = c.play_out.new.bytes.items in
+    let more = c.play_noted.new.bytes.items in
     let then : List ℕ = pcm_of frames now.fast.log in
     let grown : then ++ more ≡ pcm_of frames next.fast.log =
-    c.play_out.ensures.sound then (ap (λ (n : ℕ). pcm_of n now.fast.log) (sym inv.sizes.0)) ∙ ap (λ (n : ℕ). pcm_of n next.fast.log) inv.sizes.0 in
-    let left : LeavesFront base c.args.name.now (pcm_of frames next.fast.log) (g.S.Store.files c.play_out.new.store) =
-    subst (λ (xs : List ℕ). LeavesFront base c.args.name.now xs (g.S.Store.files c.play_out.new.store)) grown
-    (c.in_err-play_out.ensures.left (inv.tells told) base then (inv.written told base set)) in
+    c.play_noted.ensures.sound then (ap (λ (n : ℕ). pcm_of n now.fast.log) (sym inv.sizes.0)) ∙ ap (λ (n : ℕ). pcm_of n next.fast.log) inv.sizes.0 in
+    let left : LeavesFront base c.args.name.now (pcm_of frames next.fast.log) (g.S.Store.files c.play_noted.new.store) =
+    subst (λ (xs : List ℕ). LeavesFront base c.args.name.now xs (g.S.Store.files c.play_noted.new.store)) grown
+    (c.in_err-play_noted.ensures.left (inv.tells told) base then (inv.written told base set)) in
     search (rules, left)
 
 pub returns-clause-run : goal.returns-clause-run
-returns-clause-run g c = (c.loop-i.i, c.loop-i.invariant.run)
+returns-clause-run g c = (c.loop-i.i, c.loop-i.rounds.rounds, c.loop-i.invariant.run)
 
 pub returns-clause-all : goal.returns-clause-all
 returns-clause-all g c =
     let given : Given = record { tracks = c.args.tracks.now; files = c.args.files.now } in
-    subst (λ (xs : List TurnSpec). Runs given xs c.args.self.now c.loop-i.self) (take_all c.loop-i.i c.args.turns.now (omega (arith, c.loop-i-test.false, c.loop-i.auto.i-end))) c.loop-i.invariant.run
+    subst (λ (xs : List TurnSpec). Runs given xs c.args.self.now c.loop-i.rounds.rounds c.loop-i.self) (take_all c.loop-i.i c.args.turns.now (omega (arith, c.loop-i-test.false, c.loop-i.auto.i-end))) c.loop-i.invariant.run
+
+pub returns-clause-whole : goal.returns-clause-whole
+returns-clause-whole g c =
+    let samples : All IsFrame c.loop-i.self.fast.log.frames = subst (All IsFrame) (c.frames.ensures ∙ ap (λ (l : Logged). l.frames) c.log.ensures) c.know_frames.ensures in
+    journal_whole (length c.args.tracks.now) c.loop-i.rounds c.loop-i.self.fast.log c.loop-i.invariant.noted samples
+
+pub returns-clause-form : goal.returns-clause-form
+returns-clause-form g c =
+    let samples : All IsFrame c.loop-i.self.fast.log.frames = subst (All IsFrame) (c.frames.ensures ∙ ap (λ (l : Logged). l.frames) c.log.ensures) c.know_frames.ensures in
+    journal_form (length c.args.tracks.now) c.loop-i.rounds c.loop-i.self.fast.log c.loop-i.invariant.noted samples

@@ -3,12 +3,14 @@ use Rattle.af_io.specs.Files.{Files, SetsFile}
 use Rattle.af_session.specs.Rendered.{Runs}
 use Rattle.af_session.specs.Rounds.{IsReady}
 use Rattle.af_session.specs.Sound.{pcm_of}
+use Rattle.af_session.proofs.RoundForms.{AreNoted}
 use Rattle.af_session.proofs.parties.Parties.play_all.Given as goal
 
 abbrev pub invariant-loop-i : goal.invariant-loop-i
 invariant-loop-i g l = record {
   ready : IsReady l.links (record { tracks = l.tracks; files = l.files }) l.i l.self;
-  run : Runs (record { tracks = l.tracks; files = l.files }) (take l.i l.turns) l.fn.self l.self;
+  run : Runs (record { tracks = l.tracks; files = l.files }) (take l.i l.turns) l.fn.self l.rounds.rounds l.self;
+  noted : AreNoted (length l.tracks) l.rounds l.self.fast.log;
   sizes : (l.self.fast.frames ≡ l.fn.self.fast.frames) × (l.bytes.room ≡ l.fn.bytes.room);
   buffer : length l.buffer ≡ l.fn.self.fast.frames;
   tells : g.S.Store.told l.fn.store → g.S.Store.told l.store;

@@ -1,0 +1,13 @@
+-- The frames that a turn took, where a journal notes it.
+use Rattle.std.specs.Prelude.{List, All, MatchOption}
+use Rattle.af_base.specs.Sample.{IsFrame}
+use Rattle.af_base.specs.Turn.{TakeSeen, Turn}
+use Rattle.af_model.specs.Journals.{RoundNoted}
+
+-- each frame that a turn took has two samples of 16 bits, as the program's frames do
+abbrev pub HasFrames : Turn → Type 0
+HasFrames e = All (λ (t : TakeSeen). All IsFrame t.frames) e.mixes
+
+-- and each that the turn of a round took, where it has one
+abbrev pub NotesFrames : RoundNoted → Type 0
+NotesFrames r = MatchOption r.turn (Unit {0}) HasFrames
