@@ -15,7 +15,10 @@ use Rattle.af_model.specs.Journals.{JournalData, RoundNoted, RoundsNoted, entrie
 use Rattle.af_fast.specs.Mixer.{MixerState}
 use Rattle.af_server.specs.Order.{ServerState}
 use Rattle.af_stateq.specs.Laws.{polled_states, pushed_states}
-use Rattle.af_session.specs.Summaries.{EntryUsed, Shown}
+use Rattle.af_session.specs.declared.summary.Summary.{Summary}
+use Rattle.af_session.specs.Parties.{PartyState}
+use Rattle.af_session.specs.Rendered.{EndsState}
+use Rattle.af_session.specs.Summaries.{EntryUsed, Shown, summary_of}
 use Rattle.af_session.specs.Tallies.{Tallied, IsTally}
 
 -- ## Of rounds and a log
@@ -63,6 +66,14 @@ shows states len tracks calls turns frames entries = record {
 abbrev pub shown_by : ℕ → JournalData → List (MutatorEvent ServerState) → Shown
 shown_by len j events = let seen = entries_of j.rounds in
     shows (pushed_states events) len j.tracks (map (λ r. r.calls) j.rounds) (map (λ r. r.turn) j.rounds) (frames_of seen) (map (λ e. e.entry) seen)
+
+-- how many frames the client of each track has released
+abbrev pub released_by : List PartyState → List ℕ
+released_by clients = map (λ p. p.stream.released) clients
+
+-- the summary of the run that a journal tells, at so many frames a cycle, with the ends that it left
+abbrev pub summary_told : ℕ → JournalData → EndsState → Summary
+summary_told len j ends = summary_of (shown_by len j ends.normal.mutator.past.events) (released_by ends.clients)
 
 -- by rounds noted and the log of their cycles
 abbrev pub shown_in : ℕ → RoundsNoted → Logged → List (MutatorEvent ServerState) → Shown

@@ -1,5 +1,6 @@
 //! All turns of a script, and the file of what they mixed.
 ghost use Rattle.std.specs.Prelude.{◌≡◌, ◌+◌, ◌*◌, ◌<◌, ◌≤◌, ◌++◌, ◌∷◌, ℕ, List, [], Some, length, take, All, OnOk, OnErr};
+ghost use Rattle.af_base.specs.declared.state.FastState.{FastState as State};
 ghost use Rattle.af_io.specs.Causes.{HasCause};
 ghost use Rattle.af_io.specs.Files.{Files, SetsFile, LeavesFront};
 ghost use Rattle.af_model.specs.JournalForm.{IsJournal, IsWhole};
@@ -8,10 +9,14 @@ ghost use Rattle.af_script.specs.Form.{IsTurn};
 ghost use Rattle.af_session.specs.Noted.{NotesFrames};
 ghost use Rattle.af_session.specs.Rendered.{Runs};
 ghost use Rattle.af_session.specs.Rounds.{IsReady, IsRound, round_told};
+ghost use Rattle.af_session.specs.Shown.{FollowsRound, HasPlaces, shown_at};
 ghost use Rattle.af_session.specs.Sound.{pcm_of};
+ghost use Rattle.af_session.specs.Summaries.{nothing_shown};
+ghost use Rattle.af_session.specs.Tallies.{IsTally};
 
 use crate::noting::know_frames;
 use crate::parties::Parties;
+use crate::tally::Tally;
 use af_base::{Frame, Items, Steps};
 use af_io::{Pcm, Store, StoreError};
 use af_link::Links;
@@ -44,19 +49,23 @@ fn round_in<L: Ledger>(
     files: &[Pcm],
     buffer: &mut [Frame],
     bytes: &mut Items<u8>,
+    tally: &mut Tally,
 )
     requires ledger { (blank.name ≡ L.name) × (blank.parts ≡ L.parts) × (0 < blank.parts) }
     requires turn { IsTurn (length parties.old.clients) turn }
     requires buffer { length buffer.old ≡ parties.old.fast.frames }
     requires room { length bytes.old.items + 64 * parties.old.fast.frames ≤ bytes.old.room }
     requires ready { (n : ℕ) × (n < 100000) × IsReady links.now (record { tracks = tracks.now; files = files.now }) n parties.old }
+    requires places { (n : ℕ) × (n < 100000) × HasPlaces n (length parties.old.clients) (length parties.old.fast.log.entries) tally.old }
     ensures ready { (n : ℕ) → IsReady links.now (record { tracks = tracks.now; files = files.now }) n parties.old → IsReady links.now (record { tracks = tracks.now; files = files.now }) (n + 1) parties.new }
     ensures sizes { (parties.new.fast.frames ≡ parties.old.fast.frames) × (parties.new.fast.cycles ≡ parties.old.fast.cycles) }
     ensures round { (r : RoundNoted) × (added : List ℕ) × (bytes.new ≡ record bytes.old { items = bytes.old.items ++ added }) × IsRound (record { tracks = tracks.now; files = files.now }) turn parties.old r added parties.new }
     ensures sound { (before : List ℕ) → before ++ bytes.old.items ≡ pcm_of parties.old.fast.frames parties.old.fast.log → before ++ bytes.new.items ≡ pcm_of parties.old.fast.frames parties.new.fast.log }
+    ensures tally { FollowsRound (round_told turn parties.old parties.new) parties.old.fast parties.new.fast tally.old tally.new }
+    ensures places { (n : ℕ) → HasPlaces n (length parties.old.clients) (length parties.old.fast.log.entries) tally.old → HasPlaces (n + 1) (length parties.new.clients) (length parties.new.fast.log.entries) tally.new }
 {
     let mut steps = Steps::<L>::start(blank);
-    parties.round(links, turn, tracks, files, buffer, bytes, &mut steps);
+    parties.round(links, turn, tracks, files, buffer, bytes, tally, &mut steps);
 }
 
 impl Parties {
@@ -71,11 +80,13 @@ impl Parties {
         name: &str,
         buffer: &mut [Frame],
         bytes: &mut Items<u8>,
+        tally: &mut Tally,
     ) -> Result<(), StoreError>
         requires turn { IsTurn (length self.old.clients) turn }
         requires buffer { length buffer.old ≡ self.old.fast.frames }
         requires room { 64 * self.old.fast.frames ≤ bytes.old.room }
         requires ready { (n : ℕ) × (n < 100000) × IsReady links.now (record { tracks = tracks.now; files = files.now }) n self.old }
+        requires places { (n : ℕ) × (n < 100000) × HasPlaces n (length self.old.clients) (length self.old.fast.log.entries) tally.old }
         ensures ready { (n : ℕ) → IsReady links.now (record { tracks = tracks.now; files = files.now }) n self.old → IsReady links.now (record { tracks = tracks.now; files = files.now }) (n + 1) self.new }
         ensures sizes { (self.new.fast.frames ≡ self.old.fast.frames) × (bytes.new.room ≡ bytes.old.room) }
         ensures round { (r : RoundNoted) × IsRound (record { tracks = tracks.now; files = files.now }) turn self.old r bytes.new.items self.new }
@@ -84,6 +95,8 @@ impl Parties {
         ensures left { S.told store.old → (base : Files) (out : List ℕ) → SetsFile base name.now (Some out) (S.files store.old) → OnErr result (LeavesFront base name.now (out ++ bytes.new.items) (S.files store.new)) }
         ensures tells { S.told store.old → S.told store.new }
         ensures cause { HasCause (S.faults store.old) (S.faults store.new) result }
+        ensures tally { FollowsRound (round_told turn self.old self.new) self.old.fast self.new.fast tally.old tally.new }
+        ensures places { (n : ℕ) → HasPlaces n (length self.old.clients) (length self.old.fast.log.entries) tally.old → HasPlaces (n + 1) (length self.new.clients) (length self.new.fast.log.entries) tally.new }
     {
         bytes.clear();
         round_in::<Brand>(
@@ -95,6 +108,7 @@ impl Parties {
             files,
             buffer,
             bytes,
+            tally,
         );
         send_out(store, name, bytes.as_slice())
     }
@@ -112,12 +126,14 @@ impl Parties {
         buffer: &mut [Frame],
         bytes: &mut Items<u8>,
         rounds: &mut Rounds,
+        tally: &mut Tally,
     ) -> Result<(), StoreError>
         requires turn { IsTurn (length self.old.clients) turn }
         requires buffer { length buffer.old ≡ self.old.fast.frames }
         requires room { 64 * self.old.fast.frames ≤ bytes.old.room }
         requires ready { (n : ℕ) × (n < 100000) × IsReady links.now (record { tracks = tracks.now; files = files.now }) n self.old }
         requires count { cycles_of rounds.old.rounds ≡ length self.old.fast.log.entries }
+        requires places { (n : ℕ) × (n < 100000) × HasPlaces n (length self.old.clients) (length self.old.fast.log.entries) tally.old }
         ensures ready { (n : ℕ) → IsReady links.now (record { tracks = tracks.now; files = files.now }) n self.old → IsReady links.now (record { tracks = tracks.now; files = files.now }) (n + 1) self.new }
         ensures sizes { (self.new.fast.frames ≡ self.old.fast.frames) × (bytes.new.room ≡ bytes.old.room) }
         ensures round { IsRound (record { tracks = tracks.now; files = files.now }) turn self.old (round_told turn self.old self.new) bytes.new.items self.new }
@@ -128,15 +144,17 @@ impl Parties {
         ensures left { S.told store.old → (base : Files) (out : List ℕ) → SetsFile base name.now (Some out) (S.files store.old) → OnErr result (LeavesFront base name.now (out ++ bytes.new.items) (S.files store.new)) }
         ensures tells { S.told store.old → S.told store.new }
         ensures cause { HasCause (S.faults store.old) (S.faults store.new) result }
+        ensures tally { FollowsRound (round_told turn self.old self.new) self.old.fast self.new.fast tally.old tally.new }
+        ensures places { (n : ℕ) → HasPlaces n (length self.old.clients) (length self.old.fast.log.entries) tally.old → HasPlaces (n + 1) (length self.new.clients) (length self.new.fast.log.entries) tally.new }
     {
         let had_ended = self.normal.has_ended();
         let entries = self.fast.log().len();
-        self.play_out(links, turn, tracks, files, store, name, buffer, bytes)?;
+        self.play_out(links, turn, tracks, files, store, name, buffer, bytes, tally)?;
         self.note_round(alloc, turn, had_ended, entries, rounds)?;
         Ok(())
     }
 
-    /// Plays these turns one after the other, each as a round after which all meet, and notes each. The bytes of each round's mixed cycles are added to the file as one piece, where there are some.
+    /// Plays these turns one after the other, each as a round after which all meet, and notes each, in the tally too. The bytes of each round's mixed cycles are added to the file as one piece, where there are some.
     ///
     /// What was played is a turn run of the script and its files with the rounds noted, which make a journal with the log; and where the file held the sound of the fast mixer's log before it does so again. After a fault of the store, or want of memory, some first turns were played, and the file holds a front of their sound.
     pub fn play_all<S: Store>(
@@ -151,6 +169,7 @@ impl Parties {
         buffer: &mut [Frame],
         bytes: &mut Items<u8>,
         rounds: &mut Rounds,
+        tally: &mut Tally,
     ) -> Result<(), StoreError>
         requires turns { All (IsTurn (length tracks.now)) turns.now }
         requires few { length turns.now ≤ 100000 }
@@ -159,12 +178,15 @@ impl Parties {
         requires ready { IsReady links.now (record { tracks = tracks.now; files = files.now }) 0 self.old }
         requires rounds { rounds.old ≡ record { tracks = length tracks.now; rounds = [] } }
         requires log { (self.old.fast.log.entries ≡ []) × (self.old.fast.log.frames ≡ []) }
+        requires tally { IsTally (nothing_shown (length tracks.now)) tally.old }
         ensures ready { OnOk result (IsReady links.now (record { tracks = tracks.now; files = files.now }) (length turns.now) self.new) }
         ensures run { (n : ℕ) × (played : List RoundNoted) × Runs (record { tracks = tracks.now; files = files.now }) (take n turns.now) self.old played self.new }
         ensures all { OnOk result (Runs (record { tracks = tracks.now; files = files.now }) turns.now self.old rounds.new.rounds self.new) }
         ensures tracks { OnOk result (rounds.new.tracks ≡ length tracks.now) }
         ensures whole { OnOk result (IsWhole rounds.new self.new.fast.log) }
         ensures form { OnOk result (IsJournal (journal_of rounds.new self.new.fast.log)) }
+        ensures tally { OnOk result ((first : State) → IsTally (shown_at first (length tracks.now) rounds.new.rounds self.new.fast) tally.new) }
+        ensures frames { OnOk result (self.new.fast.frames ≡ self.old.fast.frames) }
         ensures written { S.told store.old → (base : Files) → SetsFile base name.now (Some (pcm_of self.old.fast.frames self.old.fast.log)) (S.files store.old) → OnOk result (SetsFile base name.now (Some (pcm_of self.old.fast.frames self.new.fast.log)) (S.files store.new)) }
         ensures left { S.told store.old → (base : Files) → SetsFile base name.now (Some (pcm_of self.old.fast.frames self.old.fast.log)) (S.files store.old) → OnErr result (LeavesFront base name.now (pcm_of self.old.fast.frames self.new.fast.log) (S.files store.new)) }
         ensures tells { S.told store.old → S.told store.new }
@@ -172,7 +194,7 @@ impl Parties {
     {
         for i in 0..turns.len() {
             self.play_noted(
-                alloc, links, turns[i], tracks, files, store, name, buffer, bytes, rounds,
+                alloc, links, turns[i], tracks, files, store, name, buffer, bytes, rounds, tally,
             )?;
         }
         know_frames(self.fast.log().frames());

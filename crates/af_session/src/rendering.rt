@@ -1,5 +1,6 @@
 //! A script's turns from first to last, one after the other.
-ghost use Rattle.std.specs.Prelude.{◌≡◌, ◌*◌, ◌<◌, ◌≤◌, ℕ, [], Some, length, take, IfOk, OnOk, OnErr};
+ghost use Rattle.af_script.specs.Bounds.{most_tracks};
+ghost use Rattle.std.specs.Prelude.{◌^◌, All, ◌≡◌, ◌*◌, ◌<◌, ◌≤◌, ℕ, [], Some, length, take, IfOk, OnOk, OnErr};
 ghost use Rattle.af_io.specs.Causes.{HasCause};
 ghost use Rattle.af_io.specs.Files.{Files, SetsFile, LeavesFront};
 ghost use Rattle.af_link.specs.declared.links.Links.{Links};
@@ -8,13 +9,18 @@ ghost use Rattle.af_model.specs.Journals.{journal_of};
 ghost use Rattle.af_session.specs.NewSession.{IsNewSession};
 ghost use Rattle.af_session.specs.Rendered.{HandsBack, HasStoreCause, HaveFiles, LeavesSound, Rendered, Renders, command_proxy, ends_from, stream_proxy};
 ghost use Rattle.af_session.specs.Shares.{AreLinksOf};
+ghost use Rattle.af_session.specs.Shown.{released_by, shown_in, summary_told};
 ghost use Rattle.af_session.specs.Sound.{journal_pcm, pcm_of};
+ghost use Rattle.af_session.specs.Summaries.{Shown, nothing_shown, summary_of};
+ghost use Rattle.af_session.specs.Tallies.{IsTally};
 ghost use Rattle.af_session.specs.Together.{AreTogether};
 
 use crate::making::make;
 use crate::parties::Parties;
 use crate::party::Party;
 use crate::shared::Shared;
+use crate::summary::Summary;
+use crate::tally::Tally;
 use af_base::{Frame, Items, Memory};
 use af_client::Client;
 use af_io::{Pcm, Store, StoreError};
@@ -98,10 +104,11 @@ impl Ends {
     }
 }
 
-/// What was played: its journal, and the ends.
+/// What was played: its journal, its summary, and the ends.
 #[derive(Drop)]
 pub struct Played {
     pub journal: Journal,
+    pub summary: Summary,
     pub ends: Ends,
 }
 
@@ -116,6 +123,16 @@ fn make_room(alloc: Global, frames: usize) -> Result<(Vec<Frame>, Items<u8>), Me
     Ok((buffer, bytes))
 }
 
+// The tally of so many tracks, and room for a count of each.
+fn make_tally(alloc: Global, tracks: usize) -> Result<(Tally, Items<u64>), Memory>
+    requires { tracks ≤ most_tracks }
+    ensures { IfOk result (λ r. IsTally (nothing_shown tracks) r.0 × (r.1 ≡ record { items = []; room = tracks })) }
+{
+    let tally = Tally::new(alloc, tracks)?;
+    let released = Items::with_room(alloc, tracks)?;
+    Ok((tally, released))
+}
+
 // All turns of a script by its new parties, into a file that is empty.
 fn play_turns<S: Store>(
     alloc: Global,
@@ -128,6 +145,7 @@ fn play_turns<S: Store>(
     buffer: &mut [Frame],
     bytes: &mut Items<u8>,
     rounds: &mut Rounds,
+    tally: &mut Tally,
 ) -> Result<(), StoreError>
     requires new { IsNewSession script.now shared.now parties.old }
     requires together { (links : Links) → AreLinksOf shared.now links → AreTogether links parties.old }
@@ -135,12 +153,15 @@ fn play_turns<S: Store>(
     requires buffer { length buffer.old ≡ script.now.frames }
     requires room { bytes.old.room ≡ 64 * script.now.frames }
     requires rounds { rounds.old ≡ record { tracks = length script.now.tracks; rounds = [] } }
+    requires tally { IsTally (nothing_shown (length script.now.tracks)) tally.old }
     ensures some { (n : ℕ) × Rendered script.now files.now (take n script.now.turns) parties.new }
     ensures all { OnOk result (Renders script.now files.now script.now.turns rounds.new.rounds parties.new) }
     ensures tracks { OnOk result (rounds.new.tracks ≡ length script.now.tracks) }
     ensures whole { OnOk result (IsWhole rounds.new parties.new.fast.log) }
     ensures form { OnOk result (IsJournal (journal_of rounds.new parties.new.fast.log)) }
     ensures count { OnOk result (length parties.new.clients ≡ length script.now.tracks) }
+    ensures tally { OnOk result (IsTally (shown_in script.now.frames rounds.new parties.new.fast.log parties.new.normal.mutator.past.events) tally.new) }
+    ensures released { OnOk result (All (λ p. p.stream.released < 2 ^ 58) parties.new.clients) }
     ensures written { S.told store.old → (base : Files) → SetsFile base name.now (Some []) (S.files store.old) → OnOk result (SetsFile base name.now (Some (pcm_of script.now.frames parties.new.fast.log)) (S.files store.new)) }
     ensures left { S.told store.old → (base : Files) → SetsFile base name.now (Some []) (S.files store.old) → OnErr result (LeavesFront base name.now (pcm_of script.now.frames parties.new.fast.log) (S.files store.new)) }
     ensures tells { S.told store.old → S.told store.new }
@@ -150,7 +171,7 @@ fn play_turns<S: Store>(
     let turns = script.turns();
     let tracks = script.tracks();
     parties.play_all(
-        alloc, &links, turns, tracks, files, store, name, buffer, bytes, rounds,
+        alloc, &links, turns, tracks, files, store, name, buffer, bytes, rounds, tally,
     )
 }
 
@@ -166,6 +187,7 @@ fn play_new<S: Store>(
     buffer: &mut [Frame],
     bytes: &mut Items<u8>,
     rounds: &mut Rounds,
+    tally: &mut Tally,
 ) -> Result<(), StoreError>
     requires new { IsNewSession script.now shared.now parties.old }
     requires together { (links : Links) → AreLinksOf shared.now links → AreTogether links parties.old }
@@ -173,11 +195,14 @@ fn play_new<S: Store>(
     requires buffer { length buffer.old ≡ script.now.frames }
     requires room { bytes.old.room ≡ 64 * script.now.frames }
     requires rounds { rounds.old ≡ record { tracks = length script.now.tracks; rounds = [] } }
+    requires tally { IsTally (nothing_shown (length script.now.tracks)) tally.old }
     ensures all { OnOk result (Renders script.now files.now script.now.turns rounds.new.rounds parties.new) }
     ensures tracks { OnOk result (rounds.new.tracks ≡ length script.now.tracks) }
     ensures whole { OnOk result (IsWhole rounds.new parties.new.fast.log) }
     ensures form { OnOk result (IsJournal (journal_of rounds.new parties.new.fast.log)) }
     ensures count { OnOk result (length parties.new.clients ≡ length script.now.tracks) }
+    ensures tally { OnOk result (IsTally (shown_in script.now.frames rounds.new parties.new.fast.log parties.new.normal.mutator.past.events) tally.new) }
+    ensures released { OnOk result (All (λ p. p.stream.released < 2 ^ 58) parties.new.clients) }
     ensures written { S.told store.old → OnOk result (SetsFile (S.files store.old) name.now (Some (pcm_of script.now.frames parties.new.fast.log)) (S.files store.new)) }
     ensures left { S.told store.old → OnErr result (LeavesSound script.now files.now name.now (S.files store.old) (S.files store.new)) }
     ensures tells { S.told store.old → S.told store.new }
@@ -185,15 +210,39 @@ fn play_new<S: Store>(
 {
     store.create(name)?;
     play_turns(
-        alloc, shared, parties, script, files, store, name, buffer, bytes, rounds,
+        alloc, shared, parties, script, files, store, name, buffer, bytes, rounds, tally,
     )
 }
 
-// What parties hand back, with the rounds that were noted.
-fn hand_back(parties: Parties, rounds: Rounds) -> Played
+// How many frames the client of each track has released, in a list with room for them.
+fn push_released(clients: &[Party], released: &mut Items<u64>)
+    requires room { length clients.now ≤ released.old.room }
+    requires empty { released.old.items ≡ [] }
+    ensures { released.new.items ≡ released_by clients.now }
+{
+    for i in 0..clients.len() {
+        released.push(clients[i].stream.released());
+    }
+}
+
+// The summary of what a tally noted and of the frames that the clients released, for which a list has room.
+fn sum_up(clients: &[Party], tally: &Tally, released: &mut Items<u64>) -> Summary
+    requires room { length clients.now ≤ released.old.room }
+    requires empty { released.old.items ≡ [] }
+    requires count { length tally.now.tracks ≡ length clients.now }
+    requires small { All (λ p. p.stream.released < 2 ^ 58) clients.now }
+    ensures { (run : Shown) → IsTally run tally.now → result ≡ summary_of run (released_by clients.now) }
+{
+    push_released(clients, released);
+    tally.summary(released.as_slice())
+}
+
+// What parties hand back, with the rounds that were noted, and the summary.
+fn hand_back(parties: Parties, rounds: Rounds, summary: Summary) -> Played
     requires whole { IsWhole rounds parties.fast.log }
     requires form { IsJournal (journal_of rounds parties.fast.log) }
     ensures journal { result.journal ≡ journal_of rounds parties.fast.log }
+    ensures summary { result.summary ≡ summary }
     ensures ends { result.ends ≡ ends_from parties }
 {
     let Parties {
@@ -203,13 +252,14 @@ fn hand_back(parties: Parties, rounds: Rounds) -> Played
     } = parties;
     Played {
         journal: Journal::new(rounds, fast.into_log()),
+        summary,
         ends: Ends { clients, normal },
     }
 }
 
 /// Plays the turns of a script one after the other, each as a round after which all parties meet, and writes the sound to the file of this name. All blocks, logs and mixers are made before the file is; the rounds are noted as they are played.
 ///
-/// What was played is a turn run of the script and its files, whose rounds the journal has, and where the store tells it the file is the sound of the journal. After a fault no file has changed, or the file holds a front of the sound of some first turns.
+/// What was played is a turn run of the script and its files, whose rounds the journal has and of which the summary is, and where the store tells it the file is the sound of the journal. After a fault no file has changed, or the file holds a front of the sound of some first turns.
 pub fn render<S: Store>(
     alloc: Global,
     script: &Script,
@@ -219,6 +269,7 @@ pub fn render<S: Store>(
 ) -> Result<Played, SessionFault>
     requires { HaveFiles (record { tracks = script.now.tracks; files = files.now }) }
     ensures played { IfOk result (λ p. HandsBack script.now files.now p.journal p.ends) }
+    ensures summary { IfOk result (λ p. p.summary ≡ summary_told script.now.frames p.journal p.ends) }
     ensures written { S.told store.old → IfOk result (λ p. SetsFile (S.files store.old) name.now (Some (journal_pcm script.now.frames p.journal)) (S.files store.new)) }
     ensures left { S.told store.old → OnErr result (LeavesSound script.now files.now name.now (S.files store.old) (S.files store.new)) }
     ensures tells { S.told store.old → S.told store.new }
@@ -226,6 +277,7 @@ pub fn render<S: Store>(
 {
     let (shared, mut parties) = make(alloc, script)?;
     let (mut buffer, mut bytes) = make_room(alloc, script.frames() as usize)?;
+    let (mut tally, mut released) = make_tally(alloc, script.tracks().len())?;
     let mut rounds = Rounds::new(alloc, script.tracks().len() as u32);
     play_new(
         alloc,
@@ -238,6 +290,8 @@ pub fn render<S: Store>(
         &mut buffer,
         &mut bytes,
         &mut rounds,
+        &mut tally,
     )?;
-    Ok(hand_back(parties, rounds))
+    let summary = sum_up(&parties.clients, &tally, &mut released);
+    Ok(hand_back(parties, rounds, summary))
 }
