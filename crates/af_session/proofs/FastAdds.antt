@@ -148,6 +148,10 @@ cycle_adds s s' answer bytes whole w =
     let of_frames = subst (λ (n : ℕ). AddsOne n answer s.fast.log s'.fast.log (written answer w.after)) frames of_log in
     subst (AddsOne s.fast.frames answer s.fast.log s'.fast.log) (sym w.bytes_are) of_frames
 
+-- the frames that its entry names lie in the log
+pub cycle_whole : (s s' : SessionState) (answer : Cycle) (bytes : List ℕ) → IsWhole s.fast.log → WritesCycle s answer bytes s' → IsWhole s'.fast.log
+cycle_whole s s' answer bytes whole w = (cycle_adds s s' answer bytes whole w).grows.whole
+
 -- ## A turn
 
 -- a cycle that mixes nothing is the last

@@ -1,5 +1,5 @@
 -- How what a run shows follows the cycles of the fast mixer.
-use Rattle.std.proofs.Common.{◌≡◌, ℕ, zero, suc, ◌+◌, ◌-◌, ◌<◌, ◌≤◌, if◌then◌else◌, Bool, true, false, All, List, [], ◌∷◌, ◌++◌, length, map, Option, Some, None, refl, sym, ap, subst, ◌∙◌, append-nil, append_assoc, arith}
+use Rattle.std.proofs.Common.{◌≡◌, ℕ, zero, suc, ◌+◌, ◌-◌, ◌^◌, ◌<◌, ◌≤◌, ◌==◌, ◌||◌, ◌⊎◌, inl, inr, ⊎_elim, eqb-true, if◌then◌else◌, Bool, true, false, All, List, [], ◌∷◌, ◌++◌, length, map, Option, Some, None, refl, sym, ap, subst, ◌∙◌, append-nil, append_assoc, arith}
 use Rattle.std.proofs.lemmas.List.{map-append, length_push, get_or_push}
 use Rattle.std.proofs.lemmas.List.Concat.{flat_map-append, flat_map-cons}
 use Rattle.std.proofs.lemmas.List.Elements.{All-head, All-tail}
@@ -8,7 +8,7 @@ use Rattle.af_base.specs.declared.frame.Frame.{Frame}
 use Rattle.af_base.specs.declared.log.Cycle.{Cycle}
 use Rattle.af_base.specs.declared.log.CycleEntry.{CycleEntry}
 use Rattle.af_base.specs.declared.state.FastState.{FastState}
-use Rattle.af_base.specs.Log.{Logged, entry_at, no_entry, takes_of}
+use Rattle.af_base.specs.Log.{Logged, slots, entry_at, no_entry, takes_of}
 use Rattle.af_base.specs.Mix.{Take, mix}
 use Rattle.af_base.specs.Turn.{Turn}
 use Rattle.af_journal.specs.Logged.{LieWithin}
@@ -25,12 +25,12 @@ use Rattle.af_stateq.specs.Laws.{polled_states}
 use Rattle.af_stateq.specs.Observes.{Observes}
 use Rattle.af_link.specs.declared.names.StreamNames.{StreamNames}
 use Rattle.af_fast.specs.Mixer.{IsInOrder, MixerState, is_over}
-use Rattle.af_fast.specs.Mixing.{AddsCycle, Adopts, Writes}
+use Rattle.af_fast.specs.Mixing.{AddsCycle, Adopts, MixesOnce, Writes}
 use Rattle.af_session.specs.Met.{Met}
-use Rattle.af_session.specs.Shown.{Follows, entries_written, entry_written, frames_written, shown_at, shows, use_of}
+use Rattle.af_session.specs.Shown.{Follows, HasPlaces, entries_written, entry_written, frames_written, shown_at, shows, use_of}
 use Rattle.af_session.specs.Sound.{IsWhole}
 use Rattle.af_session.specs.Summaries.{EntryUsed, Shown, with_entry, with_written}
-use Rattle.af_session.specs.Tallies.{Tallied, IsTally}
+use Rattle.af_session.specs.Tallies.{Tallied, IsTally, Keeps, most_looks}
 use Rattle.af_session.specs.Together.{SessionState}
 use Rattle.af_session.proofs.Sounding.{takes_stay}
 
@@ -211,3 +211,70 @@ pub follows_cycle : (s : SessionState) (p : MixerState) (met : SessionState) (m'
 follows_cycle s p met m' x y order polled adopts meets mixes = λ first tracks rounds is.
     mixes first tracks rounds
     (subst (λ (run : Shown). IsTally run x) (sym (shown_met first tracks rounds (record s { fast = p }) met polled meets ∙ shown_adopted first tracks rounds s.fast p order adopts)) is)
+
+-- ## A call of mix
+
+-- it leaves all but a mark as it was, or adds an entry
+mix_does : (m m' : MixerState) (out out' : List Frame) (answer : Cycle) → MixesOnce m out answer m' out' → (m' ≡ record m { adopted = false }) ⊎ ((entry : CycleEntry) × (answer ≡ entry.cycle) × AddsCycle m m' entry × Writes m' entry out out')
+mix_does m m' out out' answer x = by_exit m.exited refl
+  where
+    by_length : (full : Bool) → m.exited ≡ false → (length m.log.entries == m.cycles) ≡ full → (m' ≡ record m { adopted = false }) ⊎ ((entry : CycleEntry) × (answer ≡ entry.cycle) × AddsCycle m m' entry × Writes m' entry out out')
+    by_length true runs is = inl (x.spent runs (eqb-true (length m.log.entries) m.cycles is)).1
+    by_length false runs is = inr (x.adds (ap (λ (b : Bool). b || (length m.log.entries == m.cycles)) runs ∙ is))
+
+    by_exit : (exited : Bool) → m.exited ≡ exited → (m' ≡ record m { adopted = false }) ⊎ ((entry : CycleEntry) × (answer ≡ entry.cycle) × AddsCycle m m' entry × Writes m' entry out out')
+    by_exit true is = inl (x.exited is).1
+    by_exit false is = by_length (length m.log.entries == m.cycles) is refl
+
+module _ (m m' : MixerState) (out out' : List Frame) (answer : Cycle) (mixes : MixesOnce m out answer m' out') where
+  still_long : m' ≡ record m { adopted = false } → length m'.log.entries ≡ length m.log.entries
+  still_long same = ap (λ (y : MixerState). length y.log.entries) same
+
+  added_long : (entry : CycleEntry) → AddsCycle m m' entry → length m'.log.entries ≡ length m.log.entries + 1
+  added_long entry a = ap length a.entries ∙ length_push m.log.entries entry
+
+  -- where the log is longer then
+  module _ (longer : length m.log.entries < length m'.log.entries) where
+    one_longer : length m'.log.entries ≡ length m.log.entries + 1
+    one_longer = ⊎_elim (λ (same : m' ≡ record m { adopted = false }). absurd (omega (arith, longer, still_long same)))
+        (λ (x : (entry : CycleEntry) × (answer ≡ entry.cycle) × AddsCycle m m' entry × Writes m' entry out out'). added_long x.0 x.2) (mix_does m m' out out' answer mixes)
+
+    pub follows_added : (x y z : Tallied) → IsInOrder m → IsWhole m.log → length out ≡ m.frames → m'.frames ≡ m.frames
+        → ((run : Shown) → IsTally run x → IsTally (with_entry run (record { entry = entry_at m'.log.entries (length m'.log.entries - 1); state = m'.observer.current })) y)
+        → ((run : Shown) → IsTally run y → IsTally (with_written run (frames_written answer out')) z) → Follows m m' x z
+    follows_added x y z order whole long sizes first second head = ⊎_elim
+        (λ (same : m' ≡ record m { adopted = false }). absurd (omega (arith, longer, still_long same)))
+        (λ (a : (entry : CycleEntry) × (answer ≡ entry.cycle) × AddsCycle m m' entry × Writes m' entry out out'). λ tracks rounds is.
+            let run : Shown = shown_at head tracks rounds m in
+            let noted = second (with_entry run (record { entry = entry_at m'.log.entries (length m'.log.entries - 1); state = m'.observer.current })) (first run is) in
+            let shown = shown_added head tracks rounds m m' a.0 out out' order whole long sizes a.2 a.3 in
+            let same : with_written (with_entry run (record { entry = entry_at m'.log.entries (length m'.log.entries - 1); state = m'.observer.current })) (frames_written answer out') ≡ shown_at head tracks rounds m' =
+            (λ i. with_written (with_entry run (record { entry = last_entry m m' a.0 a.2 i; state = m'.observer.current })) (frames_written (a.1 i) out')) ∙ sym shown in
+            subst (λ (r : Shown). IsTally r z) same noted)
+        (mix_does m m' out out' answer mixes)
+
+    pub places_added : (x y z : Tallied) (n tracks : ℕ) → Keeps slots 1 x y → Keeps 0 0 y z → HasPlaces n tracks (length m.log.entries) x → HasPlaces n tracks (length m'.log.entries) z
+    places_added x y z n tracks first second p = record {
+      tracks_are = second.tracks ∙ first.tracks ∙ p.tracks_are;
+      looks = (let old = p.looks in let more = first.looks in let last = second.looks in omega (arith, one_longer));
+      cycles = (let old = p.cycles in let more = first.cycles in let last = second.cycles in omega (arith, one_longer));
+    }
+
+  -- where it isn't
+  module _ (as_long : length m'.log.entries ≤ length m.log.entries) where
+    is_still : m' ≡ record m { adopted = false }
+    is_still = ⊎_elim (λ (same : m' ≡ record m { adopted = false }). same)
+        (λ (x : (entry : CycleEntry) × (answer ≡ entry.cycle) × AddsCycle m m' entry × Writes m' entry out out'). absurd (omega (arith, as_long, added_long x.0 x.2))) (mix_does m m' out out' answer mixes)
+
+    pub follows_still : (x : Tallied) → Follows m m' x x
+    follows_still x = λ first tracks rounds is. subst (λ (r : Shown). IsTally r x) (sym (shown_still first tracks rounds m m' is_still)) is
+
+    pub places_kept : (x : Tallied) (n tracks : ℕ) → HasPlaces n tracks (length m.log.entries) x → HasPlaces n tracks (length m'.log.entries) x
+    places_kept x n tracks p = subst (λ (k : ℕ). HasPlaces n tracks k x) (sym (still_long is_still)) p
+
+-- there is room for the looks of one entry more
+pub room_more : (m : MixerState) (x : Tallied) (n tracks : ℕ) → IsInOrder m → n ≤ 100000 → HasPlaces n tracks (length m.log.entries) x → x.looks + slots ≤ most_looks
+room_more m x n tracks order few p = let looks = p.looks in omega (arith, few, order.room.entries.0, order.room.sized.2)
+
+pub cycles_few : (m : MixerState) (x : Tallied) (n tracks : ℕ) → IsInOrder m → HasPlaces n tracks (length m.log.entries) x → x.cycles < 2 ^ 32
+cycles_few m x n tracks order p = let cycles = p.cycles in omega (arith, order.room.entries.0, order.room.sized.2)

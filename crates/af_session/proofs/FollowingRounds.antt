@@ -108,7 +108,7 @@ module _ (states : List FastState) (len tracks : ℕ) (calls : AllCalls) (turns 
         λ j. record before { calls = sym filled j; turns = turns_still turns j }
 
 -- how many tracks it shows
-shows_tracks : (states : List FastState) (len tracks : ℕ) (calls : AllCalls) (turns : List (Option Turn)) (frames : List Frame) (entries : List CycleEntry) → length (shows states len tracks calls turns frames entries).calls ≡ tracks
+pub shows_tracks : (states : List FastState) (len tracks : ℕ) (calls : AllCalls) (turns : List (Option Turn)) (frames : List Frame) (entries : List CycleEntry) → length (shows states len tracks calls turns frames entries).calls ≡ tracks
 unfolding shows
 shows_tracks states len tracks calls turns frames entries = length-map-range_with_len (calls_over calls) 0 tracks
 
@@ -231,8 +231,8 @@ module _ (turn : TurnSpec) (s played met t : SessionState) (meets : Met played m
       (λ i. shown_at first tracks (rounds ++ told i ∷ []) (same i)) ∙ shown_met first tracks after played met order meets in
       subst (λ (run : Shown). IsTally run b) (sym shown) (follows first tracks rounds is)
 
-  pub places_round : (n k entries : ℕ) (b : Tallied) → HasPlaces n (length played.clients) (length played.fast.log.entries) b → HasPlaces n (length t.clients) (length t.fast.log.entries) b
-  places_round n k entries b p =
+  pub places_round : (n : ℕ) (b : Tallied) → HasPlaces n (length played.clients) (length played.fast.log.entries) b → HasPlaces n (length t.clients) (length t.fast.log.entries) b
+  places_round n b p =
       let clients : length played.clients ≡ length t.clients = sym (ap (λ (x : SessionState). length x.clients) ends ∙ (ends_keep met).long ∙ long) in
       let log : length played.fast.log.entries ≡ length t.fast.log.entries = sym (ap (λ (x : SessionState). length x.fast.log.entries) ends ∙ ap (λ (m : MixerState). length m.log.entries) ((ends_keep met).fast ∙ meets.ends.fast)) in
       subst (λ (x : ℕ × ℕ). HasPlaces n x.0 x.1 b) (λ i. (clients i, log i)) p

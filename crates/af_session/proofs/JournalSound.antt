@@ -12,7 +12,7 @@ use Rattle.af_session.specs.Sound.{entries_pcm, journal_pcm, pcm_of}
 use Rattle.af_session.proofs.RoundForms.{AreNoted, IsNoted}
 
 -- the entries of a log stay
-same_entries : (frames : List Frame) (entries : List CycleEntry) → map (λ (x : EntrySeen). x.entry) (entries_seen frames entries) ≡ entries
+pub same_entries : (frames : List Frame) (entries : List CycleEntry) → map (λ (x : EntrySeen). x.entry) (entries_seen frames entries) ≡ entries
 same_entries frames [] = refl
 same_entries frames (e ∷ es) = ap (λ (l : List CycleEntry). e ∷ l) (same_entries (drop (taken_by e) frames) es)
 
@@ -28,7 +28,7 @@ all_dealt entries (r ∷ rs) same = let left = length-drop r.cycles entries in
     ap (λ (l : List EntrySeen). take r.cycles entries ++ l) (all_dealt (drop r.cycles entries) rs (omega arith)) ∙ take-append-drop r.cycles entries
 
 -- the entries of the journal are those of the log
-dealt : (noted : RoundsNoted) (log : Logged) → cycles_of noted.rounds ≡ length log.entries → entries_of (journal_of noted log).rounds ≡ entries_seen log.frames log.entries
+pub dealt : (noted : RoundsNoted) (log : Logged) → cycles_of noted.rounds ≡ length log.entries → entries_of (journal_of noted log).rounds ≡ entries_seen log.frames log.entries
 dealt noted log count = all_dealt (entries_seen log.frames log.entries) noted.rounds (count ∙ sym (same_length log.frames log.entries))
 
 -- ## Form

@@ -35,3 +35,4 @@ mod NotedRounds
 mod FilesGiven
 mod Following
 mod FollowingRounds
+mod ShownWhole

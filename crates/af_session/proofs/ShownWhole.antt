@@ -1,7 +1,8 @@
 -- What a run shows at its end, by its journal and by the states pushed.
-use Rattle.std.proofs.Common.{◌≡◌, ℕ, ◌+◌, ◌≤◌, if◌then◌else◌, Bool, true, false, List, [], ◌∷◌, ◌++◌, length, map, drop, replicate, take, refl, sym, ap, subst, ◌∙◌, append-nil, arith}
+use Rattle.std.proofs.Common.{◌≡◌, ℕ, ◌+◌, ◌<◌, ◌≤◌, ◌^◌, All, OnOk, Result, Ok, Err, get_or, if◌then◌else◌, Bool, true, false, List, [], ◌∷◌, ◌++◌, length, map, drop, replicate, take, refl, sym, ap, subst, ◌∙◌, append-nil, arith}
 use Rattle.std.specs.List.{range_with_len}
 use Rattle.std.proofs.lemmas.List.{length-replicate}
+use Rattle.std.proofs.lemmas.Option.{slice_get-get_or}
 use Rattle.std.proofs.lemmas.List.FromFn.{fill_by_all}
 use Rattle.af_base.specs.declared.event.ClientCall.{ClientCall}
 use Rattle.af_base.specs.declared.frame.Frame.{Frame}
@@ -12,7 +13,8 @@ use Rattle.af_model.specs.declared.states.MutatorEvent.{MutatorEvent}
 use Rattle.af_model.specs.declared.states.ObserverEvent.{ObserverEvent}
 use Rattle.af_model.specs.Cycles.{last_used}
 use Rattle.af_model.specs.JournalForm.{IsWhole}
-use Rattle.af_model.specs.Journals.{EntrySeen, RoundNoted, RoundSeen, RoundsNoted, entries_seen, frames_of, journal_of, rounds_seen}
+use Rattle.af_model.specs.Journals.{EntrySeen, JournalData, RoundNoted, RoundSeen, RoundsNoted, entries_seen, frames_of, journal_of, rounds_seen}
+use Rattle.af_link.specs.declared.links.Links.{Links}
 use Rattle.af_server.specs.Order.{ServerState}
 use Rattle.af_stateq.specs.Laws.{polled_states, pushed_states}
 use Rattle.af_stateq.proofs.Prefix.{polled_in_order}
@@ -22,14 +24,17 @@ use Rattle.af_script.specs.Data.{ScriptData}
 use Rattle.af_script.specs.declared.op.TurnSpec.{TurnSpec}
 use Rattle.af_session.specs.Met.{Met}
 use Rattle.af_session.specs.NewSession.{IsNewSession}
-use Rattle.af_session.specs.Rounds.{Given, IsRound, IsTurnRun, with_ends}
+use Rattle.af_session.specs.Parties.{PartyState}
+use Rattle.af_session.specs.Rendered.{EndsState, Runs}
+use Rattle.af_session.specs.Rounds.{Given, IsReady, IsRound, IsTurnRun, with_ends}
 use Rattle.af_session.specs.Shares.{SharedState}
-use Rattle.af_session.specs.Shown.{HasPlaces, calls_over, shown_at, shown_by, shown_in, shows}
-use Rattle.af_session.specs.Summaries.{Shown, nothing_shown}
+use Rattle.af_session.specs.Shown.{HasPlaces, calls_over, released_by, shown_at, shown_by, shown_in, shows, summary_told}
+use Rattle.af_session.specs.declared.summary.Summary.{Summary}
+use Rattle.af_session.specs.Summaries.{Shown, nothing_shown, summary_of}
 use Rattle.af_session.specs.Tallies.{IsTally, Tallied}
 use Rattle.af_session.specs.Together.{SessionState}
 use Rattle.af_session.proofs.Following.{shows_more}
-use Rattle.af_session.proofs.FollowingRounds.{empty_at, ends_keep}
+use Rattle.af_session.proofs.FollowingRounds.{empty_at, ends_keep, shows_tracks}
 use Rattle.af_session.proofs.JournalSound.{dealt, same_entries}
 
 -- ## At the start
@@ -126,3 +131,43 @@ shown_journal len noted log events whole =
     let turns = map (λ (r : RoundNoted). r.turn) noted.rounds in
     (λ i. shows states len noted.tracks (same_calls seen noted.rounds i) (same_turns seen noted.rounds i) (frames_of (dealt noted log whole.0 i)) (map (λ (x : EntrySeen). x.entry) (dealt noted log whole.0 i)))
     ∙ (λ i. shows states len noted.tracks calls turns (whole.1 i) (same_entries log.frames log.entries i))
+
+-- ## What rounds leave
+
+-- no client released more frames than its file has
+pub released_few : (links : Links) (g : Given) (n : ℕ) (t : SessionState) → IsReady links g n t → All (λ (p : PartyState). p.stream.released < 2 ^ 58) t.clients
+released_few links g n t ready = λ i d lt.
+    let works = ready.works i (get_or t.clients i d) (slice_get-get_or t.clients i d lt) in
+    let file = works.file in
+    let few = works.few_frames in
+    omega arith
+
+-- two answers in one
+pub on_ok_both : {T E P Q : Type 0} (r : Result T E) → OnOk r P → OnOk r Q → OnOk r (P × Q)
+on_ok_both (Ok x) p q = (p, q)
+on_ok_both (Err e) p q = tt
+
+-- the tally of all turns of a script
+pub tally_end : (script : ScriptData) (shared : SharedState) (s : SessionState) → IsNewSession script shared s → (links : Links) (g : Given) (n : ℕ) (turns : List TurnSpec) (rounds : RoundsNoted) (t : SessionState) (y : Tallied)
+    → IsReady links g n t → Runs g turns s rounds.rounds t → rounds.tracks ≡ length g.tracks → t.fast.frames ≡ s.fast.frames → ((first : FastState) → IsTally (shown_at first (length g.tracks) rounds.rounds t.fast) y)
+    → IsTally (shown_in script.frames rounds t.fast.log t.normal.mutator.past.events) y
+tally_end script shared s new links g n turns rounds t y ready runs tracks frames is =
+    let step = in_step_run g turns s rounds.rounds runs.bytes t runs.run (in_step_new script shared s new) in
+    let whole = tally_pushed (length g.tracks) rounds.rounds t y ready.together.fast.0 step is in
+    let len : t.fast.frames ≡ script.frames = frames ∙ ap (λ (m : MixerState). m.frames) new.fast in
+    subst (λ (x : ℕ × ℕ). IsTally (shown_in x.0 (record { tracks = x.1; rounds = rounds.rounds }) t.fast.log t.normal.mutator.past.events) y) (λ i. (len i, sym tracks i)) whole
+
+-- ## The summary
+
+-- the summary of a tally is told by the journal and the ends
+pub is_told : (len : ℕ) (noted : RoundsNoted) (log : Logged) (events : List (MutatorEvent ServerState)) (clients : List PartyState) (t : Tallied) (summary : Summary) (j : JournalData) (ends : EndsState) → IsWhole noted log
+    → j ≡ journal_of noted log → ends.clients ≡ clients → ends.normal.mutator.past.events ≡ events → IsTally (shown_in len noted log events) t → ((run : Shown) → IsTally run t → summary ≡ summary_of run (released_by clients))
+    → summary ≡ summary_told len j ends
+is_told len noted log events clients t summary j ends whole journal same pushed is sums =
+    sums (shown_in len noted log events) is
+    ∙ ap (λ (run : Shown). summary_of run (released_by clients)) (sym (shown_journal len noted log events whole))
+    ∙ (λ i. summary_of (shown_by len (sym journal i) (sym pushed i)) (released_by (sym same i)))
+
+-- a tally has as many tracks as rounds were noted of
+pub tally_tracks : (len : ℕ) (noted : RoundsNoted) (log : Logged) (events : List (MutatorEvent ServerState)) (t : Tallied) → IsTally (shown_in len noted log events) t → length t.tracks ≡ noted.tracks
+tally_tracks len noted log events t is = is.count ∙ shows_tracks (pushed_states events) len noted.tracks (map (λ (r : RoundNoted). r.calls) noted.rounds) (map (λ (r : RoundNoted). r.turn) noted.rounds) log.frames log.entries

@@ -51,8 +51,9 @@ impl Parties {
         let i = track as usize;
         let ops = tracks[i].ops.as_slice();
         let file = files[i].frames();
-        self.clients[i].turn(links, ops, file, steps);
-        tally.note_calls(i, self.clients[i].calls.as_slice());
+        let client = &mut self.clients[i];
+        client.turn(links, ops, file, steps);
+        tally.note_calls(i, client.calls.as_slice());
     }
 
     // The turn of the normal mixer: nothing where it has ended.

@@ -5,7 +5,7 @@ use Rattle.af_model.specs.Cycles.{is_mixed}
 use Rattle.af_session.specs.FastTurns.{WritesCycle}
 use Rattle.af_session.specs.Sound.{written}
 use Rattle.af_session.specs.Together.{SessionState}
-use Rattle.af_session.proofs.FastAdds.{cycle_sizes, turned_by}
+use Rattle.af_session.proofs.FastAdds.{cycle_sizes, cycle_whole, turned_by}
 use Rattle.af_session.proofs.FastChains.{GoesTo, goes_first, goes_on, goes_over, goes_whole, long_written, put_behind}
 use Rattle.af_session.proofs.fast_turns.fast_cycles.Goals as goal
 
@@ -18,6 +18,9 @@ loop-i-init g c =
       between = c.requires.between;
       buffer = c.requires.buffer;
       sizes = (refl, refl);
+      whole = c.requires.whole;
+      follows = (λ head tracks rounds is. is);
+      places = (λ n tracks held. held);
       turn = (
         [],
         ap (λ (l : List ℕ). record bytes { items = l }) (sym (append-nil bytes.items)),
@@ -60,6 +63,9 @@ loop-i-preserved g c =
       between = call.ensures.between;
       buffer = call.auto.buffer ∙ inv.buffer ∙ sym sizes.0;
       sizes = (sizes.0 ∙ inv.sizes.0, sizes.1 ∙ inv.sizes.1);
+      whole = cycle_whole now next call.result more inv.whole wrote;
+      follows = (λ head tracks rounds is. call.ensures.tally head tracks rounds (inv.follows head tracks rounds is));
+      places = (λ n tracks held. call.ensures.places n tracks (inv.places n tracks held));
       turn = (
         so_far.0 ++ more,
         put_behind c.args.bytes.now c.loop-i.bytes call.new.bytes so_far.0 more so_far.1 call.ensures.bytes,
@@ -76,3 +82,14 @@ returns-clause-turned g c =
     let whole : c.loop-i.i ≡ c.args.count = omega arith in
     turned_by c.args.count first now c.args.bytes.now c.loop-i.bytes so_far.0 c.requires.whole so_far.1
     (goes_whole c.args.count first now so_far.0 (subst (λ (n : ℕ). GoesTo c.args.count n first now so_far.0) whole so_far.3))
+
+pub returns-then-not-is_mixed-clause-tally : goal.returns-then-not-is_mixed-clause-tally
+returns-then-not-is_mixed-clause-tally g c = λ head tracks rounds is. c.fast_cycle-cycle.ensures.tally head tracks rounds (c.loop-i.invariant.follows head tracks rounds is)
+
+pub returns-then-not-is_mixed-clause-places : goal.returns-then-not-is_mixed-clause-places
+returns-then-not-is_mixed-clause-places g c = λ n tracks held. c.fast_cycle-cycle.ensures.places n tracks (c.loop-i.invariant.places n tracks held)
+
+pub fast_cycle-requires-clause-places : goal.fast_cycle-requires-clause-places
+fast_cycle-requires-clause-places g c =
+    let held = c.requires.places in
+    (held.0, held.1, held.2, c.loop-i.invariant.places held.0 held.1 held.3)
