@@ -225,15 +225,15 @@ fn push_released(clients: &[Party], released: &mut Items<u64>)
     }
 }
 
-// The summary of what a tally noted and of the frames that the clients released, for which a list has room.
-fn sum_up(clients: &[Party], tally: &Tally, released: &mut Items<u64>) -> Summary
-    requires room { length clients.now ≤ released.old.room }
+// The summary of what a tally noted and of the frames that the clients released, for whose counts a list has room.
+fn sum_up(parties: &Parties, tally: &Tally, released: &mut Items<u64>) -> Summary
+    requires room { length parties.now.clients ≤ released.old.room }
     requires empty { released.old.items ≡ [] }
-    requires count { length tally.now.tracks ≡ length clients.now }
-    requires small { All (λ p. p.stream.released < 2 ^ 58) clients.now }
-    ensures { (run : Shown) → IsTally run tally.now → result ≡ summary_of run (released_by clients.now) }
+    requires count { length tally.now.tracks ≡ length parties.now.clients }
+    requires small { All (λ p. p.stream.released < 2 ^ 58) parties.now.clients }
+    ensures { (run : Shown) → IsTally run tally.now → result ≡ summary_of run (released_by parties.now.clients) }
 {
-    push_released(clients, released);
+    push_released(&parties.clients, released);
     tally.summary(released.as_slice())
 }
 
@@ -292,6 +292,6 @@ pub fn render<S: Store>(
         &mut rounds,
         &mut tally,
     )?;
-    let summary = sum_up(&parties.clients, &tally, &mut released);
+    let summary = sum_up(&parties, &tally, &mut released);
     Ok(hand_back(parties, rounds, summary))
 }

@@ -9,7 +9,11 @@ use Rattle.af_model.specs.Journals.{RoundNoted, RoundsNoted}
 use Rattle.af_script.specs.declared.op.TurnSpec.{TurnSpec}
 use Rattle.af_session.specs.Rendered.{Runs}
 use Rattle.af_session.specs.Rounds.{Given}
+use Rattle.af_base.specs.declared.state.FastState.{FastState}
+use Rattle.af_session.specs.Shown.{shown_at}
 use Rattle.af_session.specs.Sound.{pcm_of}
+use Rattle.af_session.specs.Tallies.{IsTally}
+use Rattle.af_session.proofs.ShownWhole.{places_first, tally_first}
 use Rattle.af_session.proofs.JournalSound.{journal_form, journal_whole}
 use Rattle.af_session.proofs.Outgoing.{stays_at}
 use Rattle.af_session.proofs.RoundForms.{AreNoted, noted_none, noted_round}
@@ -24,6 +28,8 @@ loop-i-init g c =
     record {
       ready = c.requires.ready;
       run = subst (λ (x : RoundsNoted). Runs given [] was x.rounds was) (sym c.requires.rounds) (run_none given was);
+      tally = subst (λ (x : RoundsNoted). (first : FastState) → IsTally (shown_at first tracks x.rounds was.fast) c.args.tally.now) (sym c.requires.rounds) (tally_first tracks was.fast c.args.tally.now c.requires.log.0 c.requires.tally);
+      places = places_first tracks (length was.clients) (length was.fast.log.entries) c.args.tally.now (sym c.requires.ready.given.0) c.requires.tally;
       noted = subst (λ (x : RoundsNoted). AreNoted tracks x was.fast.log) (sym c.requires.rounds) (noted_none tracks was.fast.log c.requires.log.0 c.requires.log.1);
       sizes = (refl, refl);
       buffer = c.requires.buffer;
@@ -50,6 +56,9 @@ loop-i-preserved g c =
       ready = c.play_noted.ensures.ready i inv.ready;
       run = subst (λ (x : RoundsNoted). Runs given (take (i + 1) c.args.turns.now) c.args.self.now x.rounds next) (sym noted)
           (run_more _ given c.args.turns.now i c.args.self.now now next c.loop-i.rounds.rounds (omega (arith, c.loop-i-test.true, c.loop-i.auto.i-end)) inv.run _ more round grown);
+      tally = subst (λ (x : RoundsNoted). (first : FastState) → IsTally (shown_at first (length c.args.tracks.now) x.rounds next.fast) c.play_noted.new.tally) (sym noted)
+          (λ first. c.play_noted.ensures.tally first (length c.args.tracks.now) c.loop-i.rounds.rounds (inv.tally first));
+      places = c.play_noted.ensures.places i inv.places;
       noted = subst (λ (x : RoundsNoted). AreNoted (length c.args.tracks.now) x next.fast.log) (sym noted)
           (noted_round c.args.links.now given i now inv.ready _ _ more next round c.in_ok-play_noted.ensures.frames c.loop-i.rounds inv.noted);
       sizes = (c.play_noted.ensures.sizes.0 ∙ inv.sizes.0, c.play_noted.ensures.sizes.1 ∙ inv.sizes.1);
@@ -107,3 +116,9 @@ pub returns-clause-form : goal.returns-clause-form
 returns-clause-form g c =
     let samples : All IsFrame c.loop-i.self.fast.log.frames = subst (All IsFrame) (c.frames.ensures ∙ ap (λ (l : Logged). l.frames) c.log.ensures) c.know_frames.ensures in
     journal_form (length c.args.tracks.now) c.loop-i.rounds c.loop-i.self.fast.log c.loop-i.invariant.noted samples
+
+pub returns-clause-tally : goal.returns-clause-tally
+returns-clause-tally g c = c.loop-i.invariant.tally
+
+pub returns-clause-frames : goal.returns-clause-frames
+returns-clause-frames g c = c.loop-i.invariant.sizes.0

@@ -2,7 +2,10 @@ use Rattle.std.proofs.Common.{◌≡◌, Some, length, take}
 use Rattle.af_io.specs.Files.{Files, SetsFile}
 use Rattle.af_session.specs.Rendered.{Runs}
 use Rattle.af_session.specs.Rounds.{IsReady}
+use Rattle.af_base.specs.declared.state.FastState.{FastState}
+use Rattle.af_session.specs.Shown.{HasPlaces, shown_at}
 use Rattle.af_session.specs.Sound.{pcm_of}
+use Rattle.af_session.specs.Tallies.{IsTally}
 use Rattle.af_session.proofs.RoundForms.{AreNoted}
 use Rattle.af_session.proofs.parties.Parties.play_all.Given as goal
 
@@ -10,6 +13,8 @@ abbrev pub invariant-loop-i : goal.invariant-loop-i
 invariant-loop-i g l = record {
   ready : IsReady l.links (record { tracks = l.tracks; files = l.files }) l.i l.self;
   run : Runs (record { tracks = l.tracks; files = l.files }) (take l.i l.turns) l.fn.self l.rounds.rounds l.self;
+  tally : (first : FastState) → IsTally (shown_at first (length l.tracks) l.rounds.rounds l.self.fast) l.tally;
+  places : HasPlaces l.i (length l.self.clients) (length l.self.fast.log.entries) l.tally;
   noted : AreNoted (length l.tracks) l.rounds l.self.fast.log;
   sizes : (l.self.fast.frames ≡ l.fn.self.fast.frames) × (l.bytes.room ≡ l.fn.bytes.room);
   buffer : length l.buffer ≡ l.fn.self.fast.frames;
