@@ -1,7 +1,8 @@
-use Rattle.std.proofs.Common.{◌≤◌, ℕ, List, Some, OnOk, OnErr, length, take, sym, ap, subst, ◌∙◌, arith}
+use Rattle.std.proofs.Common.{◌≡◌, ◌≤◌, ℕ, List, [], Some, OnOk, OnErr, length, take, sym, ap, subst, ◌∙◌, arith}
 use Rattle.std.specs.Prelude.{All}
 use Rattle.std.proofs.lemmas.Result.{on_ok_weaker}
 use Rattle.af_io.specs.Files.{SetsFile, LeavesFront}
+use Rattle.af_model.specs.Journals.{RoundNoted}
 use Rattle.af_script.specs.Form.{IsScript, IsTurn}
 use Rattle.af_script.specs.declared.op.TurnSpec.{TurnSpec}
 use Rattle.af_script.specs.declared.track.TrackSpec.{TrackSpec}
@@ -9,7 +10,7 @@ use Rattle.af_session.specs.Rendered.{Runs}
 use Rattle.af_session.specs.Rounds.{Given, IsReady}
 use Rattle.af_session.specs.Sound.{pcm_of}
 use Rattle.af_session.specs.Together.{SessionState}
-use Rattle.af_session.proofs.FirstRound.{frames_first, ready_first, rendered, silent_first}
+use Rattle.af_session.proofs.FirstRound.{empty_first, frames_first, ready_first, rendered, silent_first}
 use Rattle.af_session.proofs.rendering.play_turns.Goals as goal
 
 pub play_all-requires-clause-turns : goal.play_all-requires-clause-turns
@@ -36,26 +37,41 @@ play_all-requires-clause-ready g c =
     subst (λ (x : List TrackSpec). IsReady links (record { tracks = x; files = c.args.files.now }) 0 c.args.parties.now) (sym c.tracks-tracks.ensures.value)
     (ready_first c.args.script.now c.args.shared.now c.args.parties.now c.requires.new c.args.files.now links c.requires.files (c.requires.together links c.links-links.ensures))
 
+pub play_all-requires-clause-rounds : goal.play_all-requires-clause-rounds
+play_all-requires-clause-rounds g c =
+    subst (λ (ts : List TrackSpec). c.args.rounds.now ≡ record { tracks = length ts; rounds = [] }) (sym c.tracks-tracks.ensures.value) c.requires.rounds
+
+pub play_all-requires-clause-log : goal.play_all-requires-clause-log
+play_all-requires-clause-log g c = empty_first c.args.script.now c.args.shared.now c.args.parties.now c.requires.new c.args.files.now
+
 pub returns-clause-some : goal.returns-clause-some
 returns-clause-some g c =
     let files = c.args.files.now in
     let was : SessionState = c.args.parties.now in
     let is : SessionState = c.play_all.new.self in
     let n : ℕ = c.play_all.ensures.run.0 in
-    let runs : Runs (record { tracks = c.args.script.now.tracks; files = files }) (take n c.args.script.now.turns) was is =
-    subst (λ (x : List TrackSpec × List TurnSpec). Runs (record { tracks = x.0; files = files }) (take n x.1) was is) (λ k. (c.tracks-tracks.ensures.value k, c.turns-turns.ensures.value k)) c.play_all.ensures.run.1 in
-    (n, rendered c.args.script.now c.args.shared.now was c.requires.new files (take n c.args.script.now.turns) is runs)
+    let played : List RoundNoted = c.play_all.ensures.run.1 in
+    let runs : Runs (record { tracks = c.args.script.now.tracks; files = files }) (take n c.args.script.now.turns) was played is =
+    subst (λ (x : List TrackSpec × List TurnSpec). Runs (record { tracks = x.0; files = files }) (take n x.1) was played is) (λ k. (c.tracks-tracks.ensures.value k, c.turns-turns.ensures.value k)) c.play_all.ensures.run.2 in
+    (n, (played, rendered c.args.script.now c.args.shared.now was c.requires.new files (take n c.args.script.now.turns) played is runs))
 
 pub returns-clause-all : goal.returns-clause-all
 returns-clause-all g c =
     let files = c.args.files.now in
     let was : SessionState = c.args.parties.now in
     let is : SessionState = c.play_all.new.self in
+    let played : List RoundNoted = c.play_all.new.rounds.rounds in
     on_ok_weaker c.play_all.result
-    (λ (runs : Runs (record { tracks = c.tracks-tracks.result.now; files = files }) c.turns-turns.result.now was is).
-    rendered c.args.script.now c.args.shared.now was c.requires.new files c.args.script.now.turns is
-    (subst (λ (x : List TrackSpec × List TurnSpec). Runs (record { tracks = x.0; files = files }) x.1 was is) (λ k. (c.tracks-tracks.ensures.value k, c.turns-turns.ensures.value k)) runs))
+    (λ (runs : Runs (record { tracks = c.tracks-tracks.result.now; files = files }) c.turns-turns.result.now was played is).
+    rendered c.args.script.now c.args.shared.now was c.requires.new files c.args.script.now.turns played is
+    (subst (λ (x : List TrackSpec × List TurnSpec). Runs (record { tracks = x.0; files = files }) x.1 was played is) (λ k. (c.tracks-tracks.ensures.value k, c.turns-turns.ensures.value k)) runs))
     c.play_all.ensures.all
+
+pub returns-clause-tracks : goal.returns-clause-tracks
+returns-clause-tracks g c =
+    on_ok_weaker c.play_all.result
+    (λ (are : c.play_all.new.rounds.tracks ≡ length c.tracks-tracks.result.now). are ∙ ap (λ (ts : List TrackSpec). length ts) c.tracks-tracks.ensures.value)
+    c.play_all.ensures.tracks
 
 pub returns-clause-count : goal.returns-clause-count
 returns-clause-count g c =

@@ -1,9 +1,11 @@
-use Rattle.std.proofs.Common.{◌*◌, ℕ, Some, inl, refl, sym, ap, subst, ◌∙◌, length}
+use Rattle.std.proofs.Common.{◌≡◌, ◌*◌, ℕ, List, Some, inl, refl, sym, ap, subst, ◌∙◌, length}
 use Rattle.af_base.specs.Log.{Logged}
 use Rattle.af_base.specs.Roomy.{Roomy}
 use Rattle.af_io.specs.Files.{SetsFile}
+use Rattle.af_model.specs.Journals.{RoundsNoted, journal_of}
 use Rattle.af_session.specs.Rendered.{EndsState, LeavesSound}
-use Rattle.af_session.specs.Sound.{pcm_of}
+use Rattle.af_session.specs.Sound.{journal_pcm, pcm_of}
+use Rattle.af_session.proofs.JournalSound.{journal_sounds}
 use Rattle.af_session.proofs.Outgoing.{cause_memory, cause_ok, cause_store, on_err}
 use Rattle.af_session.proofs.rendering.render.Goals as goal
 
@@ -41,18 +43,26 @@ returns-in_err-play_new-clause-cause g c =
     cause_store c.from_residual-in_err-play_new.result c.in_err-play_new.field-0.0 (g.S.Store.faults c.args.store.now) (g.S.Store.faults c.play_new.new.store) c.from_residual-in_err-play_new.ensures.1 c.in_err-play_new.ensures.cause
 
 pub returns-clause-played : goal.returns-clause-played
-returns-clause-played g c = record {
-  parties = c.play_new.new.parties;
-  rendered = c.in_ok-play_new.ensures.all;
-  log_is = c.hand_back.ensures.log;
-  ends_are = c.hand_back.ensures.ends;
-  count = ap (λ (e : EndsState). length e.clients) c.hand_back.ensures.ends ∙ c.in_ok-play_new.ensures.count;
-}
+returns-clause-played g c =
+    let noted : RoundsNoted = c.play_new.new.rounds in
+    let log : Logged = c.play_new.new.parties.fast.log in
+    record {
+      parties = c.play_new.new.parties;
+      rounds = noted.rounds;
+      rendered = c.in_ok-play_new.ensures.all;
+      journal_is = c.hand_back.ensures.journal ∙ ap (λ (n : ℕ). journal_of (record { tracks = n; rounds = noted.rounds }) log) c.in_ok-play_new.ensures.tracks;
+      ends_are = c.hand_back.ensures.ends;
+      count = ap (λ (e : EndsState). length e.clients) c.hand_back.ensures.ends ∙ c.in_ok-play_new.ensures.count;
+    }
 
 pub returns-clause-written : goal.returns-clause-written
 returns-clause-written g c = λ told.
-    subst (λ (log : Logged). SetsFile (g.S.Store.files c.args.store.now) c.args.name.now (Some (pcm_of c.args.script.now.frames log)) (g.S.Store.files c.play_new.new.store)) (sym c.hand_back.ensures.log)
-    (c.in_ok-play_new.ensures.written told)
+    let noted : RoundsNoted = c.play_new.new.rounds in
+    let log : Logged = c.play_new.new.parties.fast.log in
+    let frames : ℕ = c.args.script.now.frames in
+    let sounds : journal_pcm frames c.hand_back.result.journal ≡ pcm_of frames log =
+    ap (journal_pcm frames) c.hand_back.ensures.journal ∙ journal_sounds frames noted log c.in_ok-play_new.ensures.whole in
+    subst (λ (xs : List ℕ). SetsFile (g.S.Store.files c.args.store.now) c.args.name.now (Some xs) (g.S.Store.files c.play_new.new.store)) (sym sounds) (c.in_ok-play_new.ensures.written told)
 
 pub returns-clause-cause : goal.returns-clause-cause
 returns-clause-cause g c =

@@ -10,8 +10,9 @@ use Rattle.af_script.specs.declared.op.TurnSpec.{TurnSpec}
 use Rattle.af_session.specs.Rendered.{Runs}
 use Rattle.af_session.specs.Rounds.{Given}
 use Rattle.af_session.specs.Sound.{pcm_of}
+use Rattle.af_session.specs.Together.{SessionState}
 use Rattle.af_session.proofs.JournalSound.{journal_form, journal_whole}
-use Rattle.af_session.proofs.Outgoing.{stays_at}
+use Rattle.af_session.proofs.Outgoing.{on_err, stays_at}
 use Rattle.af_session.proofs.RoundForms.{AreNoted, noted_none, noted_round}
 use Rattle.af_session.proofs.RunMore.{run_none, run_more}
 use Rattle.af_session.proofs.parties.Parties.play_all.Goals as goal
@@ -88,7 +89,7 @@ returns-in_err-play_noted-clause-left g c = λ told base set.
     let left : LeavesFront base c.args.name.now (pcm_of frames next.fast.log) (g.S.Store.files c.play_noted.new.store) =
     subst (λ (xs : List ℕ). LeavesFront base c.args.name.now xs (g.S.Store.files c.play_noted.new.store)) grown
     (c.in_err-play_noted.ensures.left (inv.tells told) base then (inv.written told base set)) in
-    search (rules, left)
+    on_err c.from_residual.result left
 
 pub returns-clause-run : goal.returns-clause-run
 returns-clause-run g c = (c.loop-i.i, c.loop-i.rounds.rounds, c.loop-i.invariant.run)
@@ -100,10 +101,10 @@ returns-clause-all g c =
 
 pub returns-clause-whole : goal.returns-clause-whole
 returns-clause-whole g c =
-    let samples : All IsFrame c.loop-i.self.fast.log.frames = subst (All IsFrame) (c.frames.ensures ∙ ap (λ (l : Logged). l.frames) c.log.ensures) c.know_frames.ensures in
+    let samples : All IsFrame c.loop-i.self.fast.log.frames = subst (All IsFrame) (c.frames.ensures ∙ ap (λ (l : Logged). l.frames) c.log.ensures ∙ ap (λ (s : SessionState). s.fast.log.frames) c.self.view_is) c.know_frames.ensures in
     journal_whole (length c.args.tracks.now) c.loop-i.rounds c.loop-i.self.fast.log c.loop-i.invariant.noted samples
 
 pub returns-clause-form : goal.returns-clause-form
 returns-clause-form g c =
-    let samples : All IsFrame c.loop-i.self.fast.log.frames = subst (All IsFrame) (c.frames.ensures ∙ ap (λ (l : Logged). l.frames) c.log.ensures) c.know_frames.ensures in
+    let samples : All IsFrame c.loop-i.self.fast.log.frames = subst (All IsFrame) (c.frames.ensures ∙ ap (λ (l : Logged). l.frames) c.log.ensures ∙ ap (λ (s : SessionState). s.fast.log.frames) c.self.view_is) c.know_frames.ensures in
     journal_form (length c.args.tracks.now) c.loop-i.rounds c.loop-i.self.fast.log c.loop-i.invariant.noted samples

@@ -1,0 +1,8 @@
+use Rattle.std.specs.Prelude.{All}
+use Rattle.std.proofs.lemmas.List.Elements.{All-map}
+use Rattle.af_base.specs.Sample.{IsFrame}
+use Rattle.af_base.specs.Turn.{TakeSeen, take_seen}
+use Rattle.af_session.proofs.noting.copied_turn.Goals as goal
+
+pub returns-clause-frames : goal.returns-clause-frames
+returns-clause-frames c = All-map (λ (t : TakeSeen). All IsFrame t.frames) take_seen c.in_ok-copied_takes.field-0.items c.in_ok-copied_takes.ensures.frames

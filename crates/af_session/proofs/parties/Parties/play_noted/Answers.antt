@@ -1,0 +1,98 @@
+use Rattle.std.proofs.Common.{◌≡◌, ◌≤◌, ◌+◌, ◌++◌, ℕ, List, Some, length, sym, ap, subst, ◌∙◌, arith}
+use Rattle.af_base.specs.Log.{Logged}
+use Rattle.af_io.specs.Files.{SetsFile, LeavesFront}
+use Rattle.af_model.specs.Journals.{cycles_of}
+use Rattle.af_session.specs.Rounds.{Given, IsReady}
+use Rattle.af_session.specs.Together.{SessionState}
+use Rattle.af_session.proofs.NotedRounds.{clients_stay, few_noted, left_whole, log_longer, round_noted, then_memory, turn_stays}
+use Rattle.af_session.proofs.Outgoing.{on_err}
+use Rattle.af_session.proofs.parties.Parties.play_noted.Goals as goal
+
+pub note_round-requires-clause-turn : goal.note_round-requires-clause-turn
+note_round-requires-clause-turn g c =
+    let given : Given = record { tracks = c.args.tracks.now; files = c.args.files.now } in
+    let n : ℕ = c.requires.ready.0 in
+    let was : SessionState = c.args.self.now in
+    let is : SessionState = c.play_out.new.self in
+    let next : IsReady c.args.links.now given (n + 1) is = c.play_out.ensures.ready n c.requires.ready.2 in
+    turn_stays c.args.links.now given n (n + 1) was is c.requires.ready.2 next c.args.turn c.requires.turn
+
+pub note_round-requires-clause-more : goal.note_round-requires-clause-more
+note_round-requires-clause-more g c =
+    let given : Given = record { tracks = c.args.tracks.now; files = c.args.files.now } in
+    let n : ℕ = c.requires.ready.0 in
+    let was : SessionState = c.args.self.now in
+    let is : SessionState = c.play_out.new.self in
+    let next : IsReady c.args.links.now given (n + 1) is = c.play_out.ensures.ready n c.requires.ready.2 in
+    let count : c.len-entries.result ≡ length was.fast.log.entries = c.len-entries.ensures ∙ ap (λ (l : Logged). length l.entries) c.log.ensures ∙ ap (λ (s : SessionState). length s.fast.log.entries) c.self.view_is in
+    let longer = log_longer c.args.links.now given n (n + 1) was is c.requires.ready.2 next c.args.turn c.play_out.ensures.round.0 c.play_out.new.bytes.items c.play_out.ensures.round.1 in
+    omega (arith, count, longer)
+
+pub note_round-requires-clause-few : goal.note_round-requires-clause-few
+note_round-requires-clause-few g c =
+    let given : Given = record { tracks = c.args.tracks.now; files = c.args.files.now } in
+    let n : ℕ = c.requires.ready.0 in
+    let was : SessionState = c.args.self.now in
+    let is : SessionState = c.play_out.new.self in
+    let next : IsReady c.args.links.now given (n + 1) is = c.play_out.ensures.ready n c.requires.ready.2 in
+    few_noted c.args.links.now given n (n + 1) was is c.requires.ready.2 next (cycles_of c.args.rounds.now.rounds) c.requires.count
+
+pub returns-in_err-play_out-clause-round : goal.returns-in_err-play_out-clause-round
+returns-in_err-play_out-clause-round g c =
+    let given : Given = record { tracks = c.args.tracks.now; files = c.args.files.now } in
+    let n : ℕ = c.requires.ready.0 in
+    let was : SessionState = c.args.self.now in
+    let is : SessionState = c.play_out.new.self in
+    let next : IsReady c.args.links.now given (n + 1) is = c.play_out.ensures.ready n c.requires.ready.2 in
+    round_noted c.args.links.now given n (n + 1) was is c.requires.ready.2 next c.args.turn c.play_out.ensures.round.0 c.play_out.new.bytes.items c.play_out.ensures.round.1
+
+pub returns-in_err-note_round-clause-round : goal.returns-in_err-note_round-clause-round
+returns-in_err-note_round-clause-round g c =
+    let given : Given = record { tracks = c.args.tracks.now; files = c.args.files.now } in
+    let n : ℕ = c.requires.ready.0 in
+    let was : SessionState = c.args.self.now in
+    let is : SessionState = c.play_out.new.self in
+    let next : IsReady c.args.links.now given (n + 1) is = c.play_out.ensures.ready n c.requires.ready.2 in
+    round_noted c.args.links.now given n (n + 1) was is c.requires.ready.2 next c.args.turn c.play_out.ensures.round.0 c.play_out.new.bytes.items c.play_out.ensures.round.1
+
+pub returns-clause-round : goal.returns-clause-round
+returns-clause-round g c =
+    let given : Given = record { tracks = c.args.tracks.now; files = c.args.files.now } in
+    let n : ℕ = c.requires.ready.0 in
+    let was : SessionState = c.args.self.now in
+    let is : SessionState = c.play_out.new.self in
+    let next : IsReady c.args.links.now given (n + 1) is = c.play_out.ensures.ready n c.requires.ready.2 in
+    round_noted c.args.links.now given n (n + 1) was is c.requires.ready.2 next c.args.turn c.play_out.ensures.round.0 c.play_out.new.bytes.items c.play_out.ensures.round.1
+
+pub returns-clause-noted : goal.returns-clause-noted
+returns-clause-noted g c =
+    let given : Given = record { tracks = c.args.tracks.now; files = c.args.files.now } in
+    let n : ℕ = c.requires.ready.0 in
+    let was : SessionState = c.args.self.now in
+    let is : SessionState = c.play_out.new.self in
+    let next : IsReady c.args.links.now given (n + 1) is = c.play_out.ensures.ready n c.requires.ready.2 in
+    let count : c.len-entries.result ≡ length was.fast.log.entries = c.len-entries.ensures ∙ ap (λ (l : Logged). length l.entries) c.log.ensures ∙ ap (λ (s : SessionState). length s.fast.log.entries) c.self.view_is in
+    let ended : c.has_ended-had_ended.result ≡ was.normal.ended = c.has_ended-had_ended.ensures ∙ ap (λ (s : SessionState). s.normal.ended) c.self.view_is in
+    c.in_ok-note_round.ensures.noted was ended count (sym (clients_stay c.args.links.now given n (n + 1) was is c.requires.ready.2 next))
+
+pub returns-clause-frames : goal.returns-clause-frames
+returns-clause-frames g c =
+    let was : SessionState = c.args.self.now in
+    let ended : c.has_ended-had_ended.result ≡ was.normal.ended = c.has_ended-had_ended.ensures ∙ ap (λ (s : SessionState). s.normal.ended) c.self.view_is in
+    c.in_ok-note_round.ensures.frames was ended
+
+pub returns-in_err-play_out-clause-left : goal.returns-in_err-play_out-clause-left
+returns-in_err-play_out-clause-left g c = λ told base out set.
+    let left : LeavesFront base c.args.name.now (out ++ c.play_out.new.bytes.items) (g.S.Store.files c.play_out.new.store) = c.in_err-play_out.ensures.left told base out set in
+    on_err c.from_residual.result left
+
+pub returns-in_err-note_round-clause-left : goal.returns-in_err-note_round-clause-left
+returns-in_err-note_round-clause-left g c = λ told base out set.
+    let whole : List ℕ = out ++ c.play_out.new.bytes.items in
+    let left : LeavesFront base c.args.name.now whole (g.S.Store.files c.play_out.new.store) =
+    left_whole base (g.S.Store.files c.play_out.new.store) c.args.name.now whole (c.in_ok-play_out.ensures.written told base out set) in
+    on_err c.from_residual-in_err-note_round.result left
+
+pub returns-in_err-note_round-clause-cause : goal.returns-in_err-note_round-clause-cause
+returns-in_err-note_round-clause-cause g c =
+    then_memory c.from_residual-in_err-note_round.result (g.S.Store.faults c.args.store.now) (g.S.Store.faults c.play_out.new.store) c.in_ok-play_out.field-0 c.from_residual-in_err-note_round.ensures.1 c.in_ok-play_out.ensures.cause
