@@ -1,6 +1,6 @@
-use Rattle.std.proofs.Common.{◌≡◌, ◌≤◌, ◌+◌, ◌++◌, ℕ, List, Some, length, sym, ap, subst, ◌∙◌, arith}
+use Rattle.std.proofs.Common.{◌≡◌, ◌+◌, ◌++◌, ℕ, List, length, sym, ap, ◌∙◌, arith}
 use Rattle.af_base.specs.Log.{Logged}
-use Rattle.af_io.specs.Files.{SetsFile, LeavesFront}
+use Rattle.af_io.specs.Files.{LeavesFront}
 use Rattle.af_model.specs.Journals.{cycles_of}
 use Rattle.af_session.specs.Rounds.{Given, IsReady}
 use Rattle.af_session.specs.Together.{SessionState}
