@@ -1,5 +1,5 @@
 -- A round that is noted: what noting it needs, and what a want of memory leaves.
-use Rattle.std.proofs.Common.{◌≡◌, ℕ, ◌+◌, ◌<◌, ◌≤◌, ◌^◌, ◌++◌, List, length, Some, Result, Ok, Err, IsErrAnd, IsErrOf, refl, sym, subst, ◌∙◌, inr, arith}
+use Rattle.std.proofs.Common.{◌≡◌, ℕ, ◌+◌, ◌<◌, ◌≤◌, ◌^◌, List, length, Some, Result, Ok, Err, IsErrAnd, IsErrOf, sym, subst, ◌∙◌, inr, arith}
 use Rattle.std.proofs.lemmas.List.{take_all}
 use Rattle.af_io.specs.Causes.{HasCause}
 use Rattle.af_io.specs.Files.{Files, SetsFile, LeavesFront}

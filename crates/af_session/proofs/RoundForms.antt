@@ -1,5 +1,5 @@
 -- The rounds that are noted, and the log of their cycles, keep the form of a journal.
-use Rattle.std.proofs.Common.{◌≡◌, ℕ, ◌+◌, ◌-◌, ◌≤◌, Bool, true, false, MatchBool, MatchOption, All, List, [], ◌∷◌, ◌++◌, length, replicate, slice_set, None, Some, refl, sym, ap, subst, ◌∙◌, arith}
+use Rattle.std.proofs.Common.{◌≡◌, ℕ, ◌+◌, ◌-◌, Bool, true, false, MatchBool, MatchOption, All, List, [], ◌∷◌, ◌++◌, length, refl, sym, ap, subst, ◌∙◌, arith}
 use Rattle.std.proofs.lemmas.List.{length-replicate, length-set}
 use Rattle.std.proofs.lemmas.List.Elements.{All-append, All-cons, All-nil}
 use Rattle.af_base.specs.declared.event.ClientCall.{ClientCall}
@@ -7,14 +7,14 @@ use Rattle.af_base.specs.declared.frame.Frame.{Frame}
 use Rattle.af_base.specs.declared.log.CycleEntry.{CycleEntry}
 use Rattle.af_base.specs.Log.{Logged}
 use Rattle.af_base.specs.Sample.{IsFrame}
-use Rattle.af_base.specs.Turn.{Turn, turn_of}
+use Rattle.af_base.specs.Turn.{Turn}
 use Rattle.af_life.specs.Turn.{LegalTurn}
 use Rattle.af_life.proofs.TurnForms.{turn_form}
 use Rattle.af_link.specs.declared.links.Links.{Links}
 use Rattle.af_model.specs.Journals.{RoundNoted, RoundsNoted, cycles_of}
 use Rattle.af_model.specs.JournalForm.{IsTurn}
 use Rattle.af_model.proofs.EntriesMore.{AreWhole, none_whole}
-use Rattle.af_normal.specs.State.{NormalState, kept_of, setup_of}
+use Rattle.af_normal.specs.State.{kept_of, setup_of}
 use Rattle.af_script.specs.declared.op.TurnSpec.{TurnSpec}
 use Rattle.af_script.specs.declared.op.TurnSpec.TheVariants as spec
 use Rattle.af_session.specs.FastTurns.{IsFastTurn}

@@ -1,7 +1,7 @@
 -- What is noted of a round is what the parties before it and after it tell.
-use Rattle.std.proofs.Common.{◌≡◌, ℕ, ◌-◌, ◌<◌, Bool, true, false, if◌then◌else◌, MatchBool, List, [], length, map, option_map, slice_get, slice_set, get_or, Option, Some, None, refl, sym, ap, ◌∙◌, arith}
+use Rattle.std.proofs.Common.{◌≡◌, ℕ, ◌-◌, ◌<◌, Bool, true, false, if◌then◌else◌, MatchBool, List, [], length, map, option_map, slice_get, get_or, Option, Some, None, refl, sym, ap, ◌∙◌, arith}
 use Rattle.std.proofs.lemmas.List.{length-map, length-set}
-use Rattle.std.proofs.lemmas.Option.{same_Some, slice_get-get_or, slice_get-map, slice_get_within}
+use Rattle.std.proofs.lemmas.Option.{slice_get-get_or, slice_get-map, slice_get_within}
 use Rattle.af_base.specs.Log.{Logged}
 use Rattle.af_base.specs.Turn.{Turn, turn_of}
 use Rattle.af_model.specs.Journals.{RoundNoted}
@@ -9,9 +9,8 @@ use Rattle.af_normal.proofs.LegalLists.{get_set_same}
 use Rattle.af_script.specs.declared.op.TurnSpec.{TurnSpec}
 use Rattle.af_script.specs.declared.op.TurnSpec.TheVariants as spec
 use Rattle.af_session.specs.FastTurns.{IsFastTurn}
-use Rattle.af_session.specs.Met.{Met, proxies_of, spot_of}
 use Rattle.af_session.specs.Parties.{PartyState}
-use Rattle.af_session.specs.Rounds.{Given, IsRound, NormalTurned, calls_in, client_round, end_party, fast_round, normal_round, round_told, still_round, with_ends}
+use Rattle.af_session.specs.Rounds.{Given, IsRound, NormalTurned, calls_in, client_round, end_party, fast_round, normal_round, round_told, still_round}
 use Rattle.af_session.specs.Together.{SessionState}
 
 -- ## What the meetings and the ends leave

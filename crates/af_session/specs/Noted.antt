@@ -1,5 +1,5 @@
 -- The frames that a turn took, where a journal notes it.
-use Rattle.std.specs.Prelude.{List, All, MatchOption}
+use Rattle.std.specs.Prelude.{All, MatchOption}
 use Rattle.af_base.specs.Sample.{IsFrame}
 use Rattle.af_base.specs.Turn.{TakeSeen, Turn}
 use Rattle.af_model.specs.Journals.{RoundNoted}

@@ -58,7 +58,7 @@ returns-clause-some g c =
     let played : List RoundNoted = c.play_all.ensures.run.1 in
     let runs : Runs (record { tracks = c.args.script.now.tracks; files = files }) (take n c.args.script.now.turns) was played is =
     subst (λ (x : List TrackSpec × List TurnSpec). Runs (record { tracks = x.0; files = files }) (take n x.1) was played is) (λ k. (c.tracks-tracks.ensures.value k, c.turns-turns.ensures.value k)) c.play_all.ensures.run.2 in
-    (n, played, rendered c.args.script.now c.args.shared.now was c.requires.new files (take n c.args.script.now.turns) played is runs)
+    (n, (played, rendered c.args.script.now c.args.shared.now was c.requires.new files (take n c.args.script.now.turns) played is runs))
 
 pub returns-clause-all : goal.returns-clause-all
 returns-clause-all g c =

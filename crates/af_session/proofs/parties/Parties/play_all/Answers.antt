@@ -1,11 +1,10 @@
-use Rattle.std.proofs.Common.{rules, ◌≡◌, ◌+◌, ◌++◌, ◌∷◌, ℕ, List, [], Some, length, take, refl, sym, ap, subst, ◌∙◌, arith}
+use Rattle.std.proofs.Common.{rules, ◌≡◌, ◌+◌, ◌++◌, ℕ, List, [], Some, length, take, refl, sym, ap, subst, ◌∙◌, arith}
 use Rattle.std.specs.Prelude.{All}
 use Rattle.std.proofs.lemmas.List.{take_all}
-use Rattle.af_base.specs.declared.frame.Frame.{Frame}
 use Rattle.af_base.specs.Log.{Logged}
 use Rattle.af_base.specs.Sample.{IsFrame}
 use Rattle.af_io.specs.Files.{SetsFile, LeavesFront}
-use Rattle.af_model.specs.Journals.{RoundNoted, RoundsNoted}
+use Rattle.af_model.specs.Journals.{RoundsNoted}
 use Rattle.af_script.specs.declared.op.TurnSpec.{TurnSpec}
 use Rattle.af_session.specs.Rendered.{Runs}
 use Rattle.af_session.specs.Rounds.{Given}
@@ -14,8 +13,9 @@ use Rattle.af_session.specs.Shown.{shown_at}
 use Rattle.af_session.specs.Sound.{pcm_of}
 use Rattle.af_session.specs.Tallies.{IsTally}
 use Rattle.af_session.proofs.ShownWhole.{places_first, tally_first}
+use Rattle.af_session.specs.Together.{SessionState}
 use Rattle.af_session.proofs.JournalSound.{journal_form, journal_whole}
-use Rattle.af_session.proofs.Outgoing.{stays_at}
+use Rattle.af_session.proofs.Outgoing.{on_err, stays_at}
 use Rattle.af_session.proofs.RoundForms.{AreNoted, noted_none, noted_round}
 use Rattle.af_session.proofs.RunMore.{run_none, run_more}
 use Rattle.af_session.proofs.parties.Parties.play_all.Goals as goal
@@ -97,7 +97,7 @@ returns-in_err-play_noted-clause-left g c = λ told base set.
     let left : LeavesFront base c.args.name.now (pcm_of frames next.fast.log) (g.S.Store.files c.play_noted.new.store) =
     subst (λ (xs : List ℕ). LeavesFront base c.args.name.now xs (g.S.Store.files c.play_noted.new.store)) grown
     (c.in_err-play_noted.ensures.left (inv.tells told) base then (inv.written told base set)) in
-    search (rules, left)
+    on_err c.from_residual.result left
 
 pub returns-clause-run : goal.returns-clause-run
 returns-clause-run g c = (c.loop-i.i, c.loop-i.rounds.rounds, c.loop-i.invariant.run)
@@ -109,12 +109,12 @@ returns-clause-all g c =
 
 pub returns-clause-whole : goal.returns-clause-whole
 returns-clause-whole g c =
-    let samples : All IsFrame c.loop-i.self.fast.log.frames = subst (All IsFrame) (c.frames.ensures ∙ ap (λ (l : Logged). l.frames) c.log.ensures) c.know_frames.ensures in
+    let samples : All IsFrame c.loop-i.self.fast.log.frames = subst (All IsFrame) (c.frames.ensures ∙ ap (λ (l : Logged). l.frames) c.log.ensures ∙ ap (λ (s : SessionState). s.fast.log.frames) c.self.view_is) c.know_frames.ensures in
     journal_whole (length c.args.tracks.now) c.loop-i.rounds c.loop-i.self.fast.log c.loop-i.invariant.noted samples
 
 pub returns-clause-form : goal.returns-clause-form
 returns-clause-form g c =
-    let samples : All IsFrame c.loop-i.self.fast.log.frames = subst (All IsFrame) (c.frames.ensures ∙ ap (λ (l : Logged). l.frames) c.log.ensures) c.know_frames.ensures in
+    let samples : All IsFrame c.loop-i.self.fast.log.frames = subst (All IsFrame) (c.frames.ensures ∙ ap (λ (l : Logged). l.frames) c.log.ensures ∙ ap (λ (s : SessionState). s.fast.log.frames) c.self.view_is) c.know_frames.ensures in
     journal_form (length c.args.tracks.now) c.loop-i.rounds c.loop-i.self.fast.log c.loop-i.invariant.noted samples
 
 pub returns-clause-tally : goal.returns-clause-tally

@@ -1,6 +1,6 @@
-use Rattle.std.proofs.Common.{◌≡◌, ◌≤◌, ◌+◌, ◌++◌, ℕ, List, Some, length, sym, ap, subst, ◌∙◌, arith}
+use Rattle.std.proofs.Common.{◌≡◌, ◌+◌, ◌++◌, ℕ, List, length, sym, ap, ◌∙◌, arith}
 use Rattle.af_base.specs.Log.{Logged}
-use Rattle.af_io.specs.Files.{SetsFile, LeavesFront}
+use Rattle.af_io.specs.Files.{LeavesFront}
 use Rattle.af_model.specs.Journals.{cycles_of}
 use Rattle.af_session.specs.Rounds.{Given, IsReady}
 use Rattle.af_session.specs.Together.{SessionState}
@@ -81,13 +81,18 @@ returns-clause-frames g c =
     let ended : c.has_ended-had_ended.result ≡ was.normal.ended = c.has_ended-had_ended.ensures ∙ ap (λ (s : SessionState). s.normal.ended) c.self.view_is in
     c.in_ok-note_round.ensures.frames was ended
 
+pub returns-in_err-play_out-clause-left : goal.returns-in_err-play_out-clause-left
+returns-in_err-play_out-clause-left g c = λ told base out set.
+    let left : LeavesFront base c.args.name.now (out ++ c.play_out.new.bytes.items) (g.S.Store.files c.play_out.new.store) = c.in_err-play_out.ensures.left told base out set in
+    on_err c.from_residual.result left
+
 pub returns-in_err-note_round-clause-left : goal.returns-in_err-note_round-clause-left
 returns-in_err-note_round-clause-left g c = λ told base out set.
     let whole : List ℕ = out ++ c.play_out.new.bytes.items in
     let left : LeavesFront base c.args.name.now whole (g.S.Store.files c.play_out.new.store) =
     left_whole base (g.S.Store.files c.play_out.new.store) c.args.name.now whole (c.in_ok-play_out.ensures.written told base out set) in
-    on_err c.from_residual.result left
+    on_err c.from_residual-in_err-note_round.result left
 
 pub returns-in_err-note_round-clause-cause : goal.returns-in_err-note_round-clause-cause
 returns-in_err-note_round-clause-cause g c =
-    then_memory c.from_residual.result (g.S.Store.faults c.args.store.now) (g.S.Store.faults c.play_out.new.store) c.in_ok-play_out.field-0 c.from_residual.ensures.1 c.in_ok-play_out.ensures.cause
+    then_memory c.from_residual-in_err-note_round.result (g.S.Store.faults c.args.store.now) (g.S.Store.faults c.play_out.new.store) c.in_ok-play_out.field-0 c.from_residual-in_err-note_round.ensures.1 c.in_ok-play_out.ensures.cause
