@@ -37,8 +37,12 @@ AllCalls = List (List (List ClientCall))
 
 -- ## One round more
 
+-- no calls
+abbrev pub no_call : List ClientCall
+no_call = []
+
 -- none of many empty lists has items
-pub empty_at : {X : Type 0} (n i : ℕ) → slice_index_or (replicate n []) i [] ≡ [] {A = X}
+pub empty_at : (n i : ℕ) → slice_index_or (replicate n no_call) i no_call ≡ no_call
 empty_at zero i = refl
 empty_at (suc n) zero = refl
 empty_at (suc n) (suc i) = empty_at n i
@@ -83,8 +87,8 @@ module _ (states : List FastState) (len tracks : ℕ) (calls : AllCalls) (turns 
     calls_made k below within =
         let lists : List (List ClientCall) = map (calls_over calls) (range_with_len 0 tracks) in
         let next : List ClientCall = slice_index_or lists i [] ++ made in
-        let inside : i < length lists = omega (arith, length-map-range_with_len (calls_over calls) 0 tracks) in
-        let there : i < length (replicate n ([] {A = ClientCall})) = omega (arith, length-replicate n ([] {A = ClientCall})) in
+        let inside : i < length lists = omega (arith, within, length-map-range_with_len (calls_over calls) 0 tracks) in
+        let there : i < length (replicate n no_call) = omega (arith, lt, length-replicate n no_call) in
         let all : calls_over (calls ++ slice_set (replicate n []) i made ∷ []) k ≡ calls_over calls k ++ slice_index_or (slice_set (replicate n []) i made) k [] = calls_more calls (slice_set (replicate n []) i made) k in
         ⊎_elim
         (λ (e : k ≡ i). subst (λ (j : ℕ). slice_index_or (slice_set lists i next) j [] ≡ calls_over calls j ++ slice_index_or (slice_set (replicate n []) i made) j []) (sym e)

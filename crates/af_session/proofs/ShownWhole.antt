@@ -34,7 +34,7 @@ use Rattle.af_session.specs.Summaries.{Shown, nothing_shown, summary_of}
 use Rattle.af_session.specs.Tallies.{IsTally, Tallied}
 use Rattle.af_session.specs.Together.{SessionState}
 use Rattle.af_session.proofs.Following.{shows_more}
-use Rattle.af_session.proofs.FollowingRounds.{empty_at, ends_keep, shows_tracks}
+use Rattle.af_session.proofs.FollowingRounds.{empty_at, no_call, ends_keep, shows_tracks}
 use Rattle.af_session.proofs.JournalSound.{dealt, same_entries}
 
 -- ## At the start
@@ -43,7 +43,7 @@ use Rattle.af_session.proofs.JournalSound.{dealt, same_entries}
 shows_none : (states : List FastState) (len tracks : ℕ) (frames : List Frame) → shows states len tracks [] [] frames [] ≡ nothing_shown tracks
 unfolding shows
 shows_none states len tracks frames =
-    let filled : replicate tracks ([] {A = ClientCall}) ≡ map (calls_over []) (range_with_len 0 tracks) = fill_by_all (calls_over []) (replicate tracks []) tracks [] (length-replicate tracks []) (λ k lt. empty_at tracks k) in
+    let filled : replicate tracks no_call ≡ map (calls_over []) (range_with_len 0 tracks) = fill_by_all (calls_over []) (replicate tracks no_call) tracks no_call (length-replicate tracks no_call) (λ k lt. empty_at tracks k) in
     λ i. record { calls = sym filled i; turns = []; entries = []; written = [] }
 
 pub tally_first : (tracks : ℕ) (m : MixerState) (t : Tallied) → m.log.entries ≡ [] → IsTally (nothing_shown tracks) t → (first : FastState) → IsTally (shown_at first tracks [] m) t
@@ -53,7 +53,7 @@ tally_first tracks m t none is = λ first.
 
 pub places_first : (tracks clients entries : ℕ) (t : Tallied) → clients ≡ tracks → IsTally (nothing_shown tracks) t → HasPlaces 0 clients entries t
 places_first tracks clients entries t same is = record {
-  tracks_are = is.count ∙ length-replicate tracks [] ∙ sym same;
+  tracks_are = is.count ∙ length-replicate tracks no_call ∙ sym same;
   looks = (let none = is.looks in omega arith);
   cycles = (let none = is.cycles in omega arith);
 }
