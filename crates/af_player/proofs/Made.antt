@@ -1,54 +1,21 @@
 -- What a command makes, and what it leaves behind where it stops.
 use Rattle.std.proofs.Common.{◌≡◌, ◌⊎◌, ℕ, List, ◌++◌, Option, Some, Result, Ok, Err, String, string_bytes, length, take, refl, sym, ap, subst, inl, inr, arith}
-use Rattle.std.proofs.lemmas.List.{take_all}
 use Rattle.std.specs.declared.alloc.Global.{Global}
-use Rattle.af_base.specs.declared.frame.Frame.{Frame}
-use Rattle.af_base.specs.Log.{Logged}
-use Rattle.af_io.specs.Files.{Files, SameFiles, SetsFile, LeavesFront}
+use Rattle.af_io.specs.Files.{Files, SameFiles}
 use Rattle.af_io.specs.declared.store.StoreError.{StoreError}
 use Rattle.af_io.specs.declared.store.StoreError.TheVariants as outside
-use Rattle.af_script.specs.Data.{ScriptData}
-use Rattle.af_script.specs.declared.op.TurnSpec.{TurnSpec}
 use Rattle.af_session.specs.declared.rendering.SessionFault.{SessionFault}
 use Rattle.af_session.specs.declared.rendering.SessionFault.TheVariants as session
-use Rattle.af_session.specs.Rendered.{EndsState, HandsBack, LeavesSound, Rendered}
-use Rattle.af_session.specs.Sound.{pcm_of}
 use Rattle.af_player.specs.declared.status.Refusal.{Refusal}
 use Rattle.af_player.specs.declared.status.Stop.{Stop}
 use Rattle.af_player.specs.declared.status.Stop.TheVariants.{Refused, Store, Memory}
 use Rattle.af_player.specs.Asked.{◌>>=◌, Job, Work, Exact, Session}
-use Rattle.af_player.specs.Ends.{IsOutcome, IsMade, LeavesWork, IsWhole, IsCutOff, Makes, Renders, PrintsFront, PrintsWhole, PrintsCut}
-use Rattle.af_player.specs.Sessions.{IsSession}
+use Rattle.af_player.specs.Ends.{LeavesWork, IsWhole, IsCutOff, Makes, Renders, PrintsFront, PrintsWhole, PrintsCut}
 use Rattle.af_player.specs.Status.{Meets, session_stop, stop_of}
 
 -- files of which none has changed
 pub files_are : (old mid : Files) → SameFiles old mid → mid ≡ old
 files_are old mid same = λ i name. same name i
-
--- ## Whole outputs
-
--- a whole output is a front of itself
-pub LeavesFront-whole : (old new : Files) (name whole : List ℕ) → SetsFile old name (Some whole) new → LeavesFront old name whole new
-LeavesFront-whole old new name whole set =
-    inr (length whole, subst (λ (bytes : List ℕ). SetsFile old name (Some bytes) new) (sym (take_all (length whole) whole (omega arith))) set)
-
--- the sound of all turns is that of some first ones
-pub LeavesSound-whole : (script : ScriptData) (files : List (List Frame)) (log : Logged) (ends : EndsState) (name : List ℕ) (old new : Files) → HandsBack script files log ends → SetsFile old name (Some (pcm_of script.frames log)) new
-    → LeavesSound script files name old new
-LeavesSound-whole script files log ends name old new back set =
-    let all : take (length script.turns) script.turns ≡ script.turns = take_all (length script.turns) script.turns (omega arith) in
-    let rendered : Rendered script files (take (length script.turns) script.turns) back.parties =
-    subst (λ (turns : List TurnSpec). Rendered script files turns back.parties) (sym all) back.rendered in
-    let front : LeavesFront old name (pcm_of script.frames back.parties.fast.log) new =
-    LeavesFront-whole old new name (pcm_of script.frames back.parties.fast.log) (subst (λ (l : Logged). SetsFile old name (Some (pcm_of script.frames l)) new) back.log_is set) in
-    inr (length script.turns, back.parties, rendered, front)
-
--- the bytes of an outcome are a front of themselves
-LeavesWork-made : (work : Work) (made printed target : List ℕ) (old new : Files) → IsOutcome work made printed → SetsFile old target (Some made) new → LeavesWork work target old new
-LeavesWork-made (Exact bytes line) made printed target old new is set =
-    LeavesFront-whole old new target bytes (subst (λ (b : List ℕ). SetsFile old target (Some b) new) is.0 set)
-LeavesWork-made (Session script files) made printed target old new is set =
-    LeavesSound-whole script files is.log is.ends target old new is.back (subst (λ (b : List ℕ). SetsFile old target (Some b) new) is.bytes_are set)
 
 LeavesWork-same : (work : Work) (target : List ℕ) (old new : Files) → SameFiles old new → LeavesWork work target old new
 LeavesWork-same (Exact bytes line) target old new same = inl same
@@ -57,7 +24,7 @@ LeavesWork-same (Session script files) target old new same = inl same
 -- ## Making
 
 pub IsCutOff-same : (asked : Result Job Refusal) (old new : Files) → SameFiles old new → IsCutOff asked old new
-IsCutOff-same (Ok job) old new same = LeavesWork-same job.work job.target old new same
+IsCutOff-same (Ok job) old new same = inl (LeavesWork-same job.work job.target old new same)
 IsCutOff-same (Err refusal) old new same = same
 
 -- nothing was done
@@ -74,7 +41,7 @@ Makes-stopped_before view Memory told next old new is same = IsCutOff-same (told
 
 -- a line that was made for what is asked for
 pub IsCutOff-made : (asked : Result Job Refusal) (line : String Global) (old new : Files) → Makes (Ok line) asked old new → IsCutOff asked old new
-IsCutOff-made (Ok job) line old new made = LeavesWork-made job.work made.0 (string_bytes line) job.target old new made.1.0 made.1.1
+IsCutOff-made (Ok job) line old new made = inr (string_bytes line, made)
 IsCutOff-made (Err refusal) line old new made = absurd made
 
 pub IsWhole-made : (asked : Result Job Refusal) (line : String Global) (old new : Files) → Makes (Ok line) asked old new → IsWhole asked old new
@@ -95,10 +62,10 @@ PrintsCut-made (Err refusal) line old new before after made printed = absurd mad
 
 -- a session was not played to its end
 pub Makes-unplayed : (f : SessionFault) (job : Job) (old new : Files) → LeavesWork job.work job.target old new → Makes (Err (session_stop f)) (Ok job) old new
-Makes-unplayed session.Store job old new left = left
-Makes-unplayed session.Memory job old new left = left
+Makes-unplayed session.Store job old new left = inl left
+Makes-unplayed session.Memory job old new left = inl left
 
 -- the output could not be written
 pub Makes-unwritten : (e : StoreError) (job : Job) (old new : Files) → LeavesWork job.work job.target old new → Makes (Err (stop_of e)) (Ok job) old new
-Makes-unwritten outside.Failed job old new left = left
-Makes-unwritten outside.Memory job old new left = left
+Makes-unwritten outside.Failed job old new left = inl left
+Makes-unwritten outside.Memory job old new left = inl left
