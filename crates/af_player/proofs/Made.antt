@@ -1,15 +1,17 @@
 -- What a command makes, and what it leaves behind where it stops.
 use Rattle.std.proofs.Common.{◌≡◌, ◌⊎◌, ℕ, List, ◌++◌, Option, Some, Result, Ok, Err, String, string_bytes, length, take, refl, sym, ap, subst, inl, inr, arith}
 use Rattle.std.specs.declared.alloc.Global.{Global}
-use Rattle.af_io.specs.Files.{Files, SameFiles}
+use Rattle.af_io.specs.Files.{Files, SameFiles, SetsFile, LeavesFront}
 use Rattle.af_io.specs.declared.store.StoreError.{StoreError}
 use Rattle.af_io.specs.declared.store.StoreError.TheVariants as outside
 use Rattle.af_session.specs.declared.rendering.SessionFault.{SessionFault}
 use Rattle.af_session.specs.declared.rendering.SessionFault.TheVariants as session
+use Rattle.af_player.specs.declared.deliver.Output.{Output}
 use Rattle.af_player.specs.declared.status.Refusal.{Refusal}
 use Rattle.af_player.specs.declared.status.Stop.{Stop}
 use Rattle.af_player.specs.declared.status.Stop.TheVariants.{Refused, Store, Memory}
 use Rattle.af_player.specs.Asked.{◌>>=◌, Job, Work, Exact, Session}
+use Rattle.af_player.specs.Asking.{output_job}
 use Rattle.af_player.specs.Ends.{LeavesWork, IsWhole, IsCutOff, Makes, Renders, PrintsFront, PrintsWhole, PrintsCut}
 use Rattle.af_player.specs.Status.{Meets, session_stop, stop_of}
 
@@ -69,3 +71,19 @@ Makes-unplayed session.Memory job old new left = inl left
 pub Makes-unwritten : (e : StoreError) (job : Job) (old new : Files) → LeavesWork job.work job.target old new → Makes (Err (stop_of e)) (Ok job) old new
 Makes-unwritten outside.Failed job old new left = inl left
 Makes-unwritten outside.Memory job old new left = inl left
+
+-- ## Outputs of one piece
+
+-- the output was written, and the line is to be printed
+pub Makes-delivered : (output : Output) (line : String Global) (asked : Result Job Refusal) (target : List ℕ) (old mid new : Files) → asked ≡ Ok (output_job target output) → SameFiles old mid → line ≡ output.line → SetsFile mid target (Some output.bytes.items) new
+    → Makes (Ok line) asked old new
+Makes-delivered output line asked target old mid new is same line_is set =
+    let here : SetsFile old target (Some output.bytes.items) new = subst (λ (files : Files). SetsFile files target (Some output.bytes.items) new) (files_are old mid same) set in
+    subst (λ (told : Result Job Refusal). Makes (Ok line) told old new) (sym is) (output.bytes.items, (refl, ap string_bytes line_is), here)
+
+-- it was not
+pub Makes-undelivered : (output : Output) (e : StoreError) (asked : Result Job Refusal) (target : List ℕ) (old mid new : Files) → asked ≡ Ok (output_job target output) → SameFiles old mid → LeavesFront mid target output.bytes.items new
+    → Makes (Err (stop_of e)) asked old new
+Makes-undelivered output e asked target old mid new is same left =
+    let here : LeavesFront old target output.bytes.items new = subst (λ (files : Files). LeavesFront files target output.bytes.items new) (files_are old mid same) left in
+    subst (λ (told : Result Job Refusal). Makes (Err (stop_of e)) told old new) (sym is) (Makes-unwritten e (output_job target output) old new here)

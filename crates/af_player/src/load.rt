@@ -1,6 +1,7 @@
 //! What is loaded before a session is played: the script, and the files of its tracks.
-ghost use Rattle.std.specs.Prelude.{◌≡◌, ◌≤◌, ◌∷◌, [], Err, length, IfOk};
+ghost use Rattle.std.specs.Prelude.{◌≡◌, ◌*◌, ◌≤◌, ◌∷◌, [], All, Err, length, IfOk};
 ghost use Rattle.af_io.specs.Files.{SameFiles};
+ghost use Rattle.af_io.specs.Pcm.{frame_width};
 ghost use Rattle.af_script.specs.Bounds.{most_tracks};
 ghost use Rattle.af_script.specs.Form.{IsTrack};
 ghost use Rattle.af_script.specs.Reading.{script_of};
@@ -70,6 +71,7 @@ fn script_in(alloc: Global, bytes: &[u8]) -> Result<Script, Stop>
 /// The frames of the file of a track with a number.
 pub fn frames_in(alloc: Global, number: u32, mono: bool, bytes: &[u8]) -> Result<Pcm, Stop>
     ensures frames { Meets (λ pcm. pcm) result (frames_in number mono bytes.now) }
+    ensures few { IfOk result (λ pcm. length pcm * frame_width mono ≤ length bytes.now) }
     ensures faultless { result ≡ Err Stop.Store → ⊥ }
     ensures words { IsNoUsage result }
 {
@@ -84,7 +86,8 @@ pub fn frames_in(alloc: Global, number: u32, mono: bool, bytes: &[u8]) -> Result
 
 /// The frames that an op writes.
 fn written_by(op: Op) -> u64
-    ensures { result ≡ frames_to_come (op ∷ []) }
+    ensures value { result ≡ frames_to_come (op ∷ []) }
+    ensures bound { result ≤ 4294967295 }
 {
     match op {
         Op::Write { count } => u64::from(count),
@@ -108,6 +111,7 @@ fn frames_asked(ops: &[Op]) -> u64
 fn enough_of(number: u32, ops: &[Op], pcm: Pcm) -> Result<Pcm, Stop>
     requires { length ops.now ≤ 4097 }
     ensures enough { Meets (λ pcm. pcm) result (enough_of number (frames_to_come ops.now) pcm) }
+    ensures serves { IfOk result (λ same. (same ≡ pcm) × (frames_to_come ops.now ≤ length same)) }
     ensures faultless { result ≡ Err Stop.Store → ⊥ }
     ensures words { IsNoUsage result }
 {
