@@ -8,9 +8,8 @@ ghost use Rattle.af_player.specs.Status.{HasFault, IsNoUsage};
 
 use crate::load::{Loaded, load_script};
 use crate::status::Stop;
-use af_base::{Cycle, FastLog, Memory};
 use af_io::Store;
-use af_session::{Summary, pcm};
+use af_session::Summary;
 use std::alloc::{AllocError, Global};
 
 /// The line of a summary.
@@ -18,43 +17,6 @@ fn summary_line(alloc: Global, summary: &Summary) -> Result<String, AllocError>
     ensures { IfOk result (λ line. string_bytes line ≡ summary_line summary.now) }
 {
     format!(in alloc; "{summary}\n")
-}
-
-/// The greatest magnitude of the samples of some frames.
-fn peak_of(bytes: &[u8]) -> u32 {
-    let mut peak = 0;
-    let mut rest = bytes;
-    while rest.len() >= 2 {
-        let sample = i16::from_le_bytes([rest[0], rest[1]]);
-        peak = peak.max(u32::from(sample.unsigned_abs()));
-        rest = &rest[2..];
-    }
-    peak
-}
-
-/// What the log alone tells of a summary: the clients, the turns of the normal mixer and what is queued are no part of it.
-fn summary_of(alloc: Global, frames: usize, log: &FastLog) -> Result<Summary, Memory>
-    requires { (1 ≤ frames) × (frames ≤ 1024) }
-{
-    let mut summary = Summary {
-        cycles: 0,
-        mixed: 0,
-        dropped: 0,
-        queued: 0,
-        peak: 0,
-    };
-    for index in 0..log.len() {
-        if let Some(entry) = log.entry(index) {
-            summary.cycles = summary.cycles.saturating_add(u64::from(entry.cycle == Cycle::Mixed));
-            for slot in &entry.slots[1..] {
-                summary.mixed = summary.mixed.saturating_add(u64::from(slot.seen.count()));
-            }
-        }
-    }
-    let mut bytes = Vec::new(alloc);
-    pcm(alloc, log, frames, &mut bytes)?;
-    summary.peak = peak_of(&bytes);
-    Ok(summary)
 }
 
 /// Plays what was loaded, and answers its line.
@@ -70,10 +32,8 @@ fn play<S: Store>(
     ensures cause { HasFault (S.faults store.old) (S.faults store.new) result }
     ensures words { IsNoUsage result }
 {
-    let script = &loaded.script;
-    let played = af_session::render(alloc, script, &loaded.files, store, target)?;
-    let summary = summary_of(alloc, script.frames() as usize, &played.log)?;
-    Ok(summary_line(alloc, &summary)?)
+    let played = af_session::render(alloc, &loaded.script, &loaded.files, store, target)?;
+    Ok(summary_line(alloc, &played.summary)?)
 }
 
 /// Loads a script and the files of its tracks, plays it into the output, and answers its line.

@@ -14,11 +14,11 @@ loop-number-preserved g c =
     let lt : l.number < length c.args.tracks.now = omega (arith, c.loop-number-test.true, l.auto.number-end) in
     record {
       told = (λ told.
-      let first = g.S.Store.files c.args.store.now in
-      let here : track_in first l.number l.total track ≡ Ok (file.pcm, file.total) =
-      subst (λ (files : Files). track_in files l.number l.total track ≡ Ok (file.pcm, file.total)) (files_are first (g.S.Store.files l.store) (l.invariant.same told)) (told_file.file (l.invariant.tells told)) in
-      l.invariant.told told
-      ∙ tracks_step first l.number l.total file.total c.args.tracks.now track file.pcm l.files.items c.push.new.self.items lt c.index-tracks-number.is here c.in_ok-push.ensures.items);
+          let first = g.S.Store.files c.args.store.now in
+          let here : track_in first l.number l.total track ≡ Ok (file.pcm, file.total) =
+          subst (λ (files : Files). track_in files l.number l.total track ≡ Ok (file.pcm, file.total)) (files_are first (g.S.Store.files l.store) (l.invariant.same told)) (told_file.file (l.invariant.tells told)) in
+          l.invariant.told told
+          ∙ tracks_step first l.number l.total file.total c.args.tracks.now track file.pcm l.files.items c.push.new.self.items lt c.index-tracks-number.is here c.in_ok-push.ensures.items);
       same = (λ told name. told_file.same (l.invariant.tells told) name ∙ l.invariant.same told name);
       tells = (λ told. told_file.tells (l.invariant.tells told));
       stays = count_stays (g.S.Store.faults l.store) (g.S.Store.faults c.load_track.new.store) told_file.cause.later told_file.cause.only ∙ l.invariant.stays;
