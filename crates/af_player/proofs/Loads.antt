@@ -1,5 +1,5 @@
 -- The files of tracks, one after the other.
-use Rattle.std.proofs.Common.{◌≡◌, ℕ, zero, suc, ◌+◌, ◌*◌, ◌/◌, ◌<◌, ◌≤◌, nat_le, Bool, true, false, List, [], ◌∷◌, ◌++◌, Result, Ok, length, take, drop, get_or, refl, sym, ap, subst, ◌∙◌, arith}
+use Rattle.std.proofs.Common.{◌≡◌, ℕ, zero, suc, ◌+◌, ◌*◌, ◌/◌, ◌<◌, ◌≤◌, nat_le, Bool, true, false, List, [], ◌∷◌, ◌++◌, Result, Ok, Err, length, take, drop, get_or, refl, sym, ap, subst, ◌∙◌, arith}
 use Rattle.std.proofs.lemmas.Bool.{leb-true, leb-false}
 use Rattle.std.proofs.lemmas.List.{take_more, take_all, drop_more}
 use Rattle.af_base.specs.declared.frame.Frame.{Frame}
@@ -13,6 +13,9 @@ use Rattle.af_session.specs.Rounds.{Given, file_at, ops_at}
 use Rattle.af_session.specs.Works.{frames_to_come}
 use Rattle.af_player.specs.declared.status.Refusal.{Refusal}
 use Rattle.af_player.specs.Asked.{◌>>=◌, then_cons, track_in, tracks_in}
+use Rattle.af_player.specs.declared.status.Stop.{Stop}
+use Rattle.af_player.specs.declared.status.Stop.TheVariants.{Store}
+use Rattle.af_player.specs.Status.{HasFault}
 use Rattle.af_player.proofs.Chains.{behind, behind-more}
 
 -- ## Frames that are asked for
@@ -90,13 +93,13 @@ tracks_step files number total more tracks track file before after lt is told af
     ∙ behind-more before file tail
     ∙ ap (λ (xs : List (List Frame)). behind xs tail) (sym after_is)
 
--- a count that doesn't rise stays
-pub count_stays : (before now : ℕ) → before ≤ now → (before < now → ⊥) → now ≡ before
-count_stays before now later still = go (nat_le now before) refl
+-- the count of faults stays where a step has its answer
+pub faults_stay : {X : Type 0} (x : X) (before now : ℕ) → HasFault before now (Ok x) → now ≡ before
+faults_stay {X} x before now cause = go (nat_le now before) refl
   where
     go : (b : Bool) → nat_le now before ≡ b → now ≡ before
-    go true is = let le : now ≤ before = leb-true now before is in omega (arith, le, later)
-    go false is = absurd (still (leb-false now before is))
+    go true is = let le : now ≤ before = leb-true now before is in let later = cause.later in omega (arith, le, later)
+    go false is = let clash : ◌≡◌ {A = Result X Stop} (Ok x) (Err Store) = cause.only (leb-false now before is) in cc
 
 -- ## Few frames
 

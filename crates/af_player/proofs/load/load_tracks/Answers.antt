@@ -1,7 +1,7 @@
 use Rattle.std.proofs.Common.{◌≡◌, ◌∙◌, ◌<◌, ◌≤◌, ℕ, Ok, length, arith, subst, sym}
 use Rattle.af_io.specs.Files.{Files}
 use Rattle.af_player.specs.Asked.{track_in}
-use Rattle.af_player.proofs.Loads.{HaveAll-step, count_stays, have_files, tracks_step}
+use Rattle.af_player.proofs.Loads.{HaveAll-step, faults_stay, have_files, tracks_step}
 use Rattle.af_player.proofs.Made.{files_are}
 use Rattle.af_player.proofs.load.load_tracks.Goals as goal
 
@@ -21,7 +21,7 @@ loop-number-preserved g c =
           ∙ tracks_step first l.number l.total file.total c.args.tracks.now track file.pcm l.files.items c.push.new.self.items lt c.index-tracks-number.is here c.in_ok-push.ensures.items);
       same = (λ told name. told_file.same (l.invariant.tells told) name ∙ l.invariant.same told name);
       tells = (λ told. told_file.tells (l.invariant.tells told));
-      stays = count_stays (g.S.Store.faults l.store) (g.S.Store.faults c.load_track.new.store) told_file.cause.later told_file.cause.only ∙ l.invariant.stays;
+      stays = faults_stay file (g.S.Store.faults l.store) (g.S.Store.faults c.load_track.new.store) told_file.cause ∙ l.invariant.stays;
       total = told_file.total;
       have = HaveAll-step c.args.tracks.now l.files.items c.push.new.self.items l.number track file.pcm lt c.index-tracks-number.is l.invariant.have told_file.serves c.in_ok-push.ensures.items;
     }

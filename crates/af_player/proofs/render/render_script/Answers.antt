@@ -1,4 +1,4 @@
-use Rattle.std.proofs.Common.{◌≡◌, Ok, Result, ap, subst, sym}
+use Rattle.std.proofs.Common.{◌≡◌, Ok, Result, ap, rules, subst, sym}
 use Rattle.af_io.specs.Files.{Files}
 use Rattle.af_player.specs.declared.status.Refusal.{Refusal}
 use Rattle.af_player.specs.Asked.{◌>>=◌, Job, Loaded, loaded_of, render_asked, session_job}
@@ -9,8 +9,10 @@ use Rattle.af_player.proofs.render.render_script.Goals as goal
 
 pub returns-in_err-loaded-clause-made : goal.returns-in_err-loaded-clause-made
 returns-in_err-loaded-clause-made g c = λ told.
+    let stopped =
     Makes-stopped_before loaded_view c.in_err-loaded.field-0.0 (loaded_of (g.S.Store.files c.args.store.now) c.args.script.now) (λ l. Ok (session_job c.args.target.now l))
-    (g.S.Store.files c.args.store.now) (g.S.Store.files c.load_script.new.store) (c.in_err-loaded.ensures.loaded told) (c.in_err-loaded.ensures.same told)
+    (g.S.Store.files c.args.store.now) (g.S.Store.files c.load_script.new.store) (c.in_err-loaded.ensures.loaded told) (c.in_err-loaded.ensures.same told) in
+    search (rules, stopped)
 
 pub returns-clause-made : goal.returns-clause-made
 returns-clause-made g c = λ told.
