@@ -1,16 +1,16 @@
--- What the words ask for, of the files that are there: what is written and printed, or the first refusal in order.
-use Rattle.std.specs.Prelude.{ℕ, ◌+◌, ◌%◌, ◌^◌, nat_le, ◌==◌, ◌&&◌, Bool, List, [], ◌∷◌, length, take, Option, Some, None, ok_or, Result, Ok, Err, if◌then◌else◌}
+-- What the words ask for, of the files that are there: what is to be made, or the first refusal in order.
+use Rattle.std.specs.Prelude.{ℕ, ◌+◌, ◌%◌, ◌^◌, nat_le, ◌==◌, Bool, false, List, [], ◌∷◌, length, Option, Some, None, ok_or, Result, Ok, Err, if◌then◌else◌}
 use Rattle.af_base.specs.declared.frame.Frame.{Frame}
-use Rattle.af_io.specs.Files.{Files}
 use Rattle.af_base.specs.Sample.{pcm_bytes}
-use Rattle.af_io.specs.Pcm.{frames_from, stereo_frames, frame_width}
+use Rattle.af_io.specs.Files.{Files}
+use Rattle.af_io.specs.Pcm.{frames_from, frame_width}
 use Rattle.af_script.specs.Data.{ScriptData}
 use Rattle.af_script.specs.Reading.{script_of}
-use Rattle.af_script.specs.Ops.{fast_cycles}
 use Rattle.af_script.specs.declared.track.TrackSpec.{TrackSpec}
 use Rattle.af_script.specs.declared.fault.ScriptFault.{ScriptFault}
+use Rattle.af_session.specs.Works.{frames_to_come}
 use Rattle.af_player.specs.declared.status.Refusal.{Refusal}
-use Rattle.af_player.specs.declared.status.Refusal.TheVariants.{Usage, Script, File, Unbuilt}
+use Rattle.af_player.specs.declared.status.Refusal.TheVariants.{Usage, Script, File}
 use Rattle.af_player.specs.declared.status.Role.{Role}
 use Rattle.af_player.specs.declared.status.Role.TheVariants as role
 use Rattle.af_player.specs.declared.status.Why.TheVariants.{Missing, Long, Ragged, Short, Total}
@@ -19,10 +19,7 @@ use Rattle.af_player.specs.declared.request.Turns.{Turns}
 use Rattle.af_player.specs.Requests.{Request, Render, Record, Loop, request_of}
 use Rattle.af_player.specs.Recorded.{heard, recorded, counts_of}
 use Rattle.af_player.specs.Looped.{most_buffer, looped, rolls_of}
-use Rattle.af_player.specs.Line.{totals_text, counts_text, rolls_text}
-use Rattle.af_player.specs.Plain.{PlanTrack, Plan, plan_pcm, totals_of_plan}
-use Rattle.af_player.specs.declared.runnable.Written.{Written}
-use Rattle.af_player.specs.Runnable.{most_fast, written_of, are_runnable_turns}
+use Rattle.af_player.specs.Line.{counts_text, rolls_text}
 
 -- one step and then another, up to the first refusal
 infixl 10 ◌>>=◌
@@ -34,31 +31,17 @@ Err refusal >>= next = Err refusal
 abbrev pub then_cons : {X : Type 0} → X → Result (List X) Refusal → Result (List X) Refusal
 then_cons x rest = rest >>= (λ xs. Ok (x ∷ xs))
 
--- a file of at most so many bytes
-abbrev pub loaded : Role → ℕ → Option (List ℕ) → Result (List ℕ) Refusal
-loaded part limit None = Err (File (record { role = part; why = Missing }))
-loaded part limit (Some bytes) = if nat_le (length bytes) limit then Ok bytes else Err (File (record { role = part; why = Long }))
+-- what is to be made: these bytes and this line, or what the turns of a script come to with the frames of its tracks' files
+pub data Work : Type 0 where
+  Exact : List ℕ → List ℕ → Work
+  Session : ScriptData → List (List Frame) → Work
 
--- a script, or the line of its first fault
-abbrev pub script_or : Result ScriptData ScriptFault → Result ScriptData Refusal
-script_or (Ok script) = Ok script
-script_or (Err fault) = Err (Script fault)
+-- the output's name, and what is to be made
+pub record Job : Type 0 where
+  pub target : List ℕ
+  pub work : Work
 
--- a track that can be played: its file, whether it is mono, its scale, and what its client writes
-pub record Playable : Type 0 where
-  pub file : List ℕ
-  pub mono : Bool
-  pub scale : ℕ
-  pub count : ℕ
-  pub gains : ℕ
-
-abbrev pub playable_with : TrackSpec → Written → Playable
-playable_with track written = record { file = track.file; mono = track.mono; scale = track.scale; count = written.count; gains = written.gains }
-
--- the tracks, where each can be played so far
-abbrev pub playables : List TrackSpec → Result (List Playable) Refusal
-playables [] = Ok []
-playables (track ∷ tracks) = ok_or (written_of track) Unbuilt >>= (λ written. then_cons (playable_with track written) (playables tracks))
+-- ## Files
 
 -- the limits of a script, of a file and of all files, in bytes
 abbrev pub most_script : ℕ
@@ -70,66 +53,65 @@ most_file = 2 ^ 23
 abbrev pub most_files : ℕ
 most_files = 2 ^ 24
 
--- the frames that are written of a track's file that has as many
-abbrev pub frames_in : ℕ → Bool → ℕ → List ℕ → Result (List Frame) Refusal
-frames_in number mono asked bytes =
-    if length bytes % frame_width mono == 0
-    then (if nat_le asked (length (frames_from mono bytes)) then Ok (take asked (frames_from mono bytes))
-    else Err (File (record { role = role.Track number; why = Short (length (frames_from mono bytes)) asked })))
-    else Err (File (record { role = role.Track number; why = Ragged (length bytes) }))
-
--- the frames of a stereo file
-abbrev pub stereo_in : List ℕ → Result (List Frame) Refusal
-stereo_in bytes = if length bytes % 4 == 0 then Ok (stereo_frames bytes) else Err (File (record { role = role.Track 0; why = Ragged (length bytes) }))
+-- a file of at most so many bytes
+abbrev pub loaded : Role → ℕ → Option (List ℕ) → Result (List ℕ) Refusal
+loaded part limit None = Err (File (record { role = part; why = Missing }))
+loaded part limit (Some bytes) = if nat_le (length bytes) limit then Ok bytes else Err (File (record { role = part; why = Long }))
 
 -- a file's bytes, where those of the files so far are not too many
 abbrev pub counted : ℕ → ℕ → List ℕ → Result (List ℕ) Refusal
 counted number total bytes =
     if nat_le (total + length bytes) most_files then Ok bytes else Err (File (record { role = role.Track number; why = Total (total + length bytes) }))
 
--- the track of a plan whose client writes these frames
-abbrev pub plan_track : Playable → List Frame → PlanTrack
-plan_track playable frames = record { frames = frames; mono = playable.mono; gains = playable.gains; scale = playable.scale }
+-- the frames of a track's file that is no part of a frame too long
+abbrev pub frames_in : ℕ → Bool → List ℕ → Result (List Frame) Refusal
+frames_in number mono bytes =
+    if length bytes % frame_width mono == 0 then Ok (frames_from mono bytes) else Err (File (record { role = role.Track number; why = Ragged (length bytes) }))
 
--- the track of a plan with a number, behind files of so many bytes, and the bytes of the files up to it
-abbrev pub track_in : Files → ℕ → ℕ → Playable → Result (PlanTrack × ℕ) Refusal
-track_in files number total playable =
-    loaded (role.Track number) most_file (files playable.file) >>= counted number total >>= (λ bytes. frames_in number playable.mono playable.count bytes >>= (λ frames.
-    Ok (plan_track playable frames, total + length bytes)))
+-- the frames of a track's file, where they are as many as its client writes
+abbrev pub enough_of : ℕ → ℕ → List Frame → Result (List Frame) Refusal
+enough_of number asked frames =
+    if nat_le asked (length frames) then Ok frames else Err (File (record { role = role.Track number; why = Short (length frames) asked }))
 
--- the tracks of a plan, from a number on
-abbrev pub tracks_in : Files → ℕ → ℕ → List Playable → Result (List PlanTrack) Refusal
+-- ## Scripts
+
+-- a script, or the line of its first fault
+abbrev pub script_or : Result ScriptData ScriptFault → Result ScriptData Refusal
+script_or (Ok script) = Ok script
+script_or (Err fault) = Err (Script fault)
+
+-- the frames of the file of a track with a number, behind files of so many bytes, and the bytes of the files up to it
+abbrev pub track_in : Files → ℕ → ℕ → TrackSpec → Result (List Frame × ℕ) Refusal
+track_in files number total track =
+    loaded (role.Track number) most_file (files track.file) >>= counted number total >>= (λ bytes. frames_in number track.mono bytes >>= enough_of number (frames_to_come track.ops) >>= (λ frames.
+    Ok (frames, total + length bytes)))
+
+-- the frames of the files of tracks, from a number on
+abbrev pub tracks_in : Files → ℕ → ℕ → List TrackSpec → Result (List (List Frame)) Refusal
 tracks_in files number total [] = Ok []
-tracks_in files number total (playable ∷ rest) = track_in files number total playable >>= (λ one. then_cons one.0 (tracks_in files (number + 1) one.1 rest))
+tracks_in files number total (track ∷ rest) = track_in files number total track >>= (λ one. then_cons one.0 (tracks_in files (number + 1) one.1 rest))
 
--- what can be played so far of a script of version 1: its tracks
-abbrev pub runnable : ScriptData → Result (List Playable) Refusal
-runnable script =
-    if script.version == 1 && (nat_le (length script.tracks) most_fast && are_runnable_turns script.tracks script.turns) then playables script.tracks else Err Unbuilt
+-- a script, with the frames of its tracks' files
+pub record Loaded : Type 0 where
+  pub script : ScriptData
+  pub files : List (List Frame)
 
--- what a script plays of its files
-abbrev pub plan_of : Files → ScriptData → Result Plan Refusal
-plan_of files script =
-    runnable script >>= (λ list. tracks_in files 0 0 list >>= (λ tracks.
-    Ok (record { len = script.frames; cycles = fast_cycles script.turns; tracks = tracks })))
+abbrev pub session_of : Files → ScriptData → Result Loaded Refusal
+session_of files script = tracks_in files 0 0 script.tracks >>= (λ frames. Ok (record { script = script; files = frames }))
 
--- what the file of a script plays
-abbrev pub prepared_of : Files → List ℕ → Result Plan Refusal
-prepared_of files name = loaded role.Script most_script (files name) >>= (λ bytes. script_or (script_of bytes) >>= plan_of files)
+-- the script in a file, with the frames of its tracks' files
+abbrev pub loaded_of : Files → List ℕ → Result Loaded Refusal
+loaded_of files name = loaded role.Script most_script (files name) >>= (λ bytes. script_or (script_of bytes) >>= session_of files)
 
--- what is written and printed: the output's name, its bytes, and the line
-pub record Job : Type 0 where
-  pub target : List ℕ
-  pub bytes : List ℕ
-  pub line : List ℕ
+-- a script is played
+abbrev pub session_job : List ℕ → Loaded → Job
+session_job target l = record { target = target; work = Session l.script l.files }
 
--- a plan is played
-abbrev pub render_job : List ℕ → Plan → Job
-render_job target plan = record { target = target; bytes = plan_pcm plan; line = totals_text (totals_of_plan plan) }
+-- ## Recordings and loops
 
 -- the frames of a file that is recorded
 abbrev pub recorded_from : Files → List ℕ → Result (List Frame) Refusal
-recorded_from files input = loaded (role.Track 0) most_file (files input) >>= (λ bytes. stereo_in bytes)
+recorded_from files input = loaded (role.Track 0) most_file (files input) >>= frames_in 0 false
 
 -- one frame or more
 abbrev pub some_frames : List Frame → Result (List Frame) Refusal
@@ -138,11 +120,11 @@ some_frames (frame ∷ frames) = Ok (frame ∷ frames)
 
 -- the frames of a stereo file that has some
 abbrev pub buffer_in : List ℕ → Result (List Frame) Refusal
-buffer_in bytes = stereo_in bytes >>= some_frames
+buffer_in bytes = frames_in 0 false bytes >>= some_frames
 
 -- frames are recorded
 abbrev pub record_job : List ℕ → Sizes → List Frame → Job
-record_job target sizes frames = record { target = target; bytes = pcm_bytes (heard (recorded sizes frames)); line = counts_text (counts_of sizes frames) }
+record_job target sizes frames = record { target = target; work = Exact (pcm_bytes (heard (recorded sizes frames))) (counts_text (counts_of sizes frames)) }
 
 -- the frames of a file that is looped
 abbrev pub looped_from : Files → List ℕ → Result (List Frame) Refusal
@@ -150,11 +132,13 @@ looped_from files input = loaded (role.Track 0) most_buffer (files input) >>= (�
 
 -- frames are looped
 abbrev pub loop_job : List ℕ → Turns → List Frame → Job
-loop_job target turns frames = record { target = target; bytes = pcm_bytes (looped turns frames); line = rolls_text (rolls_of turns frames) }
+loop_job target turns frames = record { target = target; work = Exact (pcm_bytes (looped turns frames)) (rolls_text (rolls_of turns frames)) }
+
+-- ## Requests
 
 -- what is made of a script, for an output of this name
 abbrev pub render_asked : Files → List ℕ → List ℕ → Result Job Refusal
-render_asked files script target = prepared_of files script >>= (λ plan. Ok (render_job target plan))
+render_asked files script target = loaded_of files script >>= (λ l. Ok (session_job target l))
 
 -- what is made of a file that is recorded
 abbrev pub record_asked : Files → List ℕ → List ℕ → Sizes → Result Job Refusal

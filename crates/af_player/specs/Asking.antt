@@ -4,7 +4,7 @@ use Rattle.af_player.specs.declared.deliver.Output.{Output}
 use Rattle.af_player.specs.declared.request.Request.{Request}
 use Rattle.af_player.specs.declared.request.Request.TheVariants as words
 use Rattle.af_player.specs.Requests as asked
-use Rattle.af_player.specs.Asked.{Job}
+use Rattle.af_player.specs.Asked.{Exact, Job}
 use Rattle.af_player.specs.Captured.{AreSizes}
 use Rattle.af_player.specs.Looped.{AreTurns}
 
@@ -13,15 +13,9 @@ request_view (words.Render script target) = asked.Render script.now target.now
 request_view (words.Record input target sizes) = asked.Record input.now target.now sizes
 request_view (words.Loop input target turns) = asked.Loop input.now target.now turns
 
--- the output's name
-abbrev pub target_of : Request → List ℕ
-target_of (words.Render script target) = target.now
-target_of (words.Record input target sizes) = target.now
-target_of (words.Loop input target turns) = target.now
-
 -- what is made, for an output of this name
 abbrev pub output_job : List ℕ → Output → Job
-output_job target output = record { target = target; bytes = output.bytes.items; line = string_bytes output.line }
+output_job target output = record { target = target; work = Exact output.bytes.items (string_bytes output.line) }
 
 -- the sizes of a recording and the turns of a loop are such as words may ask for
 abbrev pub IsSound : Request → Type 0

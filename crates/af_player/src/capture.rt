@@ -3,19 +3,20 @@ ghost use Rattle.std.specs.Prelude.{◌≡◌, ◌+◌, ◌*◌, ◌++◌, ◌�
 ghost use Rattle.std.specs.List.{flat_map};
 ghost use Rattle.af_base.specs.Sample.{packed_word, pcm_bytes};
 ghost use Rattle.af_io.specs.Files.{SameFiles};
-ghost use Rattle.af_player.specs.Asked.{record_asked, stereo_in};
+ghost use Rattle.af_player.specs.Asked.{record_asked};
 ghost use Rattle.af_player.specs.Asking.{output_job};
 ghost use Rattle.af_player.specs.Captured.{counts_in, state_of, word_bytes, AreSizes, IsTape};
+ghost use Rattle.af_player.specs.Ends.{Makes};
 ghost use Rattle.af_player.specs.Line.{counts_text};
 ghost use Rattle.af_player.specs.Recorded.{Counts, counts_of, empty, heard, period, periods, read_up_to, recorded};
 ghost use Rattle.af_player.specs.Status.{HasFault, IsNoUsage, Meets};
 
-use crate::deliver::Output;
-use crate::prepare::{MOST_FILE, file_fault, load_file};
+use crate::deliver::{Output, deliver};
+use crate::load::{MOST_FILE, frames_in, load_file};
 use crate::request::Sizes;
-use crate::status::{Role, Stop, Why};
+use crate::status::{Role, Stop};
 use af_base::{Frame, Memory};
-use af_io::{Pcm, PcmFault, Store, bytes_of, frames_of};
+use af_io::{Store, bytes_of};
 use af_record::InHand;
 use std::alloc::{AllocError, Global};
 use std::fmt;
@@ -160,22 +161,6 @@ fn record_frames(alloc: Global, frames: &[Frame], sizes: Sizes) -> Result<Tape, 
     Ok(tape)
 }
 
-/// The frames of a stereo file.
-pub fn stereo_in(alloc: Global, bytes: &[u8]) -> Result<Pcm, Stop>
-    ensures frames { Meets (λ pcm. pcm) result (stereo_in bytes.now) }
-    ensures few { IfOk result (λ pcm. 4 * length pcm ≡ length bytes.now) }
-    ensures faultless { result ≡ Err Stop.Store → ⊥ }
-    ensures words { IsNoUsage result }
-{
-    match frames_of(alloc, bytes, false) {
-        Ok(pcm) => Ok(pcm),
-        Err(PcmFault::Ragged { length }) => {
-            Err(file_fault(Role::Track(0), Why::Ragged { length }))
-        }
-        Err(PcmFault::Memory) => Err(Stop::Memory),
-    }
-}
-
 /// What is made of frames: their recording, and its line.
 fn output_of(alloc: Global, frames: &[Frame], sizes: Sizes) -> Result<Output, Memory>
     requires sizes { AreSizes sizes }
@@ -197,7 +182,7 @@ fn output_of(alloc: Global, frames: &[Frame], sizes: Sizes) -> Result<Output, Me
 }
 
 /// Loads a file and records it. Nothing is written yet.
-pub fn record_output<S: Store>(
+fn output_from<S: Store>(
     alloc: Global,
     store: &mut S,
     input: &str,
@@ -212,6 +197,24 @@ pub fn record_output<S: Store>(
     ensures words { IsNoUsage result }
 {
     let bytes = load_file(alloc, store, input, Role::Track(0), MOST_FILE)?;
-    let pcm = stereo_in(alloc, &bytes)?;
+    let pcm = frames_in(alloc, 0, false, &bytes)?;
     Ok(output_of(alloc, pcm.frames(), sizes)?)
+}
+
+/// Loads a file, writes its recording to the output, and answers its line.
+pub fn record_file<S: Store>(
+    alloc: Global,
+    store: &mut S,
+    input: &str,
+    target: &str,
+    sizes: Sizes,
+) -> Result<String, Stop>
+    requires { AreSizes sizes }
+    ensures made { S.told store.old → Makes result (record_asked (S.files store.old) input.now target.now sizes) (S.files store.old) (S.files store.new) }
+    ensures line { IfOk result (λ line. (counts : Counts) × (string_bytes line ≡ counts_text counts)) }
+    ensures cause { HasFault (S.faults store.old) (S.faults store.new) result }
+    ensures words { IsNoUsage result }
+{
+    let output = output_from(alloc, store, input, sizes)?;
+    Ok(deliver(store, target, output)?)
 }

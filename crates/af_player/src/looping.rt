@@ -5,14 +5,14 @@ ghost use Rattle.af_io.specs.Files.{SameFiles};
 ghost use Rattle.af_static.specs.Loops.{head_after, output, shut_by, taken};
 ghost use Rattle.af_player.specs.Asked.{buffer_in, loop_asked};
 ghost use Rattle.af_player.specs.Asking.{output_job};
+ghost use Rattle.af_player.specs.Ends.{Makes};
 ghost use Rattle.af_player.specs.Line.{rolls_text};
 ghost use Rattle.af_player.specs.Looped.{Rolls, filled_of, first_head, heard_of, looped, next_head, next_setting, rolls_of, setting_of, unity, AreTurns};
 ghost use Rattle.af_player.specs.Rolled.{rolls_in};
 ghost use Rattle.af_player.specs.Status.{HasFault, IsNoUsage, Meets};
 
-use crate::capture::stereo_in;
-use crate::deliver::Output;
-use crate::prepare::{file_fault, load_file};
+use crate::deliver::{Output, deliver};
+use crate::load::{file_fault, frames_in, load_file};
 use crate::request::Turns;
 use crate::status::{Role, Stop, Why};
 use af_base::{Frame, Gains, Memory};
@@ -139,7 +139,7 @@ fn buffer_in(alloc: Global, bytes: &[u8]) -> Result<Pcm, Stop>
     ensures faultless { result ≡ Err Stop.Store → ⊥ }
     ensures words { IsNoUsage result }
 {
-    let pcm = stereo_in(alloc, bytes)?;
+    let pcm = frames_in(alloc, 0, false, bytes)?;
     if pcm.frames().is_empty() {
         let why = Why::Short {
             frames: 0,
@@ -151,7 +151,7 @@ fn buffer_in(alloc: Global, bytes: &[u8]) -> Result<Pcm, Stop>
 }
 
 /// Loads a file and loops it. Nothing is written yet.
-pub fn loop_output<S: Store>(
+fn output_from<S: Store>(
     alloc: Global,
     store: &mut S,
     input: &str,
@@ -168,4 +168,22 @@ pub fn loop_output<S: Store>(
     let bytes = load_file(alloc, store, input, Role::Track(0), MOST_BUFFER)?;
     let pcm = buffer_in(alloc, &bytes)?;
     Ok(output_of(alloc, pcm.frames(), turns)?)
+}
+
+/// Loads a file, writes what is heard of it in a loop to the output, and answers its line.
+pub fn loop_file<S: Store>(
+    alloc: Global,
+    store: &mut S,
+    input: &str,
+    target: &str,
+    turns: Turns,
+) -> Result<String, Stop>
+    requires { AreTurns turns }
+    ensures made { S.told store.old → Makes result (loop_asked (S.files store.old) input.now target.now turns) (S.files store.old) (S.files store.new) }
+    ensures line { IfOk result (λ line. (rolls : Rolls) × (string_bytes line ≡ rolls_text rolls)) }
+    ensures cause { HasFault (S.faults store.old) (S.faults store.new) result }
+    ensures words { IsNoUsage result }
+{
+    let output = output_from(alloc, store, input, turns)?;
+    Ok(deliver(store, target, output)?)
 }

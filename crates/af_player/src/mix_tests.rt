@@ -75,7 +75,7 @@ fn expect_mix<R: Threads + Sync + Abort>(
     expect(rt, alloc, RENDER, (store, sink(alloc)), 0, line, output)
 }
 
-/// Several tracks: their sum, clamped once, and silence where one has no frame left. As many as hold a slot, and one more, which can't be played yet.
+/// Several tracks: their sum, clamped once, and silence where one has no frame left. As many as hold a slot, and one more, which waits.
 #[test]
 fn tracks_are_added(rt: HostRuntime) -> Result<(), Fail> {
     let alloc = rt.alloc();
@@ -111,9 +111,13 @@ fn tracks_are_added(rt: HostRuntime) -> Result<(), Fail> {
         [0xff, 0x7f, 0x00, 0x80, 0, 0, 0, 0],
         "cycles 1 mixed 31 dropped 0 queued 0 peak 32768\n",
     )?;
-    let store = store_of(alloc, &[loud; 32])?;
-    let ends = (store, sink(alloc));
-    expect(&rt, alloc, RENDER, ends, 9, "unbuilt\n", None)
+    expect_mix(
+        &rt,
+        alloc,
+        &[loud; 32],
+        [0xff, 0x7f, 0x00, 0x80, 0, 0, 0, 0],
+        "cycles 1 mixed 31 dropped 0 queued 1 peak 32768\n",
+    )
 }
 
 /// Gains above unity count as unity, a scale turns a gain down, halves are rounded down, and mono has two gains.

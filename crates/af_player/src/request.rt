@@ -1,6 +1,4 @@
 //! What the words may ask for.
-ghost use Rattle.std.specs.Prelude.{◌≡◌};
-ghost use Rattle.af_player.specs.Asking.{target_of};
 
 /// The sizes of a recording: for how many frames there is room, how many each supply has, and how many places each read.
 #[derive(Clone, Copy, Debug, PartialEq, Eq)]
@@ -40,17 +38,4 @@ pub enum Request<'a> {
         target: &'a str,
         turns: Turns,
     },
-}
-
-impl<'a> Request<'a> {
-    /// The output's name.
-    pub fn target(self) -> &'a str
-        ensures { result.now ≡ target_of self.entry }
-    {
-        match self {
-            Request::Render { target, .. } => target,
-            Request::Record { target, .. } => target,
-            Request::Loop { target, .. } => target,
-        }
-    }
 }

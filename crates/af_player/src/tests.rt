@@ -11,11 +11,11 @@ use std::thread::Threads;
 const ONE: &str =
     "version = 1\nframes = 2\nnormal = 1\ncycles = 100\nturns = [\"c 0\", \"n\", \"c 0\", \"f 1\"]\n[[track]]\nkind = \"fast\"\nframes = 8\nchannels = 2\nfile = \"in.pcm\"\nops = [\"open\", \"start\", \"write 2\"]\n";
 
-/// An accepted script that can't be played yet: its client writes nothing.
+/// A script without turns.
 const IDLE: &str =
     "version = 1\nframes = 2\nnormal = 1\ncycles = 100\n[[track]]\nkind = \"fast\"\nframes = 8\nchannels = 2\nfile = \"in.pcm\"\nops = [\"open\", \"start\"]\n";
 
-/// The same two frames by the rules of version 2, which can't be played yet.
+/// The same two frames by the rules of version 2.
 const SECOND: &str =
     "version = 2\nframes = 2\nnormal = 1\ncycles = 100\nturns = [\"c 0\", \"n\", \"c 0\", \"f 1\"]\n[[track]]\nkind = \"fast\"\nframes = 8\nchannels = 2\nfile = \"in.pcm\"\nops = [\"open\", \"start\", \"write 2\"]\n";
 
@@ -193,8 +193,16 @@ fn each_run_ends_as_it_must(rt: HostRuntime) -> Result<(), Fail> {
             "script: toml\n",
             None,
         ),
-        (RENDER, Some(IDLE), Some(80), (0, 0), 9, "unbuilt\n", None),
-        (RENDER, Some(SECOND), Some(80), (0, 0), 9, "unbuilt\n", None),
+        (
+            RENDER,
+            Some(IDLE),
+            Some(80),
+            (0, 0),
+            0,
+            "cycles 0 mixed 0 dropped 0 queued 0 peak 0\n",
+            Some(0),
+        ),
+        (RENDER, Some(SECOND), Some(80), (0, 0), 0, done, Some(8)),
         (
             "render one.toml",
             Some(ONE),

@@ -1,0 +1,38 @@
+-- A session that was played, and its line.
+use Rattle.std.proofs.Common.{◌≡◌, ◌⊎◌, ℕ, List, Some, Result, Ok, Err, IsErrAnd, String, string_bytes, refl, sym, ap, subst, inl, inr}
+use Rattle.std.specs.declared.alloc.Global.{Global}
+use Rattle.af_model.specs.Journals.{JournalData}
+use Rattle.af_io.specs.Files.{Files, SetsFile}
+use Rattle.af_session.specs.declared.summary.Summary.{Summary}
+use Rattle.af_session.specs.Rendered.{EndsState, HandsBack}
+use Rattle.af_session.specs.Shown.{summary_told}
+use Rattle.af_session.specs.Sound.{journal_pcm}
+use Rattle.af_player.specs.declared.status.Refusal.{Refusal}
+use Rattle.af_player.specs.declared.status.Stop.{Stop}
+use Rattle.af_player.specs.declared.status.Stop.TheVariants.{Memory}
+use Rattle.af_player.specs.Asked.{Job, Loaded, session_job}
+use Rattle.af_player.specs.Ends.{IsCutOff, IsMade, Makes}
+use Rattle.af_player.specs.Sessions.{IsSession, IsSomeSessionLine, summary_line}
+
+-- memory ran out
+pub Makes-memory : (r : Result (String Global) Stop) (asked : Result Job Refusal) (old new : Files) → IsErrAnd r (λ stop. stop ≡ Memory) → IsCutOff asked old new → Makes r asked old new
+Makes-memory (Ok line) asked old new memory cut = absurd memory
+Makes-memory (Err stop) asked old new memory cut = subst (λ (s : Stop). Makes (Err s) asked old new) (sym memory) cut
+
+module _ (l : Loaded) (journal : JournalData) (ends : EndsState) (back : HandsBack l.script l.files journal ends) (summary : Summary) (summary_is : summary ≡ summary_told l.script.frames journal ends) where
+  is_session : IsSession l.script l.files (journal_pcm l.script.frames journal) (summary_line summary)
+  is_session = record { journal = journal; ends = ends; back = back; bytes_are = refl; line_is = ap summary_line summary_is }
+
+  pub some_line : (line : List ℕ) → line ≡ summary_line summary → IsSomeSessionLine line
+  some_line line is = (l.script, l.files, journal_pcm l.script.frames journal, subst (λ (text : List ℕ). IsSession l.script l.files (journal_pcm l.script.frames journal) text) (sym is) is_session)
+
+  module _ (target : List ℕ) (old new : Files) (set : SetsFile old target (Some (journal_pcm l.script.frames journal)) new) where
+    is_made : IsMade (session_job target l) (summary_line summary) old new
+    is_made = (journal_pcm l.script.frames journal, is_session, set)
+
+    pub Makes-played : (line : String Global) → string_bytes line ≡ summary_line summary → Makes (Ok line) (Ok (session_job target l)) old new
+    Makes-played line is = subst (λ (text : List ℕ). IsMade (session_job target l) text old new) (sym is) is_made
+
+    -- the output is whole, and the line has no room
+    pub cut_behind : IsCutOff (Ok (session_job target l)) old new
+    cut_behind = inr (summary_line summary, is_made)

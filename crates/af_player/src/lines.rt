@@ -1,0 +1,45 @@
+//! The printed lines of refusals.
+ghost use Rattle.std.specs.Prelude.{Some};
+ghost use Rattle.af_player.specs.Line.{refusal_text, role_text, why_text};
+
+use crate::status::{Refusal, Role, Why};
+use std::fmt;
+
+impl fmt::Display for Role {
+    ghost output = { λ role. Some (role_text role) };
+
+    fn fmt<W: fmt::Write>(&self, f: &mut fmt::Formatter<W>) -> fmt::Result {
+        match self {
+            Role::Script => f.write_str("script"),
+            Role::Track(number) => write!(f, "track {number}"),
+        }
+    }
+}
+
+impl fmt::Display for Why {
+    ghost output = { λ why. Some (why_text why) };
+
+    fn fmt<W: fmt::Write>(&self, f: &mut fmt::Formatter<W>) -> fmt::Result {
+        match self {
+            Why::Missing => f.write_str("missing"),
+            Why::Long => f.write_str("long"),
+            Why::Ragged { length } => write!(f, "ragged {length}"),
+            Why::Short { frames, asked } => write!(f, "short {frames} {asked}"),
+            Why::Total { bytes } => write!(f, "total {bytes}"),
+        }
+    }
+}
+
+impl fmt::Display for Refusal {
+    ghost output = { λ refusal. Some (refusal_text refusal) };
+
+    fn fmt<W: fmt::Write>(&self, f: &mut fmt::Formatter<W>) -> fmt::Result {
+        match self {
+            Refusal::Usage => f.write_str(
+                "usage: render SCRIPT OUT or record IN OUT N F K or loop IN OUT F K START END COUNT\n",
+            ),
+            Refusal::Script(fault) => write!(f, "script: {fault}\n"),
+            Refusal::File(fault) => write!(f, "file: {} {}\n", fault.role, fault.why),
+        }
+    }
+}
