@@ -50,11 +50,11 @@ script_tree s = top_members s.version s.frames s.normal s.cycles (track_items s.
 
 -- ## Values
 
-abbrev AreWords : {X : Type 0} → (X → List ℕ) → List X → Type 0
+abbrev pub AreWords : {X : Type 0} → (X → List ℕ) → List X → Type 0
 AreWords text [] = Unit {0}
 AreWords text (x ∷ xs) = IsWord (text x) × AreWords text xs
 
-abbrev more_texts : {X : Type 0} → (X → List ℕ) → List X → List ℕ
+abbrev pub more_texts : {X : Type 0} → (X → List ℕ) → List X → List ℕ
 more_texts text xs = flat_map (λ y. codes ", " ++ quoted (text y)) xs
 
 rest-assoc : (t f : List ℕ) → ((codes ", " ++ quoted t) ++ f) ++ codes "]" ≡ codes ", " ++ (quoted t ++ (f ++ codes "]"))
@@ -165,17 +165,17 @@ elements-lines : (ts : List TrackSpec) → elements ([], codes "track") (track_i
 elements-lines [] = refl
 elements-lines (t ∷ ts) =
     let e : pairs (track_tree t) ++ sections (codes "track" ∷ []) (track_tree t) ≡ track_lines t =
-        ap (λ es. es ++ sections (codes "track" ∷ []) (track_tree t)) (track-pairs t) ∙ ap (λ es. track_lines t ++ es) (track-below t (codes "track" ∷ [])) in
+    ap (λ es. es ++ sections (codes "track" ∷ []) (track_tree t)) (track-pairs t) ∙ ap (λ es. track_lines t ++ es) (track-below t (codes "track" ∷ [])) in
     ap (λ es. (header ∷ es) ++ elements ([], codes "track") (track_items ts)) e
     ∙ ap (λ es. header ∷ (track_lines t ++ es)) (elements-lines ts)
 
 -- ## The track's text
 
-op-words : (frames : ℕ) (ops : List Op) → All (HasOpNumbers frames) ops → AreWords op_text ops
+pub op-words : (frames : ℕ) (ops : List Op) → All (HasOpNumbers frames) ops → AreWords op_text ops
 op-words frames [] all = tt
 op-words frames (op ∷ ops) all = (op-word frames op (All-head (HasOpNumbers frames) op ops all), op-words frames ops (All-tail (HasOpNumbers frames) op ops all))
 
-turn-words : (tracks : ℕ) (turns : List TurnSpec) → tracks ≤ most_tracks → All (IsTurn tracks) turns → AreWords turn_text turns
+pub turn-words : (tracks : ℕ) (turns : List TurnSpec) → tracks ≤ most_tracks → All (IsTurn tracks) turns → AreWords turn_text turns
 turn-words tracks [] few all = tt
 turn-words tracks (turn ∷ turns) few all = (turn-word tracks turn few (All-head (IsTurn tracks) turn turns all), turn-words tracks turns few (All-tail (IsTurn tracks) turn turns all))
 
@@ -184,7 +184,7 @@ seven h a b c d e f g rest = simp append_assoc
 
 track-whole : (t : TrackSpec) (rest : List ℕ) → track_text t ++ rest
     ≡ codes "\n[[track]]\n" ++ (number_line key.Base t.base ++ (number_line key.Channels (channels_of t.mono) ++ (text_line key.File t.file ++ (number_line key.Frames t.frames
-      ++ (text_line key.Kind (kind_text t.fast) ++ (pair_line key.Ops (array_text op_text (written_ops t.ops)) ++ (number_line key.Scale t.scale ++ rest)))))))
+    ++ (text_line key.Kind (kind_text t.fast) ++ (pair_line key.Ops (array_text op_text (written_ops t.ops)) ++ (number_line key.Scale t.scale ++ rest)))))))
 unfolding track_text source_text use_text
 track-whole t rest =
     seven (codes "\n[[track]]\n") (number_line key.Base t.base) (number_line key.Channels (channels_of t.mono)) (text_line key.File t.file) (number_line key.Frames t.frames)

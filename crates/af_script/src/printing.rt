@@ -1,6 +1,8 @@
 //! A script is printed.
-ghost use Rattle.std.specs.Prelude.{◌≡◌, ◌++◌, flat_map, string_bytes, IfOk, OnErr, Some};
+ghost use Rattle.std.specs.Prelude.{◌≡◌, ◌++◌, flat_map, string_bytes, IfOk, OnErr, Ok, Some};
 ghost use Rattle.af_script.specs.Printing.{op_text, turn_text, kind_text, channels_of, written_ops, array_text, pair_line, number_line, text_line, source_text, use_text, top_text, track_text, printed_script};
+ghost use Rattle.af_script.specs.Form.{IsScript};
+ghost use Rattle.af_script.specs.Reading.{script_of};
 ghost use Rattle.af_script.specs.declared.fault.KeyId.TheVariants as key;
 
 use crate::bounds::MOST_OPS;
@@ -183,7 +185,8 @@ fn add_track(text: &mut String, track: &TrackSpec) -> Result<(), Memory>
 // Adds the top table.
 #[tactic(auto, unfolding(crate::specs::Printing::top_text))]
 fn add_top(text: &mut String, script: &Script) -> Result<(), Memory>
-    ensures { IfOk result (λ _. string_bytes text.new ≡ string_bytes text.old ++ top_text script.now) }
+    ensures text { IfOk result (λ _. string_bytes text.new ≡ string_bytes text.old ++ top_text script.now) }
+    ensures script { IsScript script.now }
 {
     add_number(text, KeyId::Cycles, script.cycles())?;
     add_number(text, KeyId::Frames, script.frames())?;
@@ -194,7 +197,8 @@ fn add_top(text: &mut String, script: &Script) -> Result<(), Memory>
 
 // The text of a script.
 fn text_of(alloc: Global, script: &Script) -> Result<String, Memory>
-    ensures { IfOk result (λ text. string_bytes text ≡ printed_script script.now) }
+    ensures text { IfOk result (λ text. string_bytes text ≡ printed_script script.now) }
+    ensures script { IsScript script.now }
 {
     let mut text = String::new(alloc);
     add_top(&mut text, script)?;
@@ -204,12 +208,14 @@ fn text_of(alloc: Global, script: &Script) -> Result<String, Memory>
     Ok(text)
 }
 
-/// Prints a script: its text is appended to `out`. Memory is its only refusal; `out` is then as before.
+/// Prints a script: its text, which `read` reads as the same script, is appended to `out`. Memory is its only refusal; `out` is then as before.
 ///
 /// The keys stand in the order of the alphabet, each on a line of its own, and each track is under a header `[[track]]`.
 /// After 4096 other ops the last `remove` is left out, since it counts where it is written; `read` adds it.
+#[tactic(auto, using(crate::proofs::PrintedScript::printed_reads))]
 pub fn print(alloc: Global, script: &Script, out: &mut Vec<u8>) -> Result<(), Memory>
     ensures printed { IfOk result (λ _. out.new.items ≡ out.old.items ++ printed_script script.now) }
+    ensures reads { script_of (printed_script script.now) ≡ Ok script.now }
     ensures kept { OnErr result (out.new.items ≡ out.old.items) }
 {
     let text = text_of(alloc, script)?;
