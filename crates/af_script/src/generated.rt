@@ -41,7 +41,6 @@ pub fn generated_name(track: u32) -> &'static str
 }
 
 // Adds 200 writes of 500 frames.
-#[tactic(auto, using(crate::proofs::GeneratedScript::repeated_next))]
 fn add_writes(ops: &mut Vec<Op>) -> Result<(), Memory>
     ensures { IfOk result (λ _. ops.new.items ≡ ops.old.items ++ repeated 200 (Write 500 ∷ [])) }
 {
