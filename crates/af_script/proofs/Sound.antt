@@ -93,8 +93,8 @@ name-holds t tree =
     some_holds IsName (option_and_then name_if (option_and_then as_str (value_at key.File tree))) (fault.Key t key.File)
     (and_then-holds IsName (option_and_then as_str (value_at key.File tree)) name_if (λ text. name_test text (is_name text) refl))
 
-made : (fast mono : Bool) (frames base scale : ℕ) (file : List ℕ) (ops : List Op) → IsIn 1 most_buffer frames → scale ≤ unity_scale → IsName file → AreOps frames ops → IsTrack (record { fast = fast; frames = frames; mono = mono; base = base; scale = scale; file = file; ops = ops })
-made fast mono frames base scale file ops hf hs hn ho = record { buffer = hf; scale = hs; name = hn; whole = ho.whole; count = ho.count; numbers = ho.numbers }
+made : (fast mono : Bool) (frames base scale : ℕ) (file : List ℕ) (ops : List Op) → IsIn 1 most_buffer frames → base ≤ most_base → scale ≤ unity_scale → IsName file → AreOps frames ops → IsTrack (record { fast = fast; frames = frames; mono = mono; base = base; scale = scale; file = file; ops = ops })
+made fast mono frames base scale file ops hf hb hs hn ho = record { buffer = hf; base = hb; scale = hs; name = hn; whole = ho.whole; count = ho.count; numbers = ho.numbers }
 
 track-holds : (i : ℕ) (tree : Members) → Holds IsTrack (track_in i tree)
 track-holds i tree =
@@ -128,7 +128,7 @@ track-holds i tree =
     (λ scale hs. then_holds (AreOps shape.frames) IsTrack (ops_in i shape.frames items)
     (λ ops. Ok (record { fast = shape.fast; frames = shape.frames; mono = shape.mono; base = base; scale = scale; file = file; ops = ops }))
     (ops_in-holds i shape.frames items)
-    (λ ops ho. made shape.fast shape.mono shape.frames base scale file ops hf hs hn ho)))))))
+    (λ ops ho. made shape.fast shape.mono shape.frames base scale file ops hf hb hs hn ho)))))))
 
 track_if-holds : (i : ℕ) (o : Option Members) → Holds IsTrack (track_if i o)
 track_if-holds i None = tt

@@ -1,6 +1,6 @@
 -- What every script keeps.
 use Rattle.std.specs.Prelude.{◌≡◌, ℕ, ◌+◌, ◌*◌, ◌<◌, ◌≤◌, true, false, length, All}
-use Rattle.af_script.specs.Bounds.{most_version, most_frames, most_normal, most_cycles, most_product, most_tracks, most_buffer, unity_scale, most_ops, most_turns, most_gain, most_write, most_value, most_fast, header_words, command_frames}
+use Rattle.af_script.specs.Bounds.{most_version, most_frames, most_normal, most_cycles, most_product, most_tracks, most_buffer, most_base, unity_scale, most_ops, most_turns, most_gain, most_write, most_value, most_fast, header_words, command_frames}
 use Rattle.af_script.specs.Text.{is_name}
 use Rattle.af_script.specs.Ops.{words_of, are_whole, fast_cycles}
 use Rattle.af_script.specs.Data.{ScriptData}
@@ -21,6 +21,7 @@ HasOpNumbers frames _ = Unit {0}
 -- a track's ranges, name and ops
 pub record IsTrack (track : TrackSpec) : Type 0 where
   pub buffer : (1 ≤ track.frames) × (track.frames ≤ most_buffer)
+  pub base : track.base ≤ most_base
   pub scale : track.scale ≤ unity_scale
   pub name : is_name track.file ≡ true
   pub whole : are_whole track.ops ≡ true

@@ -16,6 +16,7 @@ use crate::number::{number_in, number_or};
 use crate::op::{Op, ends_with_remove, op_at};
 use crate::text::is_name;
 use crate::tree::{count_of, has_track_keys, text_at, texts_of, value_at};
+use af_base::Memory;
 use std::alloc::Global;
 use std::marker::Model;
 use toml::{Table, Value};
@@ -46,14 +47,22 @@ impl Name {
         self.text.as_str()
     }
 
-    /// The name that a text is.
-    fn copied(alloc: Global, text: &str) -> Result<Name, ReadError>
+    /// The name that a text is: `is_name` tells whether it is one.
+    pub fn new(alloc: Global, text: &str) -> Result<Name, Memory>
         requires { is_name text.now ≡ true }
-        ensures { CopiesText result text.now }
+        ensures { IfOk result (λ name. name ≡ text.now) }
     {
         Ok(Name {
             text: String::from_str(alloc, text)?,
         })
+    }
+
+    // The same, for a reader.
+    fn copied(alloc: Global, text: &str) -> Result<Name, ReadError>
+        requires { is_name text.now ≡ true }
+        ensures { CopiesText result text.now }
+    {
+        Ok(Name::new(alloc, text)?)
     }
 }
 
@@ -77,6 +86,14 @@ impl Model for Ops {
 
 impl Ops {
     ghost use Rattle.af_script.specs.Ops.{are_whole};
+
+    /// The ops of a list that begins with its only `open` and ends with its only `remove`.
+    pub fn new(ops: Vec<Op>) -> Ops
+        requires { are_whole ops.items ≡ true }
+        ensures { result ≡ ops.items }
+    {
+        Ops { ops }
+    }
 
     /// The ops in order.
     pub fn as_slice(&self) -> &[Op]
