@@ -1,4 +1,4 @@
-use crate::{Op, ReadError, TurnSpec, read};
+use crate::{Op, ReadError, Script, TurnSpec, print, read};
 use std::alloc::Global;
 use std::test::Fail;
 
@@ -134,10 +134,21 @@ const PAIRS: [(&str, &str, &str, &str, &str); 13] = [
 /// What the bytes of a script are read as, in words.
 fn told(alloc: Global, text: &str) -> Result<String, Fail> {
     match read(alloc, text.as_bytes()) {
-        Ok(_) => Ok(String::from_str(alloc, "accepted")?),
+        Ok(script) => told_again(alloc, &script),
         Err(ReadError::Fault(fault)) => Ok(format!(in alloc; "{fault}")?),
         Err(ReadError::Memory) => Ok(String::from_str(alloc, "memory")?),
     }
+}
+
+/// What a script is read as once it is printed, in words.
+fn told_again(alloc: Global, script: &Script) -> Result<String, Fail> {
+    let mut bytes = Vec::new(alloc);
+    print(alloc, script, &mut bytes).ok().ok_or("not printed")?;
+    let line = match read(alloc, bytes.as_slice()) {
+        Ok(_) => "accepted",
+        Err(_) => "not read again",
+    };
+    Ok(String::from_str(alloc, line)?)
 }
 
 /// A text with one part changed.
