@@ -1,5 +1,5 @@
 -- A session that was played, and its line.
-use Rattle.std.proofs.Common.{◌≡◌, ◌⊎◌, ℕ, List, Some, Result, Ok, Err, IsErrAnd, String, string_bytes, refl, sym, ap, subst, inl, inr}
+use Rattle.std.proofs.Common.{◌≡◌, ℕ, List, Some, Result, Ok, Err, IsErrAnd, String, string_bytes, refl, sym, ap, subst, inr}
 use Rattle.std.specs.declared.alloc.Global.{Global}
 use Rattle.af_model.specs.Journals.{JournalData}
 use Rattle.af_io.specs.Files.{Files, SetsFile}

@@ -1,5 +1,4 @@
-use Rattle.std.proofs.Common.{◌≡◌, ◌∙◌, ℕ, ◌/◌, length, ap}
-use Rattle.af_io.specs.Pcm.{frame_width}
+use Rattle.std.proofs.Common.{◌∙◌, length, ap}
 use Rattle.af_io.proofs.Fronts.{frames_count}
 use Rattle.af_player.proofs.Loads.{frames_bytes}
 use Rattle.af_player.proofs.load.frames_in.Goals as goal

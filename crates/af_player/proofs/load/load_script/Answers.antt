@@ -1,4 +1,4 @@
-use Rattle.std.proofs.Common.{◌≡◌, ◌∙◌, List, ℕ, Result, Err, ap, sym, subst}
+use Rattle.std.proofs.Common.{◌≡◌, ◌∙◌, List, ℕ, Result, ap, sym, subst}
 use Rattle.af_io.specs.Files.{Files}
 use Rattle.af_script.specs.Data.{ScriptData}
 use Rattle.af_script.specs.Reading.{script_of}

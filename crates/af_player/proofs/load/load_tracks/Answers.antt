@@ -1,4 +1,4 @@
-use Rattle.std.proofs.Common.{◌≡◌, ◌∙◌, ◌<◌, ◌≤◌, ℕ, Ok, length, arith, subst, sym}
+use Rattle.std.proofs.Common.{◌≡◌, ◌∙◌, ◌<◌, Ok, length, arith, subst}
 use Rattle.af_io.specs.Files.{Files}
 use Rattle.af_player.specs.Asked.{track_in}
 use Rattle.af_player.proofs.Loads.{HaveAll-step, faults_stay, have_files, tracks_step}

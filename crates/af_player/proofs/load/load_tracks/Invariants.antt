@@ -1,4 +1,4 @@
-use Rattle.std.proofs.Common.{◌≡◌, ◌≤◌, drop, take, length}
+use Rattle.std.proofs.Common.{◌≡◌, ◌≤◌, drop, take}
 use Rattle.af_io.specs.Files.{SameFiles}
 use Rattle.af_player.specs.Asked.{most_files, tracks_in}
 use Rattle.af_player.proofs.Chains.{behind}
