@@ -1,8 +1,14 @@
-use Rattle.std.proofs.Common.{◌≡◌, ◌+◌, ◌<◌, ℕ, List, [], length, slice_set, sym, ap, subst}
+use Rattle.std.proofs.Common.{◌≡◌, ◌+◌, ◌<◌, ℕ, List, [], length, slice_set, sym, ap, subst, arith}
 use Rattle.af_model.specs.Journals.{RoundNoted}
 use Rattle.af_script.specs.declared.op.TurnSpec.TheVariants as spec
-use Rattle.af_session.specs.Rounds.{Given, IsReady, Turns}
+use Rattle.af_base.specs.declared.event.ClientCall.{ClientCall}
+use Rattle.af_session.specs.Parties.{PartyState}
+use Rattle.af_session.specs.Rounds.{Given, IsReady, Turns, round_told}
+use Rattle.af_session.specs.Shown.{FollowsRound}
+use Rattle.af_session.specs.Summaries.{Shown, with_calls}
+use Rattle.af_session.specs.Tallies.{IsTally}
 use Rattle.af_session.specs.Together.{SessionState}
+use Rattle.af_session.proofs.FollowingRounds.{follows_client}
 use Rattle.af_session.proofs.ClientRounds.{asks_clients, asks_few, asks_work, has_turned, leaves_ready}
 use Rattle.af_session.proofs.parties.Parties.play_client.Goals as goal
 
@@ -48,3 +54,15 @@ returns-clause-turns g c =
     subst (λ (s : SessionState). (r : RoundNoted) × Turns given (spec.Client c.args.track) s r [] (record was { clients = slice_set was.clients c.args.track c.turn.new.self })) c.self.view_is
     (has_turned c.args.links.now given was c.args.track c.index_mut.result.now c.index-tracks-i.result c.as_slice-ops.result.now c.index-files-i.result c.frames-file.result.now lt ready.given c.index_mut.ensures.value c.index-tracks-i.is c.as_slice-ops.ensures.ops c.index-files-i.is c.frames-file.ensures
     c.turn.new.self c.turn.ensures.legal c.turn.ensures.turned)
+
+pub returns-clause-tally : goal.returns-clause-tally
+returns-clause-tally g c =
+    let was : SessionState = record { clients = c.self.inside.clients.items; normal = c.self.inside.normal; fast = c.self.inside.fast } in
+    let lt : c.args.track < length was.clients = subst (λ (s : SessionState). c.args.track < length s.clients) (sym c.self.view_is) c.requires.track in
+    let q : PartyState = c.turn.new.self in
+    let before = c.args.tally.now in
+    let after = c.note_calls.new.self in
+    let within : c.args.track < length before.tracks = omega (arith, c.requires.track, c.requires.places.2.tracks_are) in
+    let noted = subst (λ (calls : List ClientCall). (run : Shown) → IsTally run before → IsTally (with_calls run c.args.track calls) after) c.as_slice.ensures c.note_calls.ensures.tally in
+    subst (λ (s : SessionState). FollowsRound (round_told (spec.Client c.args.track) s (record was { clients = slice_set was.clients c.args.track q })) s.fast was.fast before after) c.self.view_is
+    (follows_client was c.args.track q before after lt within noted)
