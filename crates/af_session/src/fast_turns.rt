@@ -203,6 +203,8 @@ pub fn fast_turn<L: Ledger>(
     ensures places { (n tracks : ℕ) → HasPlaces n tracks (length fast.old.log.entries) tally.old → HasPlaces n tracks (length fast.new.log.entries) tally.new }
 {
     let start = fast.log().len();
-    fast_cycles(clients, normal, fast, links, count, buffer, bytes, tally, steps);
+    fast_cycles(
+        clients, normal, fast, links, count, buffer, bytes, tally, steps,
+    );
     fast.log().len() - start
 }
