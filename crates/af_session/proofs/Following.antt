@@ -75,10 +75,12 @@ poll_more first o o' Nothing s s' (none, is, stepped) =
     ([], ap (λ (y : Observes ServerState StreamNames). polled_states first y.past.events) is ∙ polled_more (SawNext o.past.number None [] ∷ []) [] (λ _. refl) first o.past.events)
 poll_more first o o' Same s s' (some, is, stepped) =
     ([], ap (λ (y : Observes ServerState StreamNames). polled_states first y.past.events) is ∙ polled_more (SawNext o.past.number None [] ∷ []) [] (λ _. refl) first o.past.events)
-poll_more first o o' (New number) s s' (next, (x, took), stepped) =
-    (x ∷ [], ap (λ (y : Observes ServerState StreamNames). polled_states first y.past.events) took.2
-        ∙ ap (polled_states first) (append_assoc o.past.events (SawNext (o.past.number + 1) (Some x) took.0 ∷ []) (Ack (o.past.number + 1) took.1 ∷ []))
-        ∙ polled_more (SawNext (o.past.number + 1) (Some x) took.0 ∷ Ack (o.past.number + 1) took.1 ∷ []) (x ∷ []) (λ _. refl) first o.past.events)
+poll_more first o o' (New number) s s' (next, (x, took), stepped) = (
+  x ∷ [],
+  ap (λ (y : Observes ServerState StreamNames). polled_states first y.past.events) took.2
+      ∙ ap (polled_states first) (append_assoc o.past.events (SawNext (o.past.number + 1) (Some x) took.0 ∷ []) (Ack (o.past.number + 1) took.1 ∷ []))
+      ∙ polled_more (SawNext (o.past.number + 1) (Some x) took.0 ∷ Ack (o.past.number + 1) took.1 ∷ []) (x ∷ []) (λ _. refl) first o.past.events,
+)
 
 -- what a poll leaves
 adopt_more : (first : FastState) (m p : MixerState) → Adopts m p → PollsMore first m p
@@ -245,12 +247,12 @@ module _ (m m' : MixerState) (out out' : List Frame) (answer : Cycle) (mixes : M
     follows_added x y z order whole long sizes first second head = ⊎_elim
         (λ (same : m' ≡ record m { adopted = false }). absurd (omega (arith, longer, still_long same)))
         (λ (a : (entry : CycleEntry) × (answer ≡ entry.cycle) × AddsCycle m m' entry × Writes m' entry out out'). λ tracks rounds is.
-            let run : Shown = shown_at head tracks rounds m in
-            let noted = second (with_entry run (record { entry = entry_at m'.log.entries (length m'.log.entries - 1); state = m'.observer.current })) (first run is) in
-            let shown = shown_added head tracks rounds m m' a.0 out out' order whole long sizes a.2 a.3 in
-            let same : with_written (with_entry run (record { entry = entry_at m'.log.entries (length m'.log.entries - 1); state = m'.observer.current })) (frames_written answer out') ≡ shown_at head tracks rounds m' =
-            (λ i. with_written (with_entry run (record { entry = last_entry m m' a.0 a.2 i; state = m'.observer.current })) (frames_written (a.1 i) out')) ∙ sym shown in
-            subst (λ (r : Shown). IsTally r z) same noted)
+        let run : Shown = shown_at head tracks rounds m in
+        let noted = second (with_entry run (record { entry = entry_at m'.log.entries (length m'.log.entries - 1); state = m'.observer.current })) (first run is) in
+        let shown = shown_added head tracks rounds m m' a.0 out out' order whole long sizes a.2 a.3 in
+        let same : with_written (with_entry run (record { entry = entry_at m'.log.entries (length m'.log.entries - 1); state = m'.observer.current })) (frames_written answer out') ≡ shown_at head tracks rounds m' =
+        (λ i. with_written (with_entry run (record { entry = last_entry m m' a.0 a.2 i; state = m'.observer.current })) (frames_written (a.1 i) out')) ∙ sym shown in
+        subst (λ (r : Shown). IsTally r z) same noted)
         (mix_does m m' out out' answer mixes)
 
     pub places_added : (x y z : Tallied) (n tracks : ℕ) → Keeps slots 1 x y → Keeps 0 0 y z → HasPlaces n tracks (length m.log.entries) x → HasPlaces n tracks (length m'.log.entries) z

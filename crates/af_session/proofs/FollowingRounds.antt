@@ -92,13 +92,13 @@ module _ (states : List FastState) (len tracks : ℕ) (calls : AllCalls) (turns 
         let all : calls_over (calls ++ slice_set (replicate n []) i made ∷ []) k ≡ calls_over calls k ++ slice_index_or (slice_set (replicate n []) i made) k [] = calls_more calls (slice_set (replicate n []) i made) k in
         ⊎_elim
         (λ (e : k ≡ i). subst (λ (j : ℕ). slice_index_or (slice_set lists i next) j [] ≡ calls_over calls j ++ slice_index_or (slice_set (replicate n []) i made) j []) (sym e)
-            (get_or-set_same lists i next [] inside
-            ∙ ap (λ (xs : List ClientCall). xs ++ made) (get_or-map-range_with_len (calls_over calls) 0 tracks i i [] within (omega arith))
-            ∙ ap (λ (xs : List ClientCall). calls_over calls i ++ xs) (sym (get_or-set_same (replicate n []) i made [] there))) ∙ sym all)
+        (get_or-set_same lists i next [] inside
+        ∙ ap (λ (xs : List ClientCall). xs ++ made) (get_or-map-range_with_len (calls_over calls) 0 tracks i i [] within (omega arith))
+        ∙ ap (λ (xs : List ClientCall). calls_over calls i ++ xs) (sym (get_or-set_same (replicate n []) i made [] there))) ∙ sym all)
         (λ (ne : k ≢ i). get_or-set_other lists i k next [] ne
-            ∙ get_or-map-range_with_len (calls_over calls) 0 tracks k k [] below (omega arith)
-            ∙ sym (append-nil (calls_over calls k))
-            ∙ ap (λ (xs : List ClientCall). calls_over calls k ++ xs) (sym (empty_at n k) ∙ sym (get_or-set_other (replicate n []) i k made [] ne)) ∙ sym all)
+        ∙ get_or-map-range_with_len (calls_over calls) 0 tracks k k [] below (omega arith)
+        ∙ sym (append-nil (calls_over calls k))
+        ∙ ap (λ (xs : List ClientCall). calls_over calls k ++ xs) (sym (empty_at n k) ∙ sym (get_or-set_other (replicate n []) i k made [] ne)) ∙ sym all)
         (cases_eq k i)
 
     shows_calls : i < tracks → shows states len tracks (calls ++ slice_set (replicate n []) i made ∷ []) (turns ++ None ∷ []) frames entries ≡ with_calls (shows states len tracks calls turns frames entries) i made
@@ -183,10 +183,10 @@ follows_fast count s t a b follows = follows_still s (fast_round s t).cycles s.f
 calls_met : (a b : SessionState) → Met a b → length b.clients ≡ length a.clients → (i : ℕ) → calls_in (slice_get b.clients i) ≡ calls_in (slice_get a.clients i)
 calls_met a b met long i = ⊎_elim
     (λ (here : (p : PartyState) × (i < length a.clients) × (slice_get a.clients i ≡ Some p)). ⊎_elim
-        (λ (there : (q : PartyState) × (i < length b.clients) × (slice_get b.clients i ≡ Some q)).
-            ap calls_in there.2 ∙ ap (λ (p : PartyState). p.calls.items) (met.tracks.met i here.0 there.0 here.1 here.2 there.2).same ∙ sym (ap calls_in here.2))
-        (λ (none : (length b.clients ≤ i) × (slice_get b.clients i ≡ None)). absurd (omega (arith, long, none.0, here.1)))
-        (slice_get_cases b.clients i).1)
+    (λ (there : (q : PartyState) × (i < length b.clients) × (slice_get b.clients i ≡ Some q)).
+    ap calls_in there.2 ∙ ap (λ (p : PartyState). p.calls.items) (met.tracks.met i here.0 there.0 here.1 here.2 there.2).same ∙ sym (ap calls_in here.2))
+    (λ (none : (length b.clients ≤ i) × (slice_get b.clients i ≡ None)). absurd (omega (arith, long, none.0, here.1)))
+    (slice_get_cases b.clients i).1)
     (λ (none : (length a.clients ≤ i) × (slice_get a.clients i ≡ None)). ap calls_in (met.tracks.rest i none.0).1)
     (slice_get_cases a.clients i).1
 

@@ -49,11 +49,11 @@ fn state_polled(fast: &mut FastMixer) -> Option<FastState>
 }
 
 // Notes the frames of a buffer, if it was mixed.
-fn note_written(cycle: Cycle, buffer: &[Frame], tally: &mut Tally)
-    ensures tally { (run : Shown) → IsTally run tally.old → IsTally (with_written run (frames_written cycle buffer.now)) tally.new }
+fn note_written(kind: Cycle, buffer: &[Frame], tally: &mut Tally)
+    ensures tally { (run : Shown) → IsTally run tally.old → IsTally (with_written run (frames_written kind buffer.now)) tally.new }
     ensures keeps { Keeps 0 0 tally.old tally.new }
 {
-    if is_mixed(cycle) {
+    if is_mixed(kind) {
         tally.note_frames(buffer);
     }
 }
@@ -203,6 +203,8 @@ pub fn fast_turn<L: Ledger>(
     ensures places { (n tracks : ℕ) → HasPlaces n tracks (length fast.old.log.entries) tally.old → HasPlaces n tracks (length fast.new.log.entries) tally.new }
 {
     let start = fast.log().len();
-    fast_cycles(clients, normal, fast, links, count, buffer, bytes, tally, steps);
+    fast_cycles(
+        clients, normal, fast, links, count, buffer, bytes, tally, steps,
+    );
     fast.log().len() - start
 }

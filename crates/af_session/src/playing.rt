@@ -149,7 +149,9 @@ impl Parties {
     {
         let had_ended = self.normal.has_ended();
         let entries = self.fast.log().len();
-        self.play_out(links, turn, tracks, files, store, name, buffer, bytes, tally)?;
+        self.play_out(
+            links, turn, tracks, files, store, name, buffer, bytes, tally,
+        )?;
         self.note_round(alloc, turn, had_ended, entries, rounds)?;
         Ok(())
     }

@@ -110,7 +110,9 @@ impl Parties {
             normal,
             fast,
         } = self;
-        fast_turn(clients, normal, fast, links, count, buffer, bytes, tally, steps);
+        fast_turn(
+            clients, normal, fast, links, count, buffer, bytes, tally, steps,
+        );
     }
 
     // All parties meet.

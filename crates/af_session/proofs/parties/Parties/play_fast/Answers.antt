@@ -4,8 +4,10 @@ use Rattle.std.proofs.lemmas.List.{with_items_is}
 use Rattle.af_base.specs.Roomy.{Roomy}
 use Rattle.af_model.specs.Journals.{RoundNoted}
 use Rattle.af_script.specs.declared.op.TurnSpec.TheVariants as spec
-use Rattle.af_session.specs.Rounds.{Given, IsReady, Turns}
+use Rattle.af_session.specs.Rounds.{Given, IsReady, Turns, round_told}
+use Rattle.af_session.specs.Shown.{FollowsRound}
 use Rattle.af_session.specs.Together.{SessionState}
+use Rattle.af_session.proofs.FollowingRounds.{follows_fast}
 use Rattle.af_session.proofs.NormalRounds.{goes_through, stays_exited}
 use Rattle.af_session.proofs.Ready.{fast_stays, ready_more, ready_on}
 use Rattle.af_session.proofs.parties.Parties.play_fast.Goals as goal
@@ -44,3 +46,22 @@ returns-clause-turns g c =
     subst (λ (x : SessionState × SessionState). (r : RoundNoted) × Turns given (spec.Fast c.args.count) x.0 r turned.added x.1)
     (λ i. (is i, record { clients = sym kept i; normal = c.fast_turn.new.normal; fast = c.fast_turn.new.fast })) turn in
     (whole.0, turned.added, turned.written_is, whole.1)
+
+pub returns-then-has_exited-clause-tally : goal.returns-then-has_exited-clause-tally
+returns-then-has_exited-clause-tally g c =
+    let was : SessionState = record { clients = c.self.inside.clients.items; normal = c.self.inside.normal; fast = c.self.inside.fast } in
+    let before = c.args.tally.now in
+    subst (λ (s : SessionState). FollowsRound (round_told (spec.Fast c.args.count) s s) s.fast s.fast before before) c.self.view_is
+    (follows_fast c.args.count was was before before (λ head tracks rounds is. is))
+
+pub returns-clause-tally : goal.returns-clause-tally
+returns-clause-tally g c =
+    let was : SessionState = record { clients = c.deref_mut.result.now; normal = c.self.inside.normal; fast = c.self.inside.fast } in
+    let is : was ≡ c.args.self.now = (λ i. record { clients = c.deref_mut.ensures.value i; normal = c.self.inside.normal; fast = c.self.inside.fast }) ∙ c.self.view_is in
+    let now : SessionState = record { clients = c.fast_turn.new.clients; normal = c.fast_turn.new.normal; fast = c.fast_turn.new.fast } in
+    let kept = with_items_is c.self.inside.clients c.fast_turn.new.clients (let a = c.fast_turn.auto.clients in let v = ap length c.deref_mut.ensures.value in let o = c.self.inside.clients.ok.0 in omega arith) in
+    let before = c.args.tally.now in
+    let after = c.fast_turn.new.tally in
+    subst (λ (x : SessionState × SessionState). FollowsRound (round_told (spec.Fast c.args.count) x.0 x.1) x.0.fast x.1.fast before after)
+    (λ i. (is i, record { clients = sym kept i; normal = c.fast_turn.new.normal; fast = c.fast_turn.new.fast }))
+    (follows_fast c.args.count was now before after c.fast_turn.ensures.tally)

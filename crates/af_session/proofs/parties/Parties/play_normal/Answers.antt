@@ -1,10 +1,15 @@
 use Rattle.std.proofs.Common.{◌≡◌, ◌+◌, ℕ, List, [], true, false, refl, sym, ap, subst, ◌∙◌}
 use Rattle.std.specs.Bool.{MatchBool}
+use Rattle.af_base.specs.declared.turn.TurnEntry.{TurnEntry}
 use Rattle.af_base.specs.Turn.{Turn, turn_of}
 use Rattle.af_model.specs.Journals.{RoundNoted}
 use Rattle.af_script.specs.declared.op.TurnSpec.TheVariants as spec
-use Rattle.af_session.specs.Rounds.{Given, IsReady, Turns, NormalTurned, normal_round, still_round}
+use Rattle.af_session.specs.Rounds.{Given, IsReady, Turns, NormalTurned, normal_round, round_told, still_round}
+use Rattle.af_session.specs.Shown.{FollowsRound}
+use Rattle.af_session.specs.Summaries.{Shown, with_turn}
+use Rattle.af_session.specs.Tallies.{IsTally}
 use Rattle.af_session.specs.Together.{SessionState}
+use Rattle.af_session.proofs.FollowingRounds.{follows_ended, follows_normal}
 use Rattle.af_session.proofs.NormalRounds.{goes_on, stays_ended}
 use Rattle.af_session.proofs.Ready.{ready_normal}
 use Rattle.af_session.proofs.parties.Parties.play_normal.Goals as goal
@@ -28,3 +33,20 @@ returns-else-not-has_ended-clause-turns g c =
     let was : SessionState = record { clients = c.self.inside.clients.items; normal = c.self.inside.normal; fast = c.self.inside.fast } in
     subst (λ (s : SessionState). (r : RoundNoted) × Turns given spec.Normal s r [] s) c.self.view_is
     (stays_ended given was (sym c.has_ended.ensures ∙ c.if-not-has_ended.false))
+
+pub returns-then-not-has_ended-clause-tally : goal.returns-then-not-has_ended-clause-tally
+returns-then-not-has_ended-clause-tally g c =
+    let was : SessionState = record { clients = c.self.inside.clients.items; normal = c.self.inside.normal; fast = c.self.inside.fast } in
+    let next = c.turn.new.self in
+    let before = c.args.tally.now in
+    let after = c.note_turn.new.self in
+    let noted = subst (λ (e : TurnEntry). (run : Shown) → IsTally run before → IsTally (with_turn run (turn_of e)) after) c.last.ensures c.note_turn.ensures.tally in
+    subst (λ (s : SessionState). FollowsRound (round_told spec.Normal s (record was { normal = next })) s.fast was.fast before after) c.self.view_is
+    (follows_normal was next before after (sym c.has_ended.ensures ∙ c.if-not-has_ended.true) noted)
+
+pub returns-else-not-has_ended-clause-tally : goal.returns-else-not-has_ended-clause-tally
+returns-else-not-has_ended-clause-tally g c =
+    let was : SessionState = record { clients = c.self.inside.clients.items; normal = c.self.inside.normal; fast = c.self.inside.fast } in
+    let before = c.args.tally.now in
+    subst (λ (s : SessionState). FollowsRound (round_told spec.Normal s s) s.fast s.fast before before) c.self.view_is
+    (follows_ended was before (sym c.has_ended.ensures ∙ c.if-not-has_ended.false))
