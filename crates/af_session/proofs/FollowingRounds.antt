@@ -182,8 +182,8 @@ follows_fast count s t a b follows = follows_still s (fast_round s t).cycles s.f
 -- the meetings leave what each client called
 calls_met : (a b : SessionState) → Met a b → length b.clients ≡ length a.clients → (i : ℕ) → calls_in (slice_get b.clients i) ≡ calls_in (slice_get a.clients i)
 calls_met a b met long i = ⊎_elim
-    (λ (here : (p : PartyState) × (i < length a.clients) × (slice_get a.clients i ≡ Some p)). ⊎_elim
-    (λ (there : (q : PartyState) × (i < length b.clients) × (slice_get b.clients i ≡ Some q)).
+    (λ (here : (p : PartyState) × (i < length a.clients) × (slice_get a.clients i ≡ Some p) × (slice_index_or a.clients i p ≡ p)). ⊎_elim
+    (λ (there : (q : PartyState) × (i < length b.clients) × (slice_get b.clients i ≡ Some q) × (slice_index_or b.clients i q ≡ q)).
     ap calls_in there.2 ∙ ap (λ (p : PartyState). p.calls.items) (met.tracks.met i here.0 there.0 here.1 here.2 there.2).same ∙ sym (ap calls_in here.2))
     (λ (none : (length b.clients ≤ i) × (slice_get b.clients i ≡ None)). absurd (omega (arith, long, none.0, here.1)))
     (slice_get_cases b.clients i).1)
@@ -214,9 +214,9 @@ ends_keep s = ends_keep_if s.normal.ended s
 
 -- what is told of a turn stays told once all have met
 told_by : (turn : TurnSpec) (s a b : SessionState) → ((i : ℕ) → calls_in (slice_get b.clients i) ≡ calls_in (slice_get a.clients i)) → b.normal.entry ≡ a.normal.entry → b.fast.log ≡ a.fast.log → round_told turn s b ≡ round_told turn s a
-told_by (spec.Client i) s a b calls entry log = ap (client_round s i) (calls i)
-told_by spec.Normal s a b calls entry log = ap (λ (e : TurnEntry). if s.normal.ended then still_round s else normal_round s (turn_of e)) entry
-told_by (spec.Fast count) s a b calls entry log = λ i. record (still_round s) { cycles = length (log i).entries - length s.fast.log.entries }
+told_by (spec.Client i) s a b same entry log = ap (client_round s i) (same i)
+told_by spec.Normal s a b same entry log = ap (λ (e : TurnEntry). if s.normal.ended then still_round s else normal_round s (turn_of e)) entry
+told_by (spec.Fast count) s a b same entry log = λ i. record (still_round s) { cycles = length (log i).entries - length s.fast.log.entries }
 
 module _ (turn : TurnSpec) (s played met t : SessionState) (meets : Met played met) (long : length met.clients ≡ length played.clients) (ends : t ≡ with_ends met) where
   pub told_met : round_told turn s t ≡ round_told turn s played

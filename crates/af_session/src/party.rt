@@ -31,4 +31,11 @@ impl Party {
     {
         self.client.has_ended()
     }
+
+    // How many frames its client has released to the stream's block.
+    pub(crate) fn released(&self) -> u64
+        ensures { result ≡ self.now.stream.released }
+    {
+        self.stream.released()
+    }
 }

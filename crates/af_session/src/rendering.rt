@@ -221,7 +221,7 @@ fn push_released(clients: &[Party], released: &mut Items<u64>)
     ensures { released.new.items ≡ released_by clients.now }
 {
     for i in 0..clients.len() {
-        released.push(clients[i].stream.released());
+        released.push(clients[i].released());
     }
 }
 
