@@ -307,11 +307,16 @@ static Known now(const Reader *r) { return (Known){ .consumed = r->consumed, .fl
 /* What is known of a track's stream, with the counts since the last turn. */
 static Known known(Lane *t, const Report *report) {
     Known k = t->place == HOME ? now(&t->stream) : report->slots[t->slot];
-    if (t->place == HOME) memcpy(k.counts, t->own, sizeof k.counts);
-    else if (k.generation != t->generation) return t->attached;
-    else for (int i = 0; i < 3; i++) k.counts[i] -= t->counted[i];
-    if (t->place == HOME) memset(t->own, 0, sizeof t->own);
-    else memcpy(t->counted, report->slots[t->slot].counts, sizeof t->counted);
+    if (t->place == HOME) {
+        memcpy(k.counts, t->own, sizeof k.counts);
+        memset(t->own, 0, sizeof t->own);
+        return k;
+    }
+    if (k.generation != t->generation) return t->attached;
+    for (int i = 0; i < 3; i++) {
+        k.counts[i] -= t->counted[i];
+        t->counted[i] += k.counts[i];
+    }
     return k;
 }
 
