@@ -143,9 +143,9 @@ released_few links g n t ready = λ i d lt.
     omega arith
 
 -- two answers in one
-pub on_ok_both : {T E P Q : Type 0} (r : Result T E) → OnOk r P → OnOk r Q → OnOk r (P × Q)
-on_ok_both (Ok x) p q = (p, q)
-on_ok_both (Err e) p q = tt
+pub on_ok_both : {T E : Type 0} (P Q : Type 0) (r : Result T E) → OnOk r P → OnOk r Q → OnOk r (P × Q)
+on_ok_both P Q (Ok x) p q = (p, q)
+on_ok_both P Q (Err e) p q = tt
 
 -- the tally of all turns of a script
 pub tally_end : (script : ScriptData) (shared : SharedState) (s : SessionState) → IsNewSession script shared s → (links : Links) (g : Given) (n : ℕ) (turns : List TurnSpec) (rounds : RoundsNoted) (t : SessionState) (y : Tallied)

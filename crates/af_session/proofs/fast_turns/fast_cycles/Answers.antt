@@ -89,7 +89,7 @@ returns-then-not-is_mixed-clause-tally g c = λ head tracks rounds is. c.fast_cy
 pub returns-then-not-is_mixed-clause-places : goal.returns-then-not-is_mixed-clause-places
 returns-then-not-is_mixed-clause-places g c = λ n tracks held. c.fast_cycle-cycle.ensures.places n tracks (c.loop-i.invariant.places n tracks held)
 
-pub fast_cycle-requires-clause-places : goal.fast_cycle-requires-clause-places
-fast_cycle-requires-clause-places g c =
+pub fast_cycle-cycle-requires-clause-places : goal.fast_cycle-cycle-requires-clause-places
+fast_cycle-cycle-requires-clause-places g c =
     let held = c.requires.places in
     (held.0, held.1, held.2, c.loop-i.invariant.places held.0 held.1 held.3)

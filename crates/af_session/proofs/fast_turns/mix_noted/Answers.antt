@@ -7,7 +7,7 @@ returns-then-len-entries-clause-tally g c =
     let was = c.args.fast.now in
     let next = c.mix-cycle.new.self in
     let longer : length was.log.entries < length next.log.entries =
-    omega (arith, c.if-len-entries.true, c.len-entries.ensures, ap (λ l. length l.entries) c.log.ensures, c.len-2.ensures, ap (λ l. length l.entries) c.log-2.ensures) in
+    omega (arith, c.if-len-entries.true, c.len-entries.ensures, ap (λ l. length l.entries) c.log.ensures, c.len.ensures, ap (λ l. length l.entries) c.log-2.ensures) in
     follows_added was next c.args.buffer.now c.mix-cycle.new.out c.mix-cycle.result c.mix-cycle.ensures.mixes longer c.args.tally.now c.note_last.new.tally c.note_written.new.tally c.requires.order c.requires.whole c.requires.buffer
     c.mix-cycle.ensures.sizes.0 c.note_last.ensures.tally c.note_written.ensures.tally
 
@@ -16,5 +16,5 @@ returns-else-len-entries-clause-tally g c =
     let was = c.args.fast.now in
     let next = c.mix-cycle.new.self in
     let as_long : length next.log.entries ≤ length was.log.entries =
-    omega (arith, c.if-len-entries.false, c.len-entries.ensures, ap (λ l. length l.entries) c.log.ensures, c.len-2.ensures, ap (λ l. length l.entries) c.log-2.ensures) in
+    omega (arith, c.if-len-entries.false, c.len-entries.ensures, ap (λ l. length l.entries) c.log.ensures, c.len.ensures, ap (λ l. length l.entries) c.log-2.ensures) in
     follows_still was next c.args.buffer.now c.mix-cycle.new.out c.mix-cycle.result c.mix-cycle.ensures.mixes as_long c.args.tally.now

@@ -124,7 +124,7 @@ returns-clause-tally g c =
     on_ok_weaker c.play_all.result
     (λ (x : IsReady links given (length turns) is × Runs given turns was noted.rounds is × (noted.tracks ≡ tracks) × (is.fast.frames ≡ was.fast.frames) × ((first : FastState) → IsTally (shown_at first tracks noted.rounds is.fast) tally)).
     tally_end c.args.script.now c.args.shared.now was c.requires.new links given (length turns) turns noted is tally x.0 x.1 x.2 x.3 x.4)
-    (on_ok_both c.play_all.result done.ready (on_ok_both c.play_all.result done.all (on_ok_both c.play_all.result done.tracks (on_ok_both c.play_all.result done.frames done.tally))))
+    (on_ok_both _ _ c.play_all.result done.ready (on_ok_both _ _ c.play_all.result done.all (on_ok_both _ _ c.play_all.result done.tracks (on_ok_both _ _ c.play_all.result done.frames done.tally))))
 
 pub returns-clause-released : goal.returns-clause-released
 returns-clause-released g c =

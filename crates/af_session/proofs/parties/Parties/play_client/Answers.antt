@@ -1,4 +1,4 @@
-use Rattle.std.proofs.Common.{◌≡◌, ◌+◌, ◌<◌, ℕ, List, [], length, slice_set, sym, ap, subst, arith}
+use Rattle.std.proofs.Common.{◌≡◌, ◌+◌, ◌<◌, ℕ, List, [], length, slice_set, sym, ap, subst, ◌∙◌, arith}
 use Rattle.af_model.specs.Journals.{RoundNoted}
 use Rattle.af_script.specs.declared.op.TurnSpec.TheVariants as spec
 use Rattle.af_base.specs.declared.event.ClientCall.{ClientCall}
@@ -63,6 +63,6 @@ returns-clause-tally g c =
     let before = c.args.tally.now in
     let after = c.note_calls.new.self in
     let within : c.args.track < length before.tracks = omega (arith, c.requires.track, c.requires.places.2.tracks_are) in
-    let noted = subst (λ (calls : List ClientCall). (run : Shown) → IsTally run before → IsTally (with_calls run c.args.track calls) after) c.as_slice.ensures c.note_calls.ensures.tally in
+    let noted = subst (λ (calls : List ClientCall). (run : Shown) → IsTally run before → IsTally (with_calls run c.args.track calls) after) (c.as_slice.ensures ∙ ap (λ (p : PartyState). p.calls.items) c.client.view_is) c.note_calls.ensures.tally in
     subst (λ (s : SessionState). FollowsRound (round_told (spec.Client c.args.track) s (record was { clients = slice_set was.clients c.args.track q })) s.fast was.fast before after) c.self.view_is
     (follows_client was c.args.track q before after lt within noted)

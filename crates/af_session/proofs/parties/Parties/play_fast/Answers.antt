@@ -5,9 +5,9 @@ use Rattle.af_base.specs.Roomy.{Roomy}
 use Rattle.af_model.specs.Journals.{RoundNoted}
 use Rattle.af_script.specs.declared.op.TurnSpec.TheVariants as spec
 use Rattle.af_session.specs.Rounds.{Given, IsReady, Turns, round_told}
-use Rattle.af_session.specs.Shown.{FollowsRound}
+use Rattle.af_session.specs.Shown.{FollowsRound, HasPlaces}
 use Rattle.af_session.specs.Together.{SessionState}
-use Rattle.af_session.proofs.FollowingRounds.{follows_fast}
+use Rattle.af_session.proofs.FollowingRounds.{follows_fast, places_still}
 use Rattle.af_session.proofs.NormalRounds.{goes_through, stays_exited}
 use Rattle.af_session.proofs.Ready.{fast_stays, ready_more, ready_on}
 use Rattle.af_session.proofs.parties.Parties.play_fast.Goals as goal
@@ -65,3 +65,13 @@ returns-clause-tally g c =
     subst (λ (x : SessionState × SessionState). FollowsRound (round_told (spec.Fast c.args.count) x.0 x.1) x.0.fast x.1.fast before after)
     (λ i. (is i, record { clients = sym kept i; normal = c.fast_turn.new.normal; fast = c.fast_turn.new.fast }))
     (follows_fast c.args.count was now before after c.fast_turn.ensures.tally)
+
+pub returns-clause-places : goal.returns-clause-places
+returns-clause-places g c = λ n held.
+    let tracks : ℕ = length c.args.self.now.clients in
+    let entries : ℕ = length c.fast_turn.new.fast.log.entries in
+    let before = subst (λ (s : SessionState). HasPlaces n tracks (length s.fast.log.entries) c.args.tally.now) (sym c.self.view_is) held in
+    let after = places_still n tracks entries c.fast_turn.new.tally (c.fast_turn.ensures.places n tracks before) in
+    let kept = with_items_is c.self.inside.clients c.fast_turn.new.clients (let a = c.fast_turn.auto.clients in let v = ap length c.deref_mut.ensures.value in let o = c.self.inside.clients.ok.0 in omega arith) in
+    let long : length c.fast_turn.new.clients ≡ tracks = c.fast_turn.auto.clients ∙ ap length c.deref_mut.ensures.value ∙ ap (λ (s : SessionState). length s.clients) c.self.view_is in
+    subst (λ (k : ℕ). HasPlaces (n + 1) k entries c.fast_turn.new.tally) (sym long ∙ ap length (sym kept)) after
