@@ -121,10 +121,20 @@ returns-clause-tally g c =
     let tally : Tallied = c.play_all.new.tally in
     let tracks : ℕ = length c.tracks-tracks.result.now in
     let done = c.play_all.ensures in
+    let Ready : Type 0 = IsReady links given (length turns) is in
+    let Ran : Type 0 = Runs given turns was noted.rounds is in
+    let Tracks : Type 0 = noted.tracks ≡ tracks in
+    let Frames : Type 0 = is.fast.frames ≡ was.fast.frames in
+    let Noted : Type 0 = (first : FastState) → IsTally (shown_at first tracks noted.rounds is.fast) tally in
+    let Two : Type 0 = Frames × Noted in
+    let Three : Type 0 = Tracks × Two in
+    let Four : Type 0 = Ran × Three in
     on_ok_weaker c.play_all.result
-    (λ (x : IsReady links given (length turns) is × Runs given turns was noted.rounds is × (noted.tracks ≡ tracks) × (is.fast.frames ≡ was.fast.frames) × ((first : FastState) → IsTally (shown_at first tracks noted.rounds is.fast) tally)).
-    tally_end c.args.script.now c.args.shared.now was c.requires.new links given (length turns) turns noted is tally x.0 x.1 x.2 x.3 x.4)
-    (on_ok_both _ _ c.play_all.result done.ready (on_ok_both _ _ c.play_all.result done.all (on_ok_both _ _ c.play_all.result done.tracks (on_ok_both _ _ c.play_all.result done.frames done.tally))))
+    (λ (x : Ready × Four). tally_end c.args.script.now c.args.shared.now was c.requires.new links given (length turns) turns noted is tally x.0 x.1.0 x.1.1.0 x.1.1.1.0 x.1.1.1.1)
+    (on_ok_both Ready Four c.play_all.result done.ready
+    (on_ok_both Ran Three c.play_all.result done.all
+    (on_ok_both Tracks Two c.play_all.result done.tracks
+    (on_ok_both Frames Noted c.play_all.result done.frames done.tally))))
 
 pub returns-clause-released : goal.returns-clause-released
 returns-clause-released g c =
