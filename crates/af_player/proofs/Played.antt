@@ -12,12 +12,18 @@ use Rattle.af_player.specs.declared.status.Stop.{Stop}
 use Rattle.af_player.specs.declared.status.Stop.TheVariants.{Memory}
 use Rattle.af_player.specs.Asked.{Job, Loaded, session_job}
 use Rattle.af_player.specs.Ends.{IsCutOff, IsMade, Makes}
+use Rattle.af_player.specs.Status.{IsNoUsage}
 use Rattle.af_player.specs.Sessions.{IsSession, IsSomeSessionLine, summary_line}
 
 -- memory ran out
 pub Makes-memory : (r : Result (String Global) Stop) (asked : Result Job Refusal) (old new : Files) → IsErrAnd r (λ stop. stop ≡ Memory) → IsCutOff asked old new → Makes r asked old new
 Makes-memory (Ok line) asked old new memory cut = absurd memory
 Makes-memory (Err stop) asked old new memory cut = subst (λ (s : Stop). Makes (Err s) asked old new) (sym memory) cut
+
+-- and it finds no fault with the words
+pub no_usage-memory : (r : Result (String Global) Stop) → IsErrAnd r (λ stop. stop ≡ Memory) → IsNoUsage r
+no_usage-memory (Ok line) memory = absurd memory
+no_usage-memory (Err stop) memory = subst (λ (s : Stop). IsNoUsage {X = String Global} (Err s)) (sym memory) tt
 
 module _ (l : Loaded) (journal : JournalData) (ends : EndsState) (back : HandsBack l.script l.files journal ends) (summary : Summary) (summary_is : summary ≡ summary_told l.script.frames journal ends) where
   is_session : IsSession l.script l.files (journal_pcm l.script.frames journal) (summary_line summary)

@@ -4,7 +4,7 @@ use Rattle.af_player.specs.Ends.{IsCutOff, Makes}
 use Rattle.af_player.specs.Loading.{loaded_view}
 use Rattle.af_player.specs.Status.{session_stop}
 use Rattle.af_player.proofs.Made.{Makes-unplayed}
-use Rattle.af_player.proofs.Played.{Makes-memory, Makes-played, cut_behind, some_line}
+use Rattle.af_player.proofs.Played.{Makes-memory, Makes-played, cut_behind, no_usage-memory, some_line}
 use Rattle.af_player.proofs.render.play.Goals as goal
 
 pub returns-in_err-played-clause-made : goal.returns-in_err-played-clause-made
@@ -45,3 +45,6 @@ returns-clause-line g c =
     let p = c.in_ok-played.played in
     let here : Loaded = record { script = c.args.loaded.now.script; files = c.deref.result.now } in
     some_line here p.journal p.ends c.in_ok-played.ensures.played p.summary c.in_ok-played.ensures.summary _ c.in_ok-summary_line.ensures
+
+pub returns-in_err-summary_line-clause-words : goal.returns-in_err-summary_line-clause-words
+returns-in_err-summary_line-clause-words g c = no_usage-memory c.from_residual-in_err-summary_line.result c.from_residual-in_err-summary_line.ensures.1
