@@ -1,6 +1,6 @@
 -- The files of a generated session, as they are when it is played.
 use Rattle.std.proofs.Common.{◌≡◌, ℕ, zero, suc, ◌+◌, ◌<◌, ◌≤◌, nat_le, Bool, true, false, List, [], ◌∷◌, ◌++◌, Some, Result, Ok, Err, map, drop, refl, sym, ap, subst, ◌∙◌, arith}
-use Rattle.std.specs.List.{list_any, range_with_len}
+use Rattle.std.specs.List.{range_with_len}
 use Rattle.std.specs.Str.{bytes_eq}
 use Rattle.std.proofs.lemmas.Bool.{leb-true, leb-false}
 use Rattle.std.proofs.lemmas.List.{take-append-drop}
@@ -15,7 +15,7 @@ use Rattle.af_script.specs.Generated.{generated_name, generated_script}
 use Rattle.af_script.specs.Printing.{printed_script}
 use Rattle.af_player.specs.Generated.{drawn_file, drawn_files, script_file, generated_file, generated_files}
 use Rattle.af_player.specs.Requests.{is_drawn}
-use Rattle.af_player.proofs.PlainWords.{neither}
+use Rattle.af_player.proofs.DrawnNames.{none_is}
 
 -- ## Files that are written one after the other
 
@@ -87,18 +87,6 @@ drawn_there old number (suc (suc (suc (suc (suc (suc zero)))))) few = refl
 drawn_there old number (suc (suc (suc (suc (suc (suc (suc zero))))))) few = refl
 drawn_there old number (suc (suc (suc (suc (suc (suc (suc (suc n)))))))) few = absurd (omega arith)
 
--- a name that is none of some numbers' is that of none of them
-other_name : (name : List ℕ) (track from count : ℕ) → list_any (λ i. bytes_eq name (generated_name i)) (range_with_len from count) ≡ false → from ≤ track → track < from + count → bytes_eq name (generated_name track) ≡ false
-other_name name track from zero none le lt = absurd (omega arith)
-other_name name track from (suc count) none le lt = go (nat_le track from) refl (λ more. other_name name track (from + 1) count both.1 (omega (arith, more)) (omega (arith, lt)))
-  where
-    both : (bytes_eq name (generated_name from) ≡ false) × (list_any (λ i. bytes_eq name (generated_name i)) (range_with_len (from + 1) count) ≡ false)
-    both = neither (bytes_eq name (generated_name from)) (list_any (λ i. bytes_eq name (generated_name i)) (range_with_len (from + 1) count)) none
-
-    go : (b : Bool) → nat_le track from ≡ b → (from < track → bytes_eq name (generated_name track) ≡ false) → bytes_eq name (generated_name track) ≡ false
-    go true is later = let same : from ≡ track = (let less = leb-true track from is in omega (arith, le, less)) in ap (λ (i : ℕ). bytes_eq name (generated_name i)) (sym same) ∙ both.0
-    go false is later = later (leb-false track from is)
-
 script_apart : (files : Files) (script name : List ℕ) → bytes_eq script name ≡ false → with_files files (script_file script ∷ []) name ≡ files name
 script_apart files script name other = rw other refl
 
@@ -106,5 +94,5 @@ script_apart files script name other = rw other refl
 pub file_there : (old : Files) (number : ℕ) (script : List ℕ) (track : ℕ) → is_drawn script ≡ false → track < 8 → with_files old (generated_files number script) (generated_name track) ≡ Some (generated_file number track)
 file_there old number script track free few =
     ap (λ (files : Files). files (generated_name track)) (with_files-append old (drawn_files number 8) (script_file script ∷ []))
-    ∙ script_apart (with_files old (drawn_files number 8)) script (generated_name track) (other_name script track 0 8 free (omega arith) (omega (arith, few)))
+    ∙ script_apart (with_files old (drawn_files number 8)) script (generated_name track) (none_is (λ i. bytes_eq script (generated_name i)) track 8 free few)
     ∙ drawn_there old number track few

@@ -29,7 +29,7 @@ const RECORD: &str = "record in.pcm out.pcm 20 20 20";
 const LOOP: &str = "loop in.pcm out.pcm 10 2 0 0 0";
 
 /// Words that are separated by spaces.
-fn words_of(alloc: Global, line: &str) -> Result<Vec<String>, Fail> {
+pub(crate) fn words_of(alloc: Global, line: &str) -> Result<Vec<String>, Fail> {
     let mut words = Vec::new(alloc);
     for word in line.split_whitespace() {
         words.push(String::from_str(alloc, word)?)?;

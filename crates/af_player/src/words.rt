@@ -157,11 +157,13 @@ fn free_names<'a>(first: &'a str, second: &'a str) -> Option<(&'a str, &'a str)>
     ensures value { option_map (λ names. (names.0.now, names.1.now)) result ≡ free_names first.now second.now }
     ensures free { IfSome result (λ names. is_drawn names.0.now ≡ false) }
 {
-    if is_drawn(first) || is_drawn(second) {
-        None
-    } else {
-        two_names(first, second)
+    if is_drawn(first) {
+        return None;
     }
+    if is_drawn(second) {
+        return None;
+    }
+    two_names(first, second)
 }
 
 /// The number of a session that a word spells.
