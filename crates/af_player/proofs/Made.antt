@@ -2,6 +2,8 @@
 use Rattle.std.proofs.Common.{◌≡◌, ℕ, List, ◌++◌, Some, Result, Ok, Err, String, string_bytes, refl, sym, ap, subst, inl, inr}
 use Rattle.std.specs.declared.alloc.Global.{Global}
 use Rattle.af_io.specs.Files.{Files, SameFiles, SetsFile, LeavesFront}
+use Rattle.af_io.specs.Outputs.{with_files}
+use Rattle.af_io.proofs.Outputs.{LeavesFronts-none}
 use Rattle.af_io.specs.declared.store.StoreError.{StoreError}
 use Rattle.af_io.specs.declared.store.StoreError.TheVariants as outside
 use Rattle.af_session.specs.declared.rendering.SessionFault.{SessionFault}
@@ -10,7 +12,7 @@ use Rattle.af_player.specs.declared.deliver.Output.{Output}
 use Rattle.af_player.specs.declared.status.Refusal.{Refusal}
 use Rattle.af_player.specs.declared.status.Stop.{Stop}
 use Rattle.af_player.specs.declared.status.Stop.TheVariants.{Refused, Store, Memory}
-use Rattle.af_player.specs.Asked.{◌>>=◌, Job, Work, Exact, Session}
+use Rattle.af_player.specs.Asked.{◌>>=◌, Job}
 use Rattle.af_player.specs.Asking.{output_job}
 use Rattle.af_player.specs.Ends.{LeavesWork, IsWhole, IsCutOff, Makes, Renders, PrintsFront, PrintsWhole, PrintsCut}
 use Rattle.af_player.specs.Status.{Meets, session_stop, stop_of}
@@ -19,14 +21,10 @@ use Rattle.af_player.specs.Status.{Meets, session_stop, stop_of}
 pub files_are : (old mid : Files) → SameFiles old mid → mid ≡ old
 files_are old mid same = λ i name. same name i
 
-LeavesWork-same : (work : Work) (target : List ℕ) (old new : Files) → SameFiles old new → LeavesWork work target old new
-LeavesWork-same (Exact bytes line) target old new same = inl same
-LeavesWork-same (Session script files) target old new same = inl same
-
 -- ## Making
 
 pub IsCutOff-same : (asked : Result Job Refusal) (old new : Files) → SameFiles old new → IsCutOff asked old new
-IsCutOff-same (Ok job) old new same = inl (LeavesWork-same job.work job.target old new same)
+IsCutOff-same (Ok job) old new same = inl (inl (LeavesFronts-none old job.first new same))
 IsCutOff-same (Err refusal) old new same = same
 
 -- nothing was done
@@ -63,14 +61,14 @@ PrintsCut-made (Ok job) line old new before after made printed = (string_bytes l
 PrintsCut-made (Err refusal) line old new before after made printed = absurd made
 
 -- a session was not played to its end
-pub Makes-unplayed : (f : SessionFault) (job : Job) (old new : Files) → LeavesWork job.work job.target old new → Makes (Err (session_stop f)) (Ok job) old new
-Makes-unplayed session.Store job old new left = inl left
-Makes-unplayed session.Memory job old new left = inl left
+pub Makes-unplayed : (f : SessionFault) (job : Job) (old new : Files) → LeavesWork job.work job.target (with_files old job.first) new → Makes (Err (session_stop f)) (Ok job) old new
+Makes-unplayed session.Store job old new left = inl (inr left)
+Makes-unplayed session.Memory job old new left = inl (inr left)
 
 -- the output could not be written
-pub Makes-unwritten : (e : StoreError) (job : Job) (old new : Files) → LeavesWork job.work job.target old new → Makes (Err (stop_of e)) (Ok job) old new
-Makes-unwritten outside.Failed job old new left = inl left
-Makes-unwritten outside.Memory job old new left = inl left
+pub Makes-unwritten : (e : StoreError) (job : Job) (old new : Files) → LeavesWork job.work job.target (with_files old job.first) new → Makes (Err (stop_of e)) (Ok job) old new
+Makes-unwritten outside.Failed job old new left = inl (inr left)
+Makes-unwritten outside.Memory job old new left = inl (inr left)
 
 -- ## Outputs of one piece
 

@@ -3,8 +3,10 @@ use Rattle.std.specs.Prelude.{ℕ, ◌+◌, ◌%◌, ◌^◌, nat_le, ◌==◌, 
 use Rattle.af_base.specs.declared.frame.Frame.{Frame}
 use Rattle.af_base.specs.Sample.{pcm_bytes}
 use Rattle.af_io.specs.Files.{Files}
+use Rattle.af_io.specs.Outputs.{NamedFile}
 use Rattle.af_io.specs.Pcm.{frames_from, frame_width}
 use Rattle.af_script.specs.Data.{ScriptData}
+use Rattle.af_script.specs.Generated.{generated_script}
 use Rattle.af_script.specs.Reading.{script_of}
 use Rattle.af_script.specs.declared.track.TrackSpec.{TrackSpec}
 use Rattle.af_script.specs.declared.fault.ScriptFault.{ScriptFault}
@@ -16,9 +18,10 @@ use Rattle.af_player.specs.declared.status.Role.TheVariants as role
 use Rattle.af_player.specs.declared.status.Why.TheVariants.{Missing, Long, Ragged, Short, Total}
 use Rattle.af_player.specs.declared.request.Sizes.{Sizes}
 use Rattle.af_player.specs.declared.request.Turns.{Turns}
-use Rattle.af_player.specs.Requests.{Request, Render, Record, Loop, request_of}
+use Rattle.af_player.specs.Requests.{Request, Render, Record, Loop, Generate, request_of}
 use Rattle.af_player.specs.Recorded.{heard, recorded, counts_of}
 use Rattle.af_player.specs.Looped.{most_buffer, looped, rolls_of}
+use Rattle.af_player.specs.Generated.{generated_files, generated_frames}
 use Rattle.af_player.specs.Line.{counts_text, rolls_text}
 
 -- one step and then another, up to the first refusal
@@ -36,8 +39,9 @@ pub data Work : Type 0 where
   Exact : List ℕ → List ℕ → Work
   Session : ScriptData → List (List Frame) → Work
 
--- the output's name, and what is to be made
+-- the files that are made first, the output's name, and what is to be made
 pub record Job : Type 0 where
+  pub first : List NamedFile
   pub target : List ℕ
   pub work : Work
 
@@ -105,7 +109,7 @@ loaded_of files name = loaded role.Script most_script (files name) >>= (λ bytes
 
 -- a script is played
 abbrev pub session_job : List ℕ → Loaded → Job
-session_job target l = record { target = target; work = Session l.script l.files }
+session_job target l = record { first = []; target = target; work = Session l.script l.files }
 
 -- ## Recordings and loops
 
@@ -124,7 +128,7 @@ buffer_in bytes = frames_in 0 false bytes >>= some_frames
 
 -- frames are recorded
 abbrev pub record_job : List ℕ → Sizes → List Frame → Job
-record_job target sizes frames = record { target = target; work = Exact (pcm_bytes (heard (recorded sizes frames))) (counts_text (counts_of sizes frames)) }
+record_job target sizes frames = record { first = []; target = target; work = Exact (pcm_bytes (heard (recorded sizes frames))) (counts_text (counts_of sizes frames)) }
 
 -- the frames of a file that is looped
 abbrev pub looped_from : Files → List ℕ → Result (List Frame) Refusal
@@ -132,7 +136,13 @@ looped_from files input = loaded (role.Track 0) most_buffer (files input) >>= (�
 
 -- frames are looped
 abbrev pub loop_job : List ℕ → Turns → List Frame → Job
-loop_job target turns frames = record { target = target; work = Exact (pcm_bytes (looped turns frames)) (rolls_text (rolls_of turns frames)) }
+loop_job target turns frames = record { first = []; target = target; work = Exact (pcm_bytes (looped turns frames)) (rolls_text (rolls_of turns frames)) }
+
+-- ## Sessions that are generated
+
+-- the session of a number is played, once its tracks' files and its script are written
+abbrev pub generated_job : ℕ → List ℕ → List ℕ → Job
+generated_job number script target = record { first = generated_files number script; target = target; work = Session generated_script (generated_frames number) }
 
 -- ## Requests
 
@@ -153,6 +163,7 @@ abbrev pub job_of : Files → Request → Result Job Refusal
 job_of files (Render script target) = render_asked files script target
 job_of files (Record input target sizes) = record_asked files input target sizes
 job_of files (Loop input target turns) = loop_asked files input target turns
+job_of files (Generate number script target) = Ok (generated_job number script target)
 
 -- what the words ask for
 abbrev pub asked_of : Files → List (List ℕ) → Result Job Refusal

@@ -1,17 +1,19 @@
 -- What the words ask for.
-use Rattle.std.specs.Prelude.{ℕ, ◌&&◌, not, List, [], ◌∷◌, codes, Option, Some, None, option_and_then, option_map, if◌then◌else◌}
-use Rattle.std.specs.List.{list_any}
+use Rattle.std.specs.Prelude.{ℕ, ◌&&◌, ◌||◌, not, Bool, List, [], ◌∷◌, codes, Option, Some, None, option_and_then, option_map, if◌then◌else◌}
+use Rattle.std.specs.List.{list_any, range_with_len}
 use Rattle.std.specs.Str.{bytes_eq}
+use Rattle.af_script.specs.Generated.{generated_name}
 use Rattle.af_script.specs.Text.{is_name, number_within}
 use Rattle.af_player.specs.declared.request.Sizes.{Sizes}
 use Rattle.af_player.specs.declared.request.Turns.{Turns}
 use Rattle.af_player.specs.Dash.{begins_dash}
 
--- a script and an output to render it to; a file to record, an output, and the sizes of the recording; a file to loop, an output, and the turns of the loop
+-- a script and an output to render it to; a file to record, an output, and the sizes of the recording; a file to loop, an output, and the turns of the loop; the number of a session, a file for its script, and an output
 pub data Request : Type 0 where
   Render : List ℕ → List ℕ → Request
   Record : List ℕ → List ℕ → Sizes → Request
   Loop : List ℕ → List ℕ → Turns → Request
+  Generate : ℕ → List ℕ → List ℕ → Request
 
 -- two names of files that differ
 abbrev pub two_names : List ℕ → List ℕ → Option (List ℕ × List ℕ)
@@ -27,6 +29,18 @@ abbrev pub turns_of : List ℕ → List ℕ → List ℕ → List ℕ → List �
 turns_of places calls start end count =
     option_and_then (λ f. option_and_then (λ k. option_and_then (λ s. option_and_then (λ e. option_map (λ c. record { places = f; calls = k; start = s; end = e; count = c })
     (number_within 0 4294967295 count)) (number_within 0 4294967295 end)) (number_within 0 4294967295 start)) (number_within 1 2048 calls)) (number_within 1 1024 places)
+
+-- the name of one of the files that the generator draws
+abbrev pub is_drawn : List ℕ → Bool
+is_drawn name = list_any (λ track. bytes_eq name (generated_name track)) (range_with_len 0 8)
+
+-- two names of files that differ, and that the generator doesn't draw
+abbrev pub free_names : List ℕ → List ℕ → Option (List ℕ × List ℕ)
+free_names first second = if is_drawn first || is_drawn second then None else two_names first second
+
+-- the number of a session
+abbrev pub number_of : List ℕ → Option ℕ
+number_of text = number_within 0 2147483647 text
 
 -- `render SCRIPT OUT`
 abbrev pub render_request : List (List ℕ) → Option Request
@@ -45,6 +59,11 @@ loop_request (input ∷ target ∷ places ∷ calls ∷ start ∷ end ∷ count 
     option_and_then (λ names. option_map (λ turns. Loop names.0 names.1 turns) (turns_of places calls start end count)) (two_names input target)
 loop_request words = None
 
+-- `generate NUMBER SCRIPT OUT`
+abbrev pub generate_request : List (List ℕ) → Option Request
+generate_request (number ∷ script ∷ target ∷ []) = option_and_then (λ n. option_map (λ names. Generate n names.0 names.1) (free_names script target)) (number_of number)
+generate_request words = None
+
 -- the command and its words
 abbrev pub command_request : List (List ℕ) → Option Request
 command_request [] = None
@@ -52,6 +71,7 @@ command_request (command ∷ words) =
     if bytes_eq command (codes "render") then render_request words
     else if bytes_eq command (codes "record") then record_request words
     else if bytes_eq command (codes "loop") then loop_request words
+    else if bytes_eq command (codes "generate") then generate_request words
     else None
 
 -- the request of words none of which begins with `-`

@@ -3,7 +3,7 @@ use Rattle.std.specs.Prelude.{ℕ, true, false, List, [], ◌∷◌, ◌++◌, c
 use Rattle.std.specs.Str.{bytes_eq}
 use Rattle.clap.specs.Walk.{Row, Rule, Text, first_of}
 use Rattle.clap.specs.Simple.{App, Shape, new_rule, new_shape}
-use Rattle.af_player.specs.Requests.{Request, render_request, record_request, loop_request}
+use Rattle.af_player.specs.Requests.{Request, render_request, record_request, loop_request, generate_request}
 
 -- an argument that can't be left out
 abbrev pub needed : List ℕ → Rule
@@ -29,6 +29,10 @@ loop_words = record (new_shape (codes "loop")) {
   rules = needed (codes "in") ∷ needed (codes "out") ∷ needed (codes "places") ∷ needed (codes "calls") ∷ needed (codes "start") ∷ needed (codes "end") ∷ needed (codes "count") ∷ [];
 }
 
+-- the subcommand `generate NUMBER SCRIPT OUT`
+abbrev pub generate_words : Shape
+generate_words = record (new_shape (codes "generate")) { rules = needed (codes "number") ∷ needed (codes "script") ∷ needed (codes "out") ∷ [] }
+
 -- a command with subcommands of its own, and no help
 abbrev pub bare_words : App
 bare_words = record {
@@ -51,7 +55,7 @@ player_words = record {
     disable_help_subcommand = true;
     subcommand_required = true;
   };
-  subs = render_words ∷ record_words ∷ loop_words ∷ [];
+  subs = render_words ∷ record_words ∷ loop_words ∷ generate_words ∷ [];
 }
 
 -- the value of an argument, and what is made of it
@@ -75,6 +79,10 @@ loop_met rows =
     with_value (codes "start") rows (λ start. with_value (codes "end") rows (λ end. with_value (codes "count") rows (λ count.
     loop_request (input ∷ target ∷ places ∷ calls ∷ start ∷ end ∷ count ∷ []))))))))
 
+-- the request among the matches of `generate`
+abbrev pub generate_met : List Row → Option Request
+generate_met rows = with_value (codes "number") rows (λ number. with_value (codes "script") rows (λ script. with_value (codes "out") rows (λ target. generate_request (number ∷ script ∷ target ∷ []))))
+
 -- the request among the matches of a subcommand
 abbrev pub matched_request : Option (Text × List Row) → Option Request
 matched_request None = None
@@ -82,4 +90,5 @@ matched_request (Some met) =
     if bytes_eq met.0 (codes "render") then render_met met.1
     else if bytes_eq met.0 (codes "record") then record_met met.1
     else if bytes_eq met.0 (codes "loop") then loop_met met.1
+    else if bytes_eq met.0 (codes "generate") then generate_met met.1
     else None

@@ -13,10 +13,11 @@ pub struct Output {
 }
 
 /// Makes a file anew, with these bytes as one piece.
-fn write_file<S: Store>(store: &mut S, name: &str, bytes: &[u8]) -> Result<(), StoreError>
+pub fn write_file<S: Store>(store: &mut S, name: &str, bytes: &[u8]) -> Result<(), StoreError>
     ensures written { S.told store.old → OnOk result (SetsFile (S.files store.old) name.now (Some bytes.now) (S.files store.new)) }
     // After an error the file is as before, or holds a front of these bytes.
     ensures left { S.told store.old → OnErr result (LeavesFront (S.files store.old) name.now bytes.now (S.files store.new)) }
+    ensures tells { S.told store.old → S.told store.new }
     ensures cause { HasCause (S.faults store.old) (S.faults store.new) result }
 {
     store.create(name)?;

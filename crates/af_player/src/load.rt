@@ -194,7 +194,7 @@ pub struct Loaded {
 }
 
 /// Loads the files of a script's tracks.
-fn load_files<S: Store>(alloc: Global, store: &mut S, script: Script) -> Result<Loaded, Stop>
+pub fn load_files<S: Store>(alloc: Global, store: &mut S, script: Script) -> Result<Loaded, Stop>
     ensures loaded { S.told store.old → Meets loaded_view result (session_of (S.files store.old) script) }
     ensures serve { IfOk result AreFilesFor }
     ensures same { S.told store.old → SameFiles (S.files store.old) (S.files store.new) }

@@ -20,7 +20,7 @@ fn summary_line(alloc: Global, summary: &Summary) -> Result<String, AllocError>
 }
 
 /// Plays what was loaded, and answers its line.
-fn play<S: Store>(
+pub fn play<S: Store>(
     alloc: Global,
     loaded: &Loaded,
     store: &mut S,

@@ -38,4 +38,10 @@ pub enum Request<'a> {
         target: &'a str,
         turns: Turns,
     },
+    /// The number of a session, the file of its script, and the output that it is played into.
+    Generate {
+        number: u32,
+        script: &'a str,
+        target: &'a str,
+    },
 }

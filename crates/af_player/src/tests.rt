@@ -20,7 +20,7 @@ const SECOND: &str =
     "version = 2\nframes = 2\nnormal = 1\ncycles = 100\nturns = [\"c 0\", \"n\", \"c 0\", \"f 1\"]\n[[track]]\nkind = \"fast\"\nframes = 8\nchannels = 2\nfile = \"in.pcm\"\nops = [\"open\", \"start\", \"write 2\"]\n";
 
 const USAGE: &str =
-    "usage: render SCRIPT OUT or record IN OUT N F K or loop IN OUT F K START END COUNT\n";
+    "usage: render SCRIPT OUT or generate NUMBER SCRIPT OUT or record IN OUT N F K or loop IN OUT F K START END COUNT\n";
 
 pub(crate) const RENDER: &str = "render one.toml out.pcm";
 
@@ -29,7 +29,7 @@ const RECORD: &str = "record in.pcm out.pcm 20 20 20";
 const LOOP: &str = "loop in.pcm out.pcm 10 2 0 0 0";
 
 /// Words that are separated by spaces.
-fn words_of(alloc: Global, line: &str) -> Result<Vec<String>, Fail> {
+pub(crate) fn words_of(alloc: Global, line: &str) -> Result<Vec<String>, Fail> {
     let mut words = Vec::new(alloc);
     for word in line.split_whitespace() {
         words.push(String::from_str(alloc, word)?)?;
@@ -55,6 +55,20 @@ fn words_that_fit(rt: HostRuntime) -> Result<(), Fail> {
         ("render a a", false),
         ("render .a b", false),
         ("play a b c", false),
+        ("generate 0 a b", true),
+        ("generate 2147483647 a b", true),
+        ("generate 2147483648 a b", false),
+        ("generate 00 a b", false),
+        ("generate 07 a b", false),
+        ("generate -1 a b", false),
+        ("generate a 0 b", false),
+        ("generate 0 a", false),
+        ("generate 0 a b c", false),
+        ("generate 0 a a", false),
+        ("generate 0 a .b", false),
+        ("generate 0 g0.pcm b", false),
+        ("generate 0 a g7.pcm", false),
+        ("generate 0 g8.pcm g.pcm", true),
         ("record a b 8192 1024 1024", true),
         ("record a b 1 1 1", true),
         ("record a b 1 1", false),

@@ -1,5 +1,5 @@
 //! The words after the program's name, read by a simple command of `clap` with subcommands.
-ghost use Rattle.std.specs.Prelude.{◌≡◌, ◌∷◌, [], false, map, option_map, IfOk, IfSome, string_bytes};
+ghost use Rattle.std.specs.Prelude.{◌≡◌, ◌∷◌, ◌<◌, ◌^◌, [], false, map, option_map, IfOk, IfSome, string_bytes};
 ghost use Rattle.std.specs.List.{list_any};
 ghost use Rattle.clap.specs.Words.{app_of, first_of, found_of, rows_of, rule_of, shape_of, subcommand_rows_of, with_subcommand};
 ghost use Rattle.clap.specs.declared.builder.command.Command.TheViews.{out-Command};
@@ -7,11 +7,11 @@ ghost use Rattle.af_player.specs.Asking.{request_view, IsSound};
 ghost use Rattle.af_player.specs.Captured.{AreSizes};
 ghost use Rattle.af_player.specs.Dash.{begins_dash};
 ghost use Rattle.af_player.specs.Looped.{AreTurns};
-ghost use Rattle.af_player.specs.Requests.{request_of, sizes_of, turns_of, two_names};
-ghost use Rattle.af_player.specs.Words.{needed, with_rules, bare_words, render_words, record_words, loop_words, player_words, render_met, record_met, loop_met, matched_request};
+ghost use Rattle.af_player.specs.Requests.{is_drawn, free_names, number_of, request_of, sizes_of, turns_of, two_names};
+ghost use Rattle.af_player.specs.Words.{needed, with_rules, bare_words, render_words, record_words, loop_words, generate_words, player_words, render_met, record_met, loop_met, generate_met, matched_request};
 
 use crate::request::{Request, Sizes, Turns};
-use af_script::{is_name, number_within};
+use af_script::{GENERATED_TRACKS, generated_name, is_name, number_within};
 use clap::error::ErrorKind;
 use clap::{Arg, ArgMatches, Command};
 use std::alloc::{AllocError, Global};
@@ -90,6 +90,16 @@ fn loop_command<'a>(alloc: Global) -> Result<Command<'a>, AllocError>
     with_needed(alloc, command, "count")
 }
 
+/// The subcommand `generate NUMBER SCRIPT OUT`.
+fn generate_command<'a>(alloc: Global) -> Result<Command<'a>, AllocError>
+    ensures shape { IfOk result (λ command. shape_of command ≡ generate_words) }
+    ensures local { IfOk result (λ command. (out-Command command).has_globals ≡ false) }
+{
+    let command = with_needed(alloc, Command::new(alloc, "generate"), "number")?;
+    let command = with_needed(alloc, command, "script")?;
+    with_needed(alloc, command, "out")
+}
+
 /// The command before its subcommands, without help.
 fn bare_command<'a>(alloc: Global) -> Command<'a>
     ensures { app_of result ≡ bare_words }
@@ -115,7 +125,8 @@ fn player_command<'a>(alloc: Global) -> Result<Command<'a>, AllocError>
 {
     let command = with_sub(bare_command(alloc), render_command(alloc)?)?;
     let command = with_sub(command, record_command(alloc)?)?;
-    with_sub(command, loop_command(alloc)?)
+    let command = with_sub(command, loop_command(alloc)?)?;
+    with_sub(command, generate_command(alloc)?)
 }
 
 /// Two names of files that differ.
@@ -127,6 +138,40 @@ fn two_names<'a>(first: &'a str, second: &'a str) -> Option<(&'a str, &'a str)>
     } else {
         None
     }
+}
+
+/// Whether this is the name of one of the files that the generator draws.
+fn is_drawn(name: &str) -> bool
+    ensures { result ≡ is_drawn name.now }
+{
+    for track in 0..GENERATED_TRACKS {
+        if name == generated_name(track) {
+            return true;
+        }
+    }
+    false
+}
+
+/// Two names of files that differ, and that the generator doesn't draw.
+fn free_names<'a>(first: &'a str, second: &'a str) -> Option<(&'a str, &'a str)>
+    ensures value { option_map (λ names. (names.0.now, names.1.now)) result ≡ free_names first.now second.now }
+    ensures free { IfSome result (λ names. is_drawn names.0.now ≡ false) }
+{
+    if is_drawn(first) {
+        return None;
+    }
+    if is_drawn(second) {
+        return None;
+    }
+    two_names(first, second)
+}
+
+/// The number of a session that a word spells.
+fn number_of(word: &str) -> Option<u32>
+    ensures value { result ≡ number_of word.now }
+    ensures bound { IfSome result (λ number. number < 2 ^ 31) }
+{
+    number_within(word, 0, 2147483647)
 }
 
 /// The sizes of a recording that these words spell.
@@ -224,6 +269,23 @@ fn loop_met<'a>(matches: &ArgMatches<'a>) -> Option<Request<'a>>
     })
 }
 
+/// The request among the matches of `generate`.
+fn generate_met<'a>(matches: &ArgMatches<'a>) -> Option<Request<'a>>
+    ensures value { option_map request_view result ≡ generate_met (rows_of (found_of matches.now)) }
+    ensures sound { IfSome result IsSound }
+{
+    let number = value_of(matches, "number")?;
+    let script = value_of(matches, "script")?;
+    let target = value_of(matches, "out")?;
+    let number = number_of(number)?;
+    let (script, target) = free_names(script, target)?;
+    Some(Request::Generate {
+        number,
+        script,
+        target,
+    })
+}
+
 /// The request among the matches of a subcommand.
 fn matched_request<'a>(matches: &ArgMatches<'a>) -> Option<Request<'a>>
     ensures value { option_map request_view result ≡ matched_request (subcommand_rows_of matches.now) }
@@ -236,6 +298,8 @@ fn matched_request<'a>(matches: &ArgMatches<'a>) -> Option<Request<'a>>
         record_met(inner)
     } else if name == "loop" {
         loop_met(inner)
+    } else if name == "generate" {
+        generate_met(inner)
     } else {
         None
     }
