@@ -1,12 +1,17 @@
 -- What pokes may do: shut their own track, and no other.
-use Rattle.std.specs.Prelude.{◌≡◌, ℕ, ◌<◌, ◌==◌, ◌&&◌, not, Bool, true, false, List, length}
+use Rattle.std.specs.Prelude.{◌≡◌, ℕ, ◌<◌, ◌==◌, ◌&&◌, not, Bool, true, false, List, length, map, slice_get, Some}
 use Rattle.std.specs.List.{list_all}
 use Rattle.af_base.specs.declared.event.ClientCall.{ClientCall}
 use Rattle.af_base.specs.declared.event.ClientCall.TheVariants.{Corrupt, SendCorrupt}
 use Rattle.af_base.specs.Turn.{Turn}
 use Rattle.af_life.specs.Kept.{track_in}
 use Rattle.af_life.specs.Obeys.{is_shut}
-use Rattle.af_session.specs.Summaries.{EntryUsed, Look, Shown, calls_of, entry_looks, is_lawful, turn_looks}
+use Rattle.af_model.specs.History.{is_lawful as is_tame}
+use Rattle.af_model.specs.Journals.{RoundNoted}
+use Rattle.af_session.specs.Parties.{PartyState}
+use Rattle.af_session.specs.Shown.{calls_over, turns_over}
+use Rattle.af_session.specs.Summaries.{Look, Shown, calls_of, has_no_poke, is_lawful, turn_looks}
+use Rattle.af_session.specs.Together.{SessionState}
 
 -- a write or a send found that the words of its block don't fit it
 abbrev pub is_corrupt : ClientCall → Bool
@@ -26,16 +31,29 @@ none_shut i looks = list_all (λ look. not ((look.track == i) && is_shut look.se
 abbrev pub is_spared_in_turn : ℕ → Turn → Bool
 is_spared_in_turn i turn = list_all (λ look. not (is_shut look.seen)) (track_in turn i).looks && none_shut i (turn_looks turn)
 
--- an entry of the fast mixer has no look at the track i that was Shut
-abbrev pub is_spared_in_entry : ℕ → EntryUsed → Bool
-is_spared_in_entry i used = none_shut i (entry_looks used)
-
--- The track i is spared in a run: no call of its client was answered Corrupt, and no look of a mixer at its blocks was Shut
+-- The track i is spared in a run: no call of its client was answered Corrupt, and no look of the normal mixer at its blocks was Shut
 pub record IsSpared (run : Shown) (i : ℕ) : Type 0 where
   pub calls : none_corrupt (calls_of run i) ≡ true
   pub turns : list_all (is_spared_in_turn i) run.turns ≡ true
-  pub entries : list_all (is_spared_in_entry i) run.entries ≡ true
 
--- Whatever was poked, each track on whose blocks nothing was is spared: a poke shuts at most its own track
+-- Whatever the clients stored in their words, each track on whose blocks no poke was performed is spared
 abbrev pub PokesSpareOthers : Shown → Type 0
 PokesSpareOthers run = (i : ℕ) → i < length run.calls → is_lawful run i ≡ true → IsSpared run i
+
+-- ## While the run goes on
+
+-- a client's two lists hold no poke
+abbrev pub IsTame : PartyState → Type 0
+IsTame p = (is_tame p.stream.pass.part.events ≡ true) × (is_tame p.command.pass.part.events ≡ true)
+
+-- all calls of a client in some rounds, and all turns of the normal mixer
+abbrev pub all_calls : List RoundNoted → ℕ → List ClientCall
+all_calls rounds i = calls_over (map (λ r. r.calls) rounds) i
+
+abbrev pub all_turns : List RoundNoted → List Turn
+all_turns rounds = turns_over (map (λ r. r.turn) rounds)
+
+-- In these rounds each track was spared whose client poked nothing, and the lists of such a client hold no poke
+pub record SparesSoFar (rounds : List RoundNoted) (s : SessionState) : Type 0 where
+  pub tame : (i : ℕ) (p : PartyState) → slice_get s.clients i ≡ Some p → has_no_poke (all_calls rounds i) ≡ true → IsTame p
+  pub spared : (i : ℕ) → i < length s.clients → has_no_poke (all_calls rounds i) ≡ true → (none_corrupt (all_calls rounds i) ≡ true) × (list_all (is_spared_in_turn i) (all_turns rounds) ≡ true)
