@@ -1,5 +1,5 @@
 -- What the meetings leave of a client's kept values, and what they say of the proxies of a client that has not poked.
-use Rattle.std.proofs.Common.{◌≡◌, ℕ, ◌<◌, ◌≤◌, ◌⊎◌, inl, inr, Bool, true, false, if◌then◌else◌, List, [], ◌∷◌, ◌++◌, length, map, option_map, slice_get, Option, Some, None, refl, sym, ap, subst, ◌∙◌, ⊎_elim}
+use Rattle.std.proofs.Common.{◌≡◌, ℕ, ◌<◌, ◌≤◌, Bool, true, false, if◌then◌else◌, [], ◌∷◌, length, map, option_map, slice_get, Option, Some, None, refl, sym, ap, subst, ◌∙◌, ⊎_elim}
 use Rattle.std.specs.Prelude.{slice_index_or}
 use Rattle.std.proofs.lemmas.Option.{none-some, same_Some, slice_get-map, slice_get_cases}
 use Rattle.af_base.specs.declared.event.ClientEvent.{ClientEvent}
@@ -9,13 +9,13 @@ use Rattle.af_cblk.specs.Parts.{server_did}
 use Rattle.af_cblk.specs.Sides.{HandSide, Made, client_made}
 use Rattle.af_client.proofs.Kept.{kept-more}
 use Rattle.af_client.specs.Order.{ClientState, client_kept_of}
-use Rattle.af_model.proofs.Counts.{lawful_more}
+use Rattle.af_model.proofs.Counts.{lawful_before, lawful_more}
 use Rattle.af_model.specs.ClientCalls.{ClientKept}
 use Rattle.af_model.specs.History.{is_lawful}
 use Rattle.af_model.specs.ServerCalls.{ServerKept}
-use Rattle.af_normal.specs.Meeting.{Meets, MeetsAll, MeetsStream, client_knows, server_alone, server_knows}
+use Rattle.af_normal.specs.Meeting.{Meets, MeetsAll, MeetsStream, client_knows}
 use Rattle.af_server.specs.Order.{IsInOrder as IsServerInOrder, ServerState, server_kept_of}
-use Rattle.af_session.specs.Met.{Met, MeetsAway, Proxies, Spot, SpotMet, TrackMet, proxies_of, spot_of}
+use Rattle.af_session.specs.Met.{Met, MeetsAway, Spot, SpotMet, TrackMet, proxies_of, spot_of}
 use Rattle.af_session.specs.Parties.{PartyState}
 use Rattle.af_session.specs.Rounds.{end_party, with_ends}
 use Rattle.af_session.specs.Together.{SessionState}
@@ -27,9 +27,10 @@ use Rattle.af_session.proofs.OpenLooks.{kept_more}
 pub record IsAsBefore (c d : ClientState) : Type 0 where
   pub kept : (client_kept_of d.pass.part).shut ≡ (client_kept_of c.pass.part).shut
   pub lawful : is_lawful c.pass.part.events ≡ true → is_lawful d.pass.part.events ≡ true
+  pub before : is_lawful d.pass.part.events ≡ true → is_lawful c.pass.part.events ≡ true
 
 as_same : (c d : ClientState) → d ≡ c → IsAsBefore c d
-as_same c d e = subst (IsAsBefore c) (sym e) (record { kept = refl; lawful = (λ h. h) })
+as_same c d e = subst (IsAsBefore c) (sym e) (record { kept = refl; lawful = (λ h. h); before = (λ h. h) })
 
 as_known : (c d : ClientState) (s : ServerState) → d ≡ client_knows c s → IsAsBefore c d
 as_known c d s e =
@@ -38,6 +39,7 @@ as_known c d s e =
     subst (IsAsBefore c) (sym e) (record {
       kept = ap (λ (x : ClientKept). x.shut) (kept-more p.shape.frames p.shape.base p.events (learn ∷ []));
       lawful = (λ h. lawful_more p.events learn refl h);
+      before = (λ h. lawful_before p.events learn h);
     })
 
 by_home : (block : Made) (s : ServerState) (h : Option HandSide) (c d : ClientState) (t : Option ServerState) (g : Option HandSide) → MeetsStream block (Some s) h c t g d → IsAsBefore c d

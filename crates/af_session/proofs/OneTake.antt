@@ -1,74 +1,74 @@
 -- Where the takes of a turn are those of the tracks that are due, a track has one take at most.
-use Rattle.std.proofs.Common.{◌≡◌, ◌≢◌, ℕ, zero, suc, ◌+◌, ◌<◌, ◌≤◌, ◌==◌, ◌⊎◌, inl, inr, Bool, true, false, true≢false, if◌then◌else◌, filter, List, [], ◌∷◌, ◌++◌, length, map, refl, sym, ap, subst, ◌∙◌, ⊎_elim, arith, eq-eqb, eqb-true, ne_eqb}
+use Rattle.std.proofs.Common.{◌≡◌, ◌≢◌, ℕ, zero, suc, ◌+◌, ◌<◌, ◌≤◌, ◌==◌, Bool, true, false, if◌then◌else◌, filter, List, [], ◌∷◌, length, map, refl, ap, subst, ◌∙◌, ⊎_elim, arith, eqb-true, ne_eqb}
 use Rattle.std.specs.List.{range_with_len}
 use Rattle.std.proofs.lemmas.Bool.{cases_eq}
 use Rattle.af_base.specs.Turn.{TakeSeen}
 use Rattle.af_life.specs.TurnEvents.{takes_from}
 
+abbrev pub once : Bool → ℕ
+once b = if b then 1 else 0
+
 -- how often a number stands in a list
 abbrev pub times : ℕ → List ℕ → ℕ
 times i [] = 0
-times i (j ∷ js) = (if j == i then 1 else 0) + times i js
+times i (j ∷ js) = once (j == i) + times i js
+
+-- once for each place where it is there
+one_more : (b : Bool) → once b ≤ 1
+one_more true = omega arith
+one_more false = omega arith
 
 -- among the numbers from a on one below a doesn't stand, and none stands twice
 times_below : (i a n : ℕ) → i < a → times i (range_with_len a n) ≡ 0
 times_below i a zero lt = refl
 times_below i a (suc n) lt =
-    let none : (a == i) ≡ false = ne_eqb a i (λ e. omega (arith, e, lt)) in
+    let none : once (a == i) ≡ 0 = ap once (ne_eqb a i (λ e. omega (arith, e, lt))) in
     let rest : times i (range_with_len (a + 1) n) ≡ 0 = times_below i (a + 1) n (omega (arith, lt)) in
-    ap (λ (b : Bool). (if b then 1 else 0) + times i (range_with_len (a + 1) n)) none ∙ rest
+    omega (arith, none, rest)
 
 times_range : (i a n : ℕ) → times i (range_with_len a n) ≤ 1
 times_range i a zero = omega arith
 times_range i a (suc n) = ⊎_elim
     (λ (e : a ≡ i).
-    let one : (a == i) ≡ true = eq-eqb a i e in
     let rest : times i (range_with_len (a + 1) n) ≡ 0 = times_below i (a + 1) n (omega (arith, e)) in
-    let all = ap (λ (b : Bool). (if b then 1 else 0) + times i (range_with_len (a + 1) n)) one in
-    omega (arith, all, rest))
+    omega (arith, one_more (a == i), rest))
     (λ (ne : a ≢ i).
-    let none : (a == i) ≡ false = ne_eqb a i ne in
+    let none : once (a == i) ≡ 0 = ap once (ne_eqb a i ne) in
     let rest : times i (range_with_len (a + 1) n) ≤ 1 = times_range i (a + 1) n in
-    let all = ap (λ (b : Bool). (if b then 1 else 0) + times i (range_with_len (a + 1) n)) none in
-    omega (arith, all, rest))
+    omega (arith, none, rest))
     (cases_eq a i)
 
 -- a choice of them has no more
+fewer : (i j : ℕ) (chosen all : List ℕ) (b : Bool) → times i chosen ≤ times i all → times i (if b then j ∷ chosen else chosen) ≤ once (j == i) + times i all
+fewer i j chosen all true le = omega (arith, le)
+fewer i j chosen all false le = omega (arith, le)
+
 times_filter : (p : ℕ → Bool) (i : ℕ) (js : List ℕ) → times i (filter p js) ≤ times i js
 times_filter p i [] = omega arith
-times_filter p i (j ∷ js) = by_choice (p j)
-    where
-      rest : times i (filter p js) ≤ times i js
-      rest = times_filter p i js
-
-      by_choice : (b : Bool) → times i (if b then j ∷ filter p js else filter p js) ≤ (if j == i then 1 else 0) + times i js
-      by_choice true = omega (arith, rest)
-      by_choice false = omega (arith, rest)
+times_filter p i (j ∷ js) = fewer i j (filter p js) js (p j) (times_filter p i js)
 
 -- the takes of a track are as many as its number stands among those of all takes
+one_longer : (t : TakeSeen) (taken : List TakeSeen) (n : ℕ) (b : Bool) → length taken ≡ n → length (if b then t ∷ taken else taken) ≡ once b + n
+one_longer t taken n true e = omega (arith, e)
+one_longer t taken n false e = omega (arith, e)
+
 takes_count : (i : ℕ) (takes : List TakeSeen) → length (takes_from takes i) ≡ times i (map (λ (t : TakeSeen). t.track) takes)
 takes_count i [] = refl
-takes_count i (t ∷ takes) = by_track (t.track == i)
-    where
-      rest : length (takes_from takes i) ≡ times i (map (λ (x : TakeSeen). x.track) takes)
-      rest = takes_count i takes
-
-      by_track : (b : Bool) → length (if b then t ∷ takes_from takes i else takes_from takes i) ≡ (if b then 1 else 0) + times i (map (λ (x : TakeSeen). x.track) takes)
-      by_track true = omega (arith, rest)
-      by_track false = omega (arith, rest)
+takes_count i (t ∷ takes) = one_longer t (takes_from takes i) (times i (map (λ (x : TakeSeen). x.track) takes)) (t.track == i) (takes_count i takes)
 
 -- a number that stands in a choice was chosen
+module _ (p : ℕ → Bool) (i j : ℕ) (chosen : List ℕ) (rest : 1 ≤ times i chosen → p i ≡ true) where
+  here_or_later : (b : Bool) → (j == i) ≡ b → p j ≡ true → 1 ≤ once b + times i chosen → p i ≡ true
+  here_or_later true is passed more = subst (λ (k : ℕ). p k ≡ true) (eqb-true j i is) passed
+  here_or_later false is passed more = rest (omega (arith, more))
+
+  by_choice : (b : Bool) → p j ≡ b → 1 ≤ times i (if b then j ∷ chosen else chosen) → p i ≡ true
+  by_choice true is more = here_or_later (j == i) refl is more
+  by_choice false is more = rest more
+
 times_passes : (p : ℕ → Bool) (i : ℕ) (js : List ℕ) → 1 ≤ times i (filter p js) → p i ≡ true
 times_passes p i [] some = absurd (omega (arith, some))
-times_passes p i (j ∷ js) some = by_choice (p j) refl some
-    where
-      by_number : (b : Bool) → (j == i) ≡ b → p j ≡ true → 1 ≤ (if b then 1 else 0) + times i (filter p js) → p i ≡ true
-      by_number true is chosen more = subst (λ (k : ℕ). p k ≡ true) (eqb-true j i is) chosen
-      by_number false is chosen more = times_passes p i js (omega (arith, more))
-
-      by_choice : (b : Bool) → p j ≡ b → 1 ≤ times i (if b then j ∷ filter p js else filter p js) → p i ≡ true
-      by_choice true is more = by_number (j == i) refl is more
-      by_choice false is more = times_passes p i js more
+times_passes p i (j ∷ js) some = by_choice p i j (filter p js) (times_passes p i js) (p j) refl some
 
 -- the takes of those that are due, where a buffer is
 module _ (p : ℕ → Bool) (n i : ℕ) (takes : List TakeSeen) where

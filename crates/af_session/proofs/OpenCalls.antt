@@ -1,11 +1,11 @@
 -- A client that was never shut answered no Corrupt, and one that poked nothing stays lawful.
-use Rattle.std.proofs.Common.{◌≡◌, ℕ, ◌-◌, ◌<◌, ◌&&◌, not, Bool, true, false, true≢false, if◌then◌else◌, is_some, fold, MatchBool, MatchOption, List, [], ◌∷◌, ◌++◌, Option, Some, None, refl, sym, ap, subst, ◌∙◌}
+use Rattle.std.proofs.Common.{◌≡◌, ℕ, ◌-◌, ◌<◌, not, Bool, true, false, true≢false, if◌then◌else◌, is_some, fold, MatchBool, MatchOption, List, [], ◌∷◌, Option, Some, None, refl, sym, ap, ◌∙◌}
 use Rattle.std.proofs.lemmas.Option.{none-some}
 use Rattle.af_base.specs.declared.event.ClientCall.{ClientCall}
 use Rattle.af_base.specs.declared.event.ClientCall.TheVariants as call
 use Rattle.af_base.specs.declared.event.ClientEvent.{ClientEvent}
 use Rattle.af_model.proofs.Logic.{both_are, both_left, both_right, outside-some}
-use Rattle.af_model.specs.ClientCalls.{ClientAnswers, ClientKept, IsOutside, client_call_events, client_keeps, client_kept, filled_by}
+use Rattle.af_model.specs.ClientCalls.{ClientAnswers, ClientKept, client_call_events, client_keeps, client_kept, filled_by}
 use Rattle.af_model.specs.History.{is_lawful}
 use Rattle.af_model.specs.Point.{wrapped}
 use Rattle.af_client.proofs.Kept.{IsPoke, kept-more, lawful_call}
@@ -36,10 +36,10 @@ module _ (frames : ℕ) (k : ClientKept) where
   -- words that don't fit shut the proxy, or have shut it
   shuts : (o : Option (ℕ × ℕ)) (front rear : ℕ) (answer : ClientCall) → ((was : Bool) → client_call_events was answer ≡ client_call_events was (call.Corrupt front rear)) → k.shut ≡ o
       → MatchOption o ((rear ≡ wrapped k.position) × (frames < filled_by k front)) (λ words. words ≡ (front, rear)) → (then_kept o answer).shut ≡ None → ⊥
-  shuts None front rear answer same is found open =
-      none-some (front, wrapped k.position) (sym open ∙ ap (λ es. (fold (client_keeps frames) k es).shut) (same false) ∙ outside-some frames front (wrapped k.position) found.1)
-  shuts (Some words) front rear answer same is found open =
-      none-some words (sym open ∙ ap (λ es. (fold (client_keeps frames) k es).shut) (same true) ∙ is)
+  shuts None front rear answer same is found fine =
+      none-some (front, wrapped k.position) (sym fine ∙ ap (λ es. (fold (client_keeps frames) k es).shut) (same false) ∙ outside-some frames front (wrapped k.position) found.1)
+  shuts (Some words) front rear answer same is found fine =
+      none-some words (sym fine ∙ ap (λ es. (fold (client_keeps frames) k es).shut) (same true) ∙ is)
 
 module _ (frames cells base : ℕ) (es : List ClientEvent) (asked : ℕ) where
   abbrev before : ClientKept
@@ -47,53 +47,53 @@ module _ (frames cells base : ℕ) (es : List ClientEvent) (asked : ℕ) where
 
   -- where the proxy isn't shut after a call it wasn't before it, and the call wasn't Corrupt
   open_call : (answer : ClientCall) → ClientAnswers frames cells base es asked answer → (then_kept frames before before.shut answer).shut ≡ None → (before.shut ≡ None) × (is_corrupt answer ≡ false)
-  open_call (call.Put front count) a open = (a.0.0, refl)
-  open_call (call.Full front) a open = (a.0, refl)
-  open_call (call.Dead flags) a open = (a.0, refl)
-  open_call (call.Corrupt front rear) a open = absurd (shuts frames before before.shut front rear (call.Corrupt front rear) (λ was. refl) refl a open)
-  open_call (call.Cleared flags) a open = (open, refl)
-  open_call (call.Flush count) a open = (open, refl)
-  open_call (call.Gain word) a open = (open, refl)
-  open_call (call.Sent front code argument) a open = (a.0, refl)
-  open_call (call.SendFull front) a open = (a.0, refl)
-  open_call (call.SendDead flags) a open = (a.0, refl)
-  open_call (call.SendCorrupt front rear) a open = absurd (shuts frames before before.shut front rear (call.SendCorrupt front rear) (λ was. refl) refl a open)
-  open_call (call.Status word) a open = (open, refl)
-  open_call (call.Poke command word value) a open = (open, refl)
+  open_call (call.Put front count) a fine = (a.0.0, refl)
+  open_call (call.Full front) a fine = (a.0, refl)
+  open_call (call.Dead flags) a fine = (a.0, refl)
+  open_call (call.Corrupt front rear) a fine = absurd (shuts frames before before.shut front rear (call.Corrupt front rear) (λ was. refl) refl a fine)
+  open_call (call.Cleared flags) a fine = (fine, refl)
+  open_call (call.Flush count) a fine = (fine, refl)
+  open_call (call.Gain word) a fine = (fine, refl)
+  open_call (call.Sent front code argument) a fine = (a.0, refl)
+  open_call (call.SendFull front) a fine = (a.0, refl)
+  open_call (call.SendDead flags) a fine = (a.0, refl)
+  open_call (call.SendCorrupt front rear) a fine = absurd (shuts frames before before.shut front rear (call.SendCorrupt front rear) (λ was. refl) refl a fine)
+  open_call (call.Status word) a fine = (fine, refl)
+  open_call (call.Poke command word value) a fine = (fine, refl)
 
 -- the same of a side
 open_side : (b : Side) (asked : ℕ) (answer : ClientCall) (words : List ℕ) → AnswersOn b asked answer → (kept_of (called answer words b)).shut ≡ None → ((kept_of b).shut ≡ None) × (is_corrupt answer ≡ false)
-open_side b asked answer words a open =
+open_side b asked answer words a fine =
     let k : ClientKept = kept_of b in
     open_call b.shape.frames b.shape.cells b.shape.base b.events asked answer a
-    (sym (ap (λ (x : ClientKept). x.shut) (kept-more b.shape.frames b.shape.base b.events (client_call_events (is_some k.shut) answer))) ∙ open)
+    (sym (ap (λ (x : ClientKept). x.shut) (kept-more b.shape.frames b.shape.base b.events (client_call_events (is_some k.shut) answer))) ∙ fine)
 
 -- and of a track
 module _ (t : Track) (wanted : Want) (answer : ClientCall) where
   by_side : (b : Bool) → AnswersOn (if b then t.commands else t.stream) (asked_by wanted) answer
       → AreOpen (if b then record t { commands = called answer (released_by t answer) t.commands } else record t { stream = called answer (released_by t answer) t.stream }) → AreOpen t × (is_corrupt answer ≡ false)
-  by_side true a open = let s = open_side t.commands (asked_by wanted) answer (released_by t answer) a open.1 in ((open.0, s.0), s.1)
-  by_side false a open = let s = open_side t.stream (asked_by wanted) answer (released_by t answer) a open.0 in ((s.0, open.1), s.1)
+  by_side true a fine = let s = open_side t.commands (asked_by wanted) answer (released_by t answer) a fine.1 in ((fine.0, s.0), s.1)
+  by_side false a fine = let s = open_side t.stream (asked_by wanted) answer (released_by t answer) a fine.0 in ((s.0, fine.1), s.1)
 
   open_made : IsMade t wanted answer → AreOpen (with_call t answer) → AreOpen t × (is_corrupt answer ≡ false)
-  open_made made open = by_side (is_of_commands answer) made.1 open
+  open_made made fine = by_side (is_of_commands answer) made.1 fine
 
 -- ## A turn
 
 -- where neither proxy is shut after some calls none of them was Corrupt
 open_calls : (left : ℕ) (t : Track) (calls : List ClientCall) → AreCalls left t calls → AreOpen (fold after_call t calls) → AreOpen t × (none_corrupt calls ≡ true)
-open_calls left t [] are open = (open, refl)
-open_calls left t (answer ∷ calls) are open =
-    let rest = open_calls (left - 1) (after_call t answer) calls are.4 open in
+open_calls left t [] are fine = (fine, refl)
+open_calls left t (answer ∷ calls) are fine =
+    let rest = open_calls (left - 1) (after_call t answer) calls are.4 fine in
     let one = open_made t are.1 answer are.3 rest.0 in
     (one.0, both_are (not (is_corrupt answer)) (none_corrupt calls) (ap not one.1) rest.1)
 
 pub open_turn : (t : Track) (calls : List ClientCall) → LegalClientTurn t calls → AreOpen (after_calls t calls) → none_corrupt calls ≡ true
-open_turn t calls legal open = by_ended t.client.ended legal
+open_turn t calls legal fine = by_ended t.client.ended legal
   where
     by_ended : (ended : Bool) → MatchBool ended (calls ≡ []) (AreCalls most_calls t calls) → none_corrupt calls ≡ true
     by_ended true none = ap none_corrupt none
-    by_ended false are = (open_calls most_calls t calls are (open.0, open.1)).1
+    by_ended false are = (open_calls most_calls t calls are (fine.0, fine.1)).1
 
 -- ## Lawful calls
 

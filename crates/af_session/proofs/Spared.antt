@@ -1,13 +1,10 @@
 -- What a run shows at its end of the tracks that it spared.
-use Rattle.std.proofs.Common.{◌≡◌, ℕ, ◌<◌, Bool, true, List, [], length, map, slice_get, Option, Some, refl, sym, ap, subst, ◌∙◌, arith}
-use Rattle.std.specs.Prelude.{slice_index_or}
-use Rattle.std.specs.List.{list_all, range_with_len}
+use Rattle.std.proofs.Common.{◌≡◌, ℕ, ◌<◌, List, [], length, map, slice_get, Some, refl, sym, ap, subst, ◌∙◌, arith}
+use Rattle.std.specs.List.{list_all}
 use Rattle.std.proofs.lemmas.List.FromFn.{get_or-map-range_with_len}
 use Rattle.std.proofs.lemmas.Option.{same_Some, slice_get_within}
-use Rattle.af_base.specs.declared.event.ClientCall.{ClientCall}
 use Rattle.af_base.specs.declared.state.FastState.{FastState}
 use Rattle.af_base.specs.Log.{Logged}
-use Rattle.af_base.specs.Turn.{Turn}
 use Rattle.af_model.specs.declared.states.MutatorEvent.{MutatorEvent}
 use Rattle.af_model.specs.History.{is_lawful}
 use Rattle.af_model.specs.JournalForm.{IsWhole}
@@ -16,7 +13,7 @@ use Rattle.af_cblk.specs.declared.view.ClientPart.{ClientPart}
 use Rattle.af_script.specs.Data.{ScriptData}
 use Rattle.af_server.specs.Order.{ServerState}
 use Rattle.af_stateq.specs.Laws.{pushed_states}
-use Rattle.af_session.specs.Hostile.{IsSpared, IsTame, PokesSpareOthers, SparesSoFar, all_calls, all_turns, is_spared_in_turn, none_corrupt}
+use Rattle.af_session.specs.Hostile.{IsTame, PokesSpareOthers, SparesSoFar, all_calls, all_turns, is_spared_in_turn, none_corrupt}
 use Rattle.af_session.specs.NewSession.{IsNewSession}
 use Rattle.af_session.specs.Parties.{PartyState}
 use Rattle.af_session.specs.Rendered.{EndsState}

@@ -1,16 +1,18 @@
 -- Each round spares the tracks whose clients have not poked.
-use Rattle.std.proofs.Common.{◌≡◌, ◌≢◌, ℕ, zero, suc, ◌+◌, ◌<◌, ◌≤◌, ◌&&◌, ◌⊎◌, inl, inr, Bool, true, false, true≢false, if◌then◌else◌, MatchBool, is_some, List, [], ◌∷◌, ◌++◌, length, length-set, map, replicate, slice_get, slice_set, get_or, Option, Some, None, refl, sym, ap, subst, ◌∙◌, ⊎_elim, arith}
+use Rattle.std.proofs.Common.{◌≡◌, ◌≢◌, ℕ, zero, suc, ◌+◌, ◌<◌, ◌≤◌, ◌&&◌, Bool, true, false, true≢false, MatchBool, is_some, List, [], ◌∷◌, ◌++◌, length, map, slice_get, slice_set, get_or, Option, Some, None, refl, sym, ap, subst, ◌∙◌, ⊎_elim, arith}
 use Rattle.std.specs.Prelude.{slice_index_or}
 use Rattle.std.specs.List.{list_all}
 use Rattle.std.proofs.lemmas.Bool.{cases_eq}
 use Rattle.std.proofs.lemmas.List.{get_or-set_same, get_or-set_other, length-replicate, map-append}
 use Rattle.std.proofs.lemmas.List.Folds.{list_all-append}
-use Rattle.std.proofs.lemmas.Option.{none-some, same_Some, slice_get-get_or, slice_get_cases, slice_get_within}
+use Rattle.std.proofs.lemmas.Option.{same_Some, slice_get-get_or, slice_get_cases, slice_get_within}
 use Rattle.af_base.specs.declared.event.ClientCall.{ClientCall}
-use Rattle.af_base.specs.Turn.{Turn, turn_of}
+use Rattle.af_base.specs.declared.frame.Frame.{Frame}
+use Rattle.af_base.specs.declared.log.Cycle.{Cycle}
+use Rattle.af_base.specs.Turn.{Turn}
 use Rattle.af_cblk.specs.Sides.{client_made}
 use Rattle.af_client.specs.Order.{ClientState, IsInOrder as IsClientInOrder, client_kept_of}
-use Rattle.af_journal.specs.ClientTurns.{Track, after_calls}
+use Rattle.af_journal.specs.ClientTurns.{after_calls}
 use Rattle.af_life.specs.declared.kept.TrackKept.{TrackKept}
 use Rattle.af_life.specs.Kept.{is_home, track_at}
 use Rattle.af_link.specs.declared.links.Links.{Links}
@@ -28,12 +30,12 @@ use Rattle.af_session.specs.FastTurns.{IsCycle, IsFastTurn}
 use Rattle.af_session.specs.Hostile.{IsTame, SparesSoFar, all_calls, all_turns, is_spared_in_turn, none_corrupt}
 use Rattle.af_session.specs.Met.{Met, Spot, SpotMet, TrackMet, proxies_of, spot_of}
 use Rattle.af_session.specs.Parties.{PartyState, track_of}
-use Rattle.af_session.specs.Rounds.{ClientTurned, Given, IsReady, IsRound, NormalTurned, fast_round, file_at, no_calls, normal_round, ops_at, still_round, with_ends}
+use Rattle.af_session.specs.Rounds.{Given, IsReady, IsRound, NormalTurned, fast_round, file_at, no_calls, normal_round, ops_at, still_round, with_ends}
 use Rattle.af_session.specs.Shown.{calls_over, turn_in, turns_over}
 use Rattle.af_session.specs.Summaries.{has_no_poke}
-use Rattle.af_session.specs.Together.{AreTogether, SessionState}
+use Rattle.af_session.specs.Together.{SessionState}
 use Rattle.af_session.proofs.FollowingRounds.{EndsKeep, calls_more, empty_at, ends_keep, no_call, turns_more}
-use Rattle.af_session.proofs.MetOpen.{IsAsBefore, IsPartyAsBefore, clients_ended, clients_met, open_met, open_spot, party_met}
+use Rattle.af_session.proofs.MetOpen.{IsPartyAsBefore, clients_ended, clients_met, open_met, open_spot, party_met}
 use Rattle.af_session.proofs.OpenCalls.{AreOpen, AreTame, open_turn, tame_turn}
 use Rattle.af_session.proofs.SparedTurns.{turn_spares}
 
@@ -91,7 +93,7 @@ module _ (rounds : List RoundNoted) (r : RoundNoted) where
 -- ## The clients through the meetings
 
 tame_after : (p q : PartyState) → IsPartyAsBefore p q → IsTame p → IsTame q
-tame_after p q as tame = (as.stream.lawful tame.0, as.command.lawful tame.1)
+tame_after p q known tame = (known.stream.lawful tame.0, known.command.lawful tame.1)
 
 abbrev Follows : SessionState → SessionState → Type 0
 Follows s t = (i : ℕ) (q : PartyState) → slice_get t.clients i ≡ Some q → (p : PartyState) × (slice_get s.clients i ≡ Some p) × (IsTame p → IsTame q)
@@ -107,22 +109,25 @@ follows_same a b same i q is = (q, ap (λ (cs : List PartyState). slice_get cs i
 
 follows_ended : (m : SessionState) → Follows m (with_ends m)
 follows_ended m i q is = let was = clients_ended m i q is in
-    (was.0, was.1, λ tame. (ap (λ (c : ClientState). is_lawful c.pass.part.events) was.2.0 ∙ tame.0, ap (λ (c : ClientState). is_lawful c.pass.part.events) was.2.1 ∙ tame.1))
+    (was.0, was.1, λ tame. (ap (λ (c : ClientState). is_lawful c.pass.part.events) was.2 ∙ tame.0, ap (λ (c : ClientState). is_lawful c.pass.part.events) was.3 ∙ tame.1))
 
--- through the cycles of the fast mixer
+-- through a cycle of the fast mixer, and through its turn
+follows_cycle : (s next : SessionState) (out out' : List Frame) (answer : Cycle) → IsCycle s out answer next out' → Follows s next
+follows_cycle s next out out' answer cycle =
+    let polled : SessionState = record s { fast = cycle.polled } in
+    follows_then s cycle.met next (follows_then s polled cycle.met (follows_same s polled refl) (follows_met polled cycle.met cycle.meets)) (follows_same cycle.met next (ap (λ (x : SessionState). x.clients) cycle.others))
+
+follows_rest : (b : Bool) (next t : SessionState) (goes : Type 0) (back : List ℕ) → (b ≡ true → goes) → (b ≡ false → (back ≡ []) × (t ≡ next)) → (goes → Follows next t) → Follows next t
+follows_rest true next t goes back on off more = more (on refl)
+follows_rest false next t goes back on off more = follows_same next t (ap (λ (x : SessionState). x.clients) (off refl).1)
+
 follows_fast : (count : ℕ) (s : SessionState) (bytes : List ℕ) (t : SessionState) → IsFastTurn count s bytes t → Follows s t
 follows_fast zero s bytes t turn = follows_same s t (ap (λ (x : SessionState). x.clients) turn.1)
 follows_fast (suc left) s bytes t turn =
-    let answer = turn.0 in
     let next : SessionState = turn.1 in
-    let cycle = turn.4.cycle in
-    let polled : SessionState = record s { fast = cycle.polled } in
-    let one : Follows s next = follows_then s cycle.met next (follows_then s polled cycle.met (follows_same s polled refl) (follows_met polled cycle.met cycle.meets)) (follows_same cycle.met next (ap (λ (x : SessionState). x.clients) cycle.others)) in
-    by_mixed (is_mixed answer) refl one
-  where
-    by_mixed : (b : Bool) → is_mixed turn.0 ≡ b → Follows s turn.1 → Follows s t
-    by_mixed true mixed one = follows_then s turn.1 t one (follows_fast left turn.1 turn.3 t (turn.5 mixed))
-    by_mixed false still one = follows_then s turn.1 t one (follows_same turn.1 t (ap (λ (x : SessionState). x.clients) (turn.6 still).1))
+    let wrote = turn.4 in
+    follows_then s next t (follows_cycle s next wrote.before wrote.after turn.0 wrote.cycle)
+    (follows_rest (is_mixed turn.0) next t (IsFastTurn left next turn.3 t) turn.3 turn.6 turn.7 (follows_fast left next turn.3 t))
 
 -- ## A round in which no client made a call and the normal mixer no turn
 
@@ -160,7 +165,7 @@ module _ (links : Links) (g : Given) (n : ℕ) (turned met t : SessionState) (me
   closed i q is =
       let ended = clients_ended met i q (ap (λ (x : SessionState). slice_get x.clients i) (sym ends) ∙ is) in
       let was = clients_met turned met meets i ended.0 ended.1 in
-      record { party = was.0; was = was.1; party' = ended.0; track = was.2; stream = ended.2.0; command = ended.2.1 }
+      record { party = was.0; was = was.1; party' = ended.0; track = was.2; stream = ended.2; command = ended.3 }
 
   -- ## The client of a track made its turn
   module _ (i : ℕ) (q : PartyState) (is : slice_get t.clients i ≡ Some q) (tame : IsTame q) where
@@ -172,14 +177,14 @@ module _ (links : Links) (g : Given) (n : ℕ) (turned met t : SessionState) (me
     open_after p was =
         let z = closed i q is in
         let same : z.party ≡ p = same_Some z.party p (sym z.was ∙ was) in
-        let as = party_met _ _ z.party z.party' z.track in (
+        let known = party_met _ _ z.party z.party' z.track in (
           ap (λ (x : PartyState). (client_kept_of x.stream.pass.part).shut) (sym same)
-              ∙ sym as.stream.kept
+              ∙ sym known.stream.kept
               ∙ ap (λ (c : ClientState). (client_kept_of c.pass.part).shut) (sym z.stream)
               ∙ sym in_order.0.shut_is
               ∙ in_order.0.lawful_open tame.0,
           ap (λ (x : PartyState). (client_kept_of x.command.pass.part).shut) (sym same)
-              ∙ sym as.command.kept
+              ∙ sym known.command.kept
               ∙ ap (λ (c : ClientState). (client_kept_of c.pass.part).shut) (sym z.command)
               ∙ sym in_order.1.shut_is
               ∙ in_order.1.lawful_open tame.1,
@@ -263,8 +268,8 @@ module _ (links : Links) (g : Given) (n : ℕ) (s : SessionState) (before : IsRe
         spared = (λ i p q was is old new. (
             ⊎_elim
             (λ (e : i ≡ j).
-            let open = open_after links g (n + 1) turned round.met t round.meets round.ends after i q is new one.after (ap (slice_get turned.clients) e ∙ at_j) in
-            let all = open_turn (track_of ops file one.before) calls one.legal (subst AreOpen one.turned open) in
+            let fine = open_after links g (n + 1) turned round.met t round.meets round.ends after i q is new one.after (ap (slice_get turned.clients) e ∙ at_j) in
+            let all = open_turn (track_of ops file one.before) calls one.legal (subst AreOpen one.turned fine) in
             ap none_corrupt (ap (calls_in_round r) e ∙ here) ∙ all)
             (λ (ne : i ≢ j). ap none_corrupt (elsewhere i ne))
             (cases_eq i j),

@@ -1,10 +1,9 @@
 -- A turn of the normal mixer spares each track whose client has not poked: by the meetings after it no look at its blocks was Shut.
-use Rattle.std.proofs.Common.{◌≡◌, ℕ, zero, suc, ◌+◌, ◌<◌, ◌≤◌, ◌==◌, ◌&&◌, ◌⊎◌, inl, inr, not, nat_le, Bool, true, false, true≢false, if◌then◌else◌, is_some, fold, List, [], ◌∷◌, ◌++◌, length, map, slice_get, get_or, Option, Some, None, refl, sym, ap, subst, ◌∙◌, ⊎_elim, append-nil, append_assoc, eqb-true, arith}
-use Rattle.std.specs.Prelude.{All, filter, slice_index_or}
-use Rattle.std.specs.List.{AllByRecursion, flat_map, list_all, range_with_len}
+use Rattle.std.proofs.Common.{◌≡◌, ℕ, ◌<◌, ◌≤◌, ◌==◌, ◌&&◌, not, nat_le, Bool, true, false, if◌then◌else◌, is_some, fold, List, [], ◌∷◌, ◌++◌, length, map, slice_get, Option, Some, None, refl, sym, ap, subst, ◌∙◌, append-nil, append_assoc, eqb-true, arith}
+use Rattle.std.specs.List.{AllByRecursion, flat_map, list_all}
 use Rattle.std.proofs.lemmas.Grind.{fold-append}
 use Rattle.std.proofs.lemmas.List.Concat.{flat_map-cons}
-use Rattle.std.proofs.lemmas.Option.{same_Some, slice_get-get_or}
+use Rattle.std.proofs.lemmas.Option.{same_Some}
 use Rattle.af_base.specs.declared.event.ServerEvent.{ServerEvent}
 use Rattle.af_base.specs.declared.event.ServerEvent.TheVariants as server
 use Rattle.af_base.specs.declared.state.Push.{Push}
@@ -42,7 +41,7 @@ use Rattle.af_server.specs.Slot.{listed}
 use Rattle.af_session.specs.Hostile.{is_spared_in_turn, none_shut}
 use Rattle.af_session.specs.Summaries.{take_look, turn_looks}
 use Rattle.af_session.proofs.OneTake.{one_take, taken_is_due}
-use Rattle.af_session.proofs.OpenLooks.{Stay, kept_more, open_commands, open_cycle, shut_after}
+use Rattle.af_session.proofs.OpenLooks.{kept_more, open_commands, open_cycle, shut_after}
 
 false_of : (b : Bool) → not b ≡ true → b ≡ false
 false_of true e = sym e
@@ -62,7 +61,7 @@ module _ (shape : Shape) where
 module _ (c : Setup) (o : Outside) (m : NormalKept) (e : Turn) (goes : GoesOn c o m e) (tracks : List TrackKept) (i : ℕ) (lt : i < length m.tracks) where
   -- where the command proxy isn't shut after its part no look was Shut
   open_served : (s : Listed) → o.commands i ≡ s → (server_kept s.shape (s.events ++ command_events_of c o (track_in e i) tracks i)).shut ≡ None → list_all (λ (l : CommandLook). not (is_shut l.seen)) (track_in e i).looks ≡ true
-  open_served s is open =
+  open_served s is fine =
       let looks = (track_in e i).looks in
       let fronts = o.command_fronts i in
       let first : List ServerEvent = s.events ++ all_command_events (o.commands i) looks fronts in
@@ -76,7 +75,7 @@ module _ (c : Setup) (o : Outside) (m : NormalKept) (e : Turn) (goes : GoesOn c 
       ∙ stay_status s.shape (track_in e i).status (server_kept s.shape (first ++ flags))
       ∙ ap (λ (x : ServerKept). x.shut) (kept_more s.shape first flags)
       ∙ stay_invalid s.shape _ k in
-      let here : (server_kept s.shape first).shut ≡ None = sym whole ∙ ap (λ (es : List ServerEvent). (server_kept s.shape es).shut) (sym apart) ∙ open in
+      let here : (server_kept s.shape first).shut ≡ None = sym whole ∙ ap (λ (es : List ServerEvent). (server_kept s.shape es).shut) (sym apart) ∙ fine in
       let legal = goes.looks i lt in
       (open_commands s looks fronts (subst (λ (x : Listed). LegalLooks x looks fronts) is legal)
       (subst (λ (x : Listed). (server_kept s.shape (s.events ++ all_command_events x looks fronts)).shut ≡ None) is here)).1
@@ -84,32 +83,34 @@ module _ (c : Setup) (o : Outside) (m : NormalKept) (e : Turn) (goes : GoesOn c 
 -- ## The stream's block
 
 -- of the takes of a turn those of one track
+module _ (i : ℕ) (t : TakeSeen) (taken : List TakeSeen) (others : Bool) (rest : list_all (λ (x : TakeSeen). not (is_shut x.slot.seen)) taken ≡ true → others ≡ true) where
+  look_by : (b : Bool) → (t.track == i) ≡ b → list_all (λ (x : TakeSeen). not (is_shut x.slot.seen)) (if b then t ∷ taken else taken) ≡ true → (not ((t.track == i) && is_shut t.slot.seen) && others) ≡ true
+  look_by true is h = both_are (not ((t.track == i) && is_shut t.slot.seen)) others
+      (ap (λ (b : Bool). not (b && is_shut t.slot.seen)) is ∙ both_left (not (is_shut t.slot.seen)) _ h) (rest (both_right (not (is_shut t.slot.seen)) _ h))
+  look_by false is h = both_are (not ((t.track == i) && is_shut t.slot.seen)) others (ap (λ (b : Bool). not (b && is_shut t.slot.seen)) is) (rest h)
+
 looks_from : (i : ℕ) (takes : List TakeSeen) → list_all (λ (t : TakeSeen). not (is_shut t.slot.seen)) (takes_from takes i) ≡ true → none_shut i (map take_look takes) ≡ true
 looks_from i [] all = refl
-looks_from i (t ∷ takes) all = by_track (t.track == i) refl all
-    where
-      by_track : (b : Bool) → (t.track == i) ≡ b → list_all (λ (x : TakeSeen). not (is_shut x.slot.seen)) (if b then t ∷ takes_from takes i else takes_from takes i) ≡ true → (not ((t.track == i) && is_shut t.slot.seen) && none_shut i (map take_look takes)) ≡ true
-      by_track true is h = both_are (not ((t.track == i) && is_shut t.slot.seen)) _
-      (ap (λ (b : Bool). not (b && is_shut t.slot.seen)) is ∙ both_left (not (is_shut t.slot.seen)) _ h) (looks_from i takes (both_right (not (is_shut t.slot.seen)) _ h))
-      by_track false is h = both_are (not ((t.track == i) && is_shut t.slot.seen)) _ (ap (λ (b : Bool). not (b && is_shut t.slot.seen)) is) (looks_from i takes h)
+looks_from i (t ∷ takes) all = look_by i t (takes_from takes i) (none_shut i (map take_look takes)) (looks_from i takes) (t.track == i) refl all
 
 -- each take of the track is legal
+legal_by : (c : Setup) (o : Outside) (i : ℕ) (t : TakeSeen) (taken : List TakeSeen) → LegalTake c o t → AllByRecursion (λ (x : TakeSeen). (x.track ≡ i) × LegalTake c o x) taken
+    → (b : Bool) → (t.track == i) ≡ b → AllByRecursion (λ (x : TakeSeen). (x.track ≡ i) × LegalTake c o x) (if b then t ∷ taken else taken)
+legal_by c o i t taken legal rest true is = ((eqb-true t.track i is, legal), rest)
+legal_by c o i t taken legal rest false is = rest
+
 legal_from : (c : Setup) (o : Outside) (i : ℕ) (takes : List TakeSeen) → AllByRecursion (LegalTake c o) takes → AllByRecursion (λ (t : TakeSeen). (t.track ≡ i) × LegalTake c o t) (takes_from takes i)
 legal_from c o i [] all = tt
-legal_from c o i (t ∷ takes) all = by_track (t.track == i) refl
-    where
-      by_track : (b : Bool) → (t.track == i) ≡ b → AllByRecursion (λ (x : TakeSeen). (x.track ≡ i) × LegalTake c o x) (if b then t ∷ takes_from takes i else takes_from takes i)
-      by_track true is = ((eqb-true t.track i is, all.0), legal_from c o i takes all.1)
-      by_track false is = legal_from c o i takes all.1
+legal_from c o i (t ∷ takes) all = legal_by c o i t (takes_from takes i) all.0 (legal_from c o i takes all.1) (t.track == i) refl
 
 module _ (c : Setup) (o : Outside) (i : ℕ) (s : Listed) (is : o.streams i ≡ s) (flags : List ServerEvent) (calm : (k : ServerKept) → (shut_after s.shape k flags ≡ k.shut) × (fold (server_keeps s.shape) k flags ≡ k)) where
   -- where the stream's proxy isn't shut after the one take of its track that look wasn't Shut
   open_takes : (takes : List TakeSeen) → length takes ≤ 1 → AllByRecursion (λ (t : TakeSeen). (t.track ≡ i) × LegalTake c o t) takes
       → (server_kept s.shape (s.events ++ (flags ++ flat_map (λ (t : TakeSeen). cycle_events (asked c) (o.streams i) t.slot (o.stream_front i)) takes))).shut ≡ None
       → list_all (λ (t : TakeSeen). not (is_shut t.slot.seen)) takes ≡ true
-  open_takes [] few legal open = refl
-  open_takes (t ∷ u ∷ takes) few legal open = absurd (omega (arith, few))
-  open_takes (t ∷ []) few legal open =
+  open_takes [] few legal fine = refl
+  open_takes (t ∷ u ∷ takes) few legal fine = absurd (omega (arith, few))
+  open_takes (t ∷ []) few legal fine =
       let f = λ (x : TakeSeen). cycle_events (asked c) (o.streams i) x.slot (o.stream_front i) in
       let events : List ServerEvent = cycle_events (asked c) s t.slot (o.stream_front i) in
       let one : flat_map f (t ∷ []) ≡ events = flat_map-cons f t [] ∙ append-nil (f t) ∙ ap (λ (x : Listed). cycle_events (asked c) x t.slot (o.stream_front i)) is in
@@ -121,7 +122,7 @@ module _ (c : Setup) (o : Outside) (i : ℕ) (s : Listed) (is : o.streams i ≡ 
       ∙ ap (λ (x : ServerKept). shut_after s.shape x events) (calm k).1 in
       let looks = legal.0.1.looks in
       let looks_here = subst (λ (x : ℕ × Listed). LooksBy (asked c) x.1 t.slot (o.stream_front x.0)) (λ j. (legal.0.0 j, (ap o.streams legal.0.0 ∙ is) j)) looks in
-      let found = open_cycle (asked c) s t.slot (o.stream_front i) looks_here (sym whole ∙ open) in
+      let found = open_cycle (asked c) s t.slot (o.stream_front i) looks_here (sym whole ∙ fine) in
       both_are (not (is_shut t.slot.seen)) true (ap not found.1) refl
 
 keeps_flags : (shape : Shape) (b d : Bool) (k : ServerKept) → (shut_after shape k (if b then (if d then server.SetFlags 4 ∷ [] else []) else []) ≡ k.shut) × (fold (server_keeps shape) k (if b then (if d then server.SetFlags 4 ∷ [] else []) else []) ≡ k)
@@ -153,7 +154,7 @@ module _ (links : Links) (x y : NormalState) (order : IsInOrder links x) (o : Ou
 
   -- the looks at the commands
   pub commands_spared : (s t : ServerState) → slice_get x.commands i ≡ Some s → slice_get y.commands i ≡ Some t → (server_kept_of t.pass.part).shut ≡ None → list_all (λ (l : CommandLook). not (is_shut l.seen)) (track_in e i).looks ≡ true
-  commands_spared s t was is open = by_end e.ended refl
+  commands_spared s t was is fine = by_end e.ended refl
     where
       grown : (u : ServerState) × (slice_get y.commands i ≡ Some u) × Adds s (command_list c o e before_serving i) (words_taken (track_in e i).looks) u
       grown = legal.lists.commands i s was
@@ -167,11 +168,11 @@ module _ (links : Links) (x y : NormalState) (order : IsInOrder links x) (o : Ou
           let list = ap (λ (z : ServerState). z.pass.part.events) same ∙ grown.2.list ∙ ap (λ (b : Bool). s.pass.part.events ++ (if b then [] else command_events_of c o (track_in e i) before_serving i)) ended in
           let shape = ap (λ (z : ServerState). z.pass.part.shape) same ∙ grown.2.shape in
           open_served c o m e (legal.legal.goes_on ended) before_serving i lt (listed s) (legal.commands i s was)
-          (subst (λ (z : Shape × List ServerEvent). (server_kept z.0 z.1).shut ≡ None) (λ j. (shape j, list j)) open)
+          (subst (λ (z : Shape × List ServerEvent). (server_kept z.0 z.1).shut ≡ None) (λ j. (shape j, list j)) fine)
 
   -- the takes from its stream, where the proxy is home
   pub takes_spared : (t : ServerState) → stream_at y.streams i ≡ Some t → (server_kept_of t.pass.part).shut ≡ None → none_shut i (turn_looks e) ≡ true
-  takes_spared t is open = by_end e.ended refl
+  takes_spared t is fine = by_end e.ended refl
     where
       grown : GoesOnFrom (o.streams i) (stream_list c o e before_serving i) t
       grown = legal.lists.streams i t is
@@ -188,7 +189,7 @@ module _ (links : Links) (x y : NormalState) (order : IsInOrder links x) (o : Ou
           let one = one_take (λ (j : ℕ). is_mixed_here (track_at (after_edits c (learnt o) e m).tracks j)) (length (after_edits c (learnt o) e m).tracks) i e.mixes (nat_le (asked c) e.room) goes.due in
           looks_from i e.mixes
           (open_takes c o i s refl flags (keeps_flags s.shape home flagged) (takes_from e.mixes i) one (legal_from c o i e.mixes goes.takes)
-          (subst (λ (z : Shape × List ServerEvent). (server_kept z.0 z.1).shut ≡ None) (λ j. (grown.1 j, list j)) open))
+          (subst (λ (z : Shape × List ServerEvent). (server_kept z.0 z.1).shut ≡ None) (λ j. (grown.1 j, list j)) fine))
 
   -- where some were taken its proxy is home afterwards
   same_tracks : (push : Push) (n : NormalKept) → (after_push push n).tracks ≡ n.tracks
@@ -228,7 +229,7 @@ module _ (links : Links) (x y : NormalState) (order : IsInOrder links x) (o : Ou
   -- the turn spares the track, where its command proxy isn't shut, nor its stream's where that is home
   pub turn_spares : (s t : ServerState) → slice_get x.commands i ≡ Some s → slice_get y.commands i ≡ Some t → (server_kept_of t.pass.part).shut ≡ None
       → (is_home (track_at y.tracks i).holder ≡ true → (u : ServerState) × (stream_at y.streams i ≡ Some u) × ((server_kept_of u.pass.part).shut ≡ None)) → is_spared_in_turn i e ≡ true
-  turn_spares s t was is open home = both_are (list_all (λ (l : CommandLook). not (is_shut l.seen)) (track_in e i).looks) (none_shut i (turn_looks e)) (commands_spared s t was is open) (by_takes (takes_from e.mixes i) refl)
+  turn_spares s t was is fine home = both_are (list_all (λ (l : CommandLook). not (is_shut l.seen)) (track_in e i).looks) (none_shut i (turn_looks e)) (commands_spared s t was is fine) (by_takes (takes_from e.mixes i) refl)
     where
       by_takes : (ts : List TakeSeen) → takes_from e.mixes i ≡ ts → none_shut i (turn_looks e) ≡ true
       by_takes [] none = looks_from i e.mixes (ap (list_all (λ (t : TakeSeen). not (is_shut t.slot.seen))) none)
