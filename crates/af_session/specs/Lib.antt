@@ -15,3 +15,4 @@ pub mod Summaries
 pub mod Tallies
 pub mod Shown
 pub mod Rendered
+pub mod Hostile
