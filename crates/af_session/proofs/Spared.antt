@@ -13,13 +13,13 @@ use Rattle.af_cblk.specs.declared.view.ClientPart.{ClientPart}
 use Rattle.af_script.specs.Data.{ScriptData}
 use Rattle.af_server.specs.Order.{ServerState}
 use Rattle.af_stateq.specs.Laws.{pushed_states}
-use Rattle.af_session.specs.Hostile.{IsTame, PokesSpareOthers, SparesSoFar, all_calls, all_turns, is_spared_in_turn, none_corrupt}
+use Rattle.af_session.specs.Hostile.{IsSpared, IsTame, PokesSpareOthers, SparesSoFar, all_calls, all_turns, is_spared_in_turn, none_corrupt}
 use Rattle.af_session.specs.NewSession.{IsNewSession}
 use Rattle.af_session.specs.Parties.{PartyState}
 use Rattle.af_session.specs.Rendered.{EndsState}
 use Rattle.af_session.specs.Shares.{SharedState}
 use Rattle.af_session.specs.Shown.{calls_over, shown_by, shown_in, shows}
-use Rattle.af_session.specs.Summaries.{Shown, calls_of, has_no_poke}
+use Rattle.af_session.specs.Summaries.{Shown, calls_of, has_no_poke, is_lawful as is_unpoked}
 use Rattle.af_session.specs.Together.{SessionState}
 use Rattle.af_session.proofs.FollowingRounds.{shows_tracks}
 use Rattle.af_session.proofs.ShownWhole.{shown_journal}
@@ -51,12 +51,15 @@ module _ (states : List FastState) (len tracks : ℕ) (rounds : List RoundNoted)
   unfolding shows
   turns_shown = refl
 
-  spares_run : (s : SessionState) → length s.clients ≡ tracks → SparesSoFar rounds s → PokesSpareOthers run
-  spares_run s long so_far i within calm =
+  spared_run : (s : SessionState) → length s.clients ≡ tracks → SparesSoFar rounds s → (i : ℕ) → i < length run.calls → is_unpoked run i ≡ true → IsSpared run i
+  spared_run s long so_far i within calm =
       let lt : i < tracks = omega (arith, within, shows_tracks states len tracks (map (λ (r : RoundNoted). r.calls) rounds) (map (λ (r : RoundNoted). r.turn) rounds) log.frames log.entries) in
       let same = calls_shown i lt in
       let spared = so_far.spared i (omega (arith, lt, long)) (ap has_no_poke (sym same) ∙ calm) in
       record { calls = ap none_corrupt same ∙ spared.0; turns = ap (list_all (is_spared_in_turn i)) turns_shown ∙ spared.1 }
+
+  spares_run : (s : SessionState) → length s.clients ≡ tracks → SparesSoFar rounds s → PokesSpareOthers run
+  spares_run s long so_far = record { each = spared_run s long so_far }
 
 -- by rounds noted and the log
 pub spares_noted : (len : ℕ) (noted : RoundsNoted) (log : Logged) (events : List (MutatorEvent ServerState)) (s : SessionState) → length s.clients ≡ noted.tracks → SparesSoFar noted.rounds s → PokesSpareOthers (shown_in len noted log events)

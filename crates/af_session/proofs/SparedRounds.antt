@@ -266,15 +266,15 @@ module _ (links : Links) (g : Given) (n : ℕ) (s : SessionState) (before : IsRe
             (λ (ne : i ≢ j). (was.0, sym (get_set_other s.clients j i one.after ne) ∙ ap (λ (cs : List PartyState). slice_get cs i) (sym clients) ∙ was.1, λ calm tame. was.2 tame))
             (cases_eq i j));
         spared = (λ i p q was is old new. (
-            ⊎_elim
-            (λ (e : i ≡ j).
-            let fine = open_after links g (n + 1) turned round.met t round.meets round.ends after i q is new one.after (ap (slice_get turned.clients) e ∙ at_j) in
-            let all = open_turn (track_of ops file one.before) calls one.legal (subst AreOpen one.turned fine) in
-            ap none_corrupt (ap (calls_in_round r) e ∙ here) ∙ all)
-            (λ (ne : i ≢ j). ap none_corrupt (elsewhere i ne))
-            (cases_eq i j),
-            ap (λ (x : RoundNoted). list_all (is_spared_in_turn i) (turn_in x.turn)) r_is,
-          ));
+          ⊎_elim
+              (λ (e : i ≡ j).
+              let fine = open_after links g (n + 1) turned round.met t round.meets round.ends after i q is new one.after (ap (slice_get turned.clients) e ∙ at_j) in
+              let all = open_turn (track_of ops file one.before) calls one.legal (subst AreOpen one.turned fine) in
+              ap none_corrupt (ap (calls_in_round r) e ∙ here) ∙ all)
+              (λ (ne : i ≢ j). ap none_corrupt (elsewhere i ne))
+              (cases_eq i j),
+          ap (λ (x : RoundNoted). list_all (is_spared_in_turn i) (turn_in x.turn)) r_is,
+        ));
       }
 
   normal_spares : (r : RoundNoted) (round : IsRound g spec.Normal s r bytes t) → RoundSpares r s t
@@ -293,16 +293,16 @@ module _ (links : Links) (g : Given) (n : ℕ) (s : SessionState) (before : IsRe
           subst (λ (x : RoundNoted). RoundSpares x s t) (sym r_is) (record {
             tame = (λ i q is. let was = close i q is in (was.0, ap (λ (cs : List PartyState). slice_get cs i) (sym clients) ∙ was.1, λ calm tame. was.2 tame));
             spared = (λ i p q was is old new. (
-                ap none_corrupt (quiet_calls s i),
-                (let here : slice_get turned.clients i ≡ Some p = ap (λ (cs : List PartyState). slice_get cs i) clients ∙ was in
-                let lt : i < length s.normal.tracks = omega (arith, slice_get_within s.clients i p was, before.together.count) in
-                let command = command_open links g (n + 1) turned round.met t round.meets round.ends after i q is p here old in
-                let stream = stream_open links g (n + 1) turned round.met t round.meets round.ends after i q is p here old in
-                let inside : i < length s.normal.commands = omega (arith, lt, before.together.normal.tied.sizes.commands_are) in
-                let first : ServerState = get_or s.normal.commands i command.0 in
-                let spares = turn_spares links s.normal turned.normal before.together.normal one.outside one.legal i lt first command.0 (slice_get-get_or s.normal.commands i command.0 inside) command.1 command.2 stream in
-                both_are (is_spared_in_turn i e) true (ap (is_spared_in_turn i) one.told ∙ spares) refl),
-              ));
+              ap none_corrupt (quiet_calls s i),
+              (let here : slice_get turned.clients i ≡ Some p = ap (λ (cs : List PartyState). slice_get cs i) clients ∙ was in
+                  let lt : i < length s.normal.tracks = omega (arith, slice_get_within s.clients i p was, before.together.count) in
+                  let command = command_open links g (n + 1) turned round.met t round.meets round.ends after i q is p here old in
+                  let stream = stream_open links g (n + 1) turned round.met t round.meets round.ends after i q is p here old in
+                  let inside : i < length s.normal.commands = omega (arith, lt, before.together.normal.tied.sizes.commands_are) in
+                  let first : ServerState = get_or s.normal.commands i command.0 in
+                  let spares = turn_spares links s.normal turned.normal before.together.normal one.outside one.legal i lt first command.0 (slice_get-get_or s.normal.commands i command.0 inside) command.1 command.2 stream in
+                  both_are (is_spared_in_turn i e) true (ap (is_spared_in_turn i) one.told ∙ spares) refl),
+            ));
           })
 
   fast_spares : (count : ℕ) (r : RoundNoted) (round : IsRound g (spec.Fast count) s r bytes t) → RoundSpares r s t

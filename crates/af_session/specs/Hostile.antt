@@ -37,8 +37,8 @@ pub record IsSpared (run : Shown) (i : ℕ) : Type 0 where
   pub turns : list_all (is_spared_in_turn i) run.turns ≡ true
 
 -- Whatever the clients stored in their words, each track on whose blocks no poke was performed is spared
-abbrev pub PokesSpareOthers : Shown → Type 0
-PokesSpareOthers run = (i : ℕ) → i < length run.calls → is_lawful run i ≡ true → IsSpared run i
+pub record PokesSpareOthers (run : Shown) : Type 0 where
+  pub each : (i : ℕ) → i < length run.calls → is_lawful run i ≡ true → IsSpared run i
 
 -- ## While the run goes on
 
