@@ -48,7 +48,7 @@ empty_at (suc n) zero = refl
 empty_at (suc n) (suc i) = empty_at n i
 
 -- a client's calls over one round more
-pub calls_more : (calls : AllCalls) (more : List (List ClientCall)) (i : ℕ) → calls_over (calls ++ more ∷ []) i ≡ calls_over calls i ++ slice_index_or more i []
+calls_more : (calls : AllCalls) (more : List (List ClientCall)) (i : ℕ) → calls_over (calls ++ more ∷ []) i ≡ calls_over calls i ++ slice_index_or more i []
 calls_more calls more i =
     let pick : List (List ClientCall) → List ClientCall = λ c. slice_index_or c i [] in
     flat_map-append pick calls (more ∷ []) ∙ ap (λ (xs : List ClientCall). calls_over calls i ++ xs) (flat_map-cons pick more [] ∙ append-nil (slice_index_or more i []))
@@ -59,7 +59,7 @@ calls_still calls n tracks = map_same (calls_over (calls ++ replicate n [] ∷ [
     (λ i lt. calls_more calls (replicate n []) i ∙ ap (λ (xs : List ClientCall). calls_over calls i ++ xs) (empty_at n i) ∙ append-nil (calls_over calls i))
 
 -- the turns of one round more
-pub turns_more : (turns : List (Option Turn)) (turn : Option Turn) → turns_over (turns ++ turn ∷ []) ≡ turns_over turns ++ turn_in turn
+turns_more : (turns : List (Option Turn)) (turn : Option Turn) → turns_over (turns ++ turn ∷ []) ≡ turns_over turns ++ turn_in turn
 turns_more turns turn = flat_map-append turn_in turns (turn ∷ []) ∙ ap (λ (xs : List Turn). turns_over turns ++ xs) (flat_map-cons turn_in turn [] ∙ append-nil (turn_in turn))
 
 turns_still : (turns : List (Option Turn)) → turns_over (turns ++ None ∷ []) ≡ turns_over turns

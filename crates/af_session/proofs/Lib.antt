@@ -36,10 +36,3 @@ mod FilesGiven
 mod Following
 mod FollowingRounds
 mod ShownWhole
-mod OpenCalls
-mod OpenLooks
-mod OneTake
-mod MetOpen
-mod SparedTurns
-mod SparedRounds
-mod Spared

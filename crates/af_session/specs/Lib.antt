@@ -15,4 +15,3 @@ pub mod Summaries
 pub mod Tallies
 pub mod Shown
 pub mod Rendered
-pub mod Hostile

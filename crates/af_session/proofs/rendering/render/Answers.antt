@@ -7,7 +7,6 @@ use Rattle.af_session.specs.Rendered.{EndsState, LeavesSound}
 use Rattle.af_session.specs.Sound.{journal_pcm, pcm_of}
 use Rattle.af_session.proofs.JournalSound.{journal_sounds}
 use Rattle.af_session.proofs.ShownWhole.{is_told, tally_tracks}
-use Rattle.af_session.proofs.Spared.{spares_told}
 use Rattle.af_session.proofs.Outgoing.{cause_memory, cause_ok, cause_store, on_err}
 use Rattle.af_session.proofs.rendering.render.Goals as goal
 
@@ -93,10 +92,3 @@ sum_up-summary-requires-clause-count g c =
     let noted : RoundsNoted = c.play_new.new.rounds in
     let parties = c.play_new.new.parties in
     tally_tracks c.args.script.now.frames noted parties.fast.log parties.normal.mutator.past.events c.play_new.new.tally c.in_ok-play_new.ensures.tally ∙ c.in_ok-play_new.ensures.tracks ∙ sym c.in_ok-play_new.ensures.count
-
-pub returns-clause-spared : goal.returns-clause-spared
-returns-clause-spared g c =
-    let noted : RoundsNoted = c.play_new.new.rounds in
-    let parties = c.play_new.new.parties in
-    spares_told c.args.script.now.frames noted parties.fast.log parties.normal.mutator.past.events c.hand_back.result.journal c.hand_back.result.ends c.in_ok-play_new.ensures.whole c.hand_back.ensures.journal
-    (ap (λ (e : EndsState). e.normal.mutator.past.events) c.hand_back.ensures.ends) c.in_ok-play_new.ensures.spared
