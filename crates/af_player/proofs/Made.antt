@@ -11,10 +11,10 @@ use Rattle.af_session.specs.declared.rendering.SessionFault.TheVariants as sessi
 use Rattle.af_player.specs.declared.deliver.Output.{Output}
 use Rattle.af_player.specs.declared.status.Refusal.{Refusal}
 use Rattle.af_player.specs.declared.status.Stop.{Stop}
-use Rattle.af_player.specs.declared.status.Stop.TheVariants.{Refused, Store, Memory}
+use Rattle.af_player.specs.declared.status.Stop.TheVariants.{Refused, Limit, Store, Memory}
 use Rattle.af_player.specs.Asked.{◌>>=◌, Job}
 use Rattle.af_player.specs.Asking.{output_job}
-use Rattle.af_player.specs.Ends.{LeavesWork, IsWhole, IsCutOff, Makes, Renders, PrintsFront, PrintsWhole, PrintsCut}
+use Rattle.af_player.specs.Ends.{LeavesWork, IsOver, IsCutOff, Makes, Renders, PrintsFront, PrintsWhole, PrintsCut}
 use Rattle.af_player.specs.Status.{Meets, session_stop, stop_of}
 
 -- files of which none has changed
@@ -30,12 +30,14 @@ IsCutOff-same (Err refusal) old new same = same
 -- nothing was done
 pub Makes-stopped : {X : Type 0} (view : X → Job) (e : Stop) (asked : Result Job Refusal) (old new : Files) → Meets view (Err e) asked → SameFiles old new → Makes (Err e) asked old new
 Makes-stopped view (Refused refusal) asked old new told same = (told, same)
+Makes-stopped view (Limit cycles) asked old new told same = absurd told
 Makes-stopped view Store asked old new told same = IsCutOff-same asked old new same
 Makes-stopped view Memory asked old new told same = IsCutOff-same asked old new same
 
 -- the same where more would have followed
 pub Makes-stopped_before : {X Y : Type 0} (view : X → Y) (e : Stop) (told : Result Y Refusal) (next : Y → Result Job Refusal) (old new : Files) → Meets view (Err e) told → SameFiles old new → Makes (Err e) (told >>= next) old new
 Makes-stopped_before {X} {Y} view (Refused refusal) told next old new is same = (ap (λ (r : Result Y Refusal). r >>= next) is, same)
+Makes-stopped_before view (Limit cycles) told next old new is same = absurd is
 Makes-stopped_before view Store told next old new is same = IsCutOff-same (told >>= next) old new same
 Makes-stopped_before view Memory told next old new is same = IsCutOff-same (told >>= next) old new same
 
@@ -44,9 +46,9 @@ pub IsCutOff-made : (asked : Result Job Refusal) (line : String Global) (old new
 IsCutOff-made (Ok job) line old new made = inr (string_bytes line, made)
 IsCutOff-made (Err refusal) line old new made = absurd made
 
-pub IsWhole-made : (asked : Result Job Refusal) (line : String Global) (old new : Files) → Makes (Ok line) asked old new → IsWhole asked old new
-IsWhole-made (Ok job) line old new made = (string_bytes line, made)
-IsWhole-made (Err refusal) line old new made = absurd made
+pub IsOver-made : (asked : Result Job Refusal) (line : String Global) (old new : Files) → Makes (Ok line) asked old new → IsOver asked old new
+IsOver-made (Ok job) line old new made = (string_bytes line, inl made)
+IsOver-made (Err refusal) line old new made = absurd made
 
 pub Renders-made : (X : Type 0) (x : X) (asked : Result Job Refusal) (line : String Global) (old new : Files) → Makes (Ok line) asked old new → Renders {X = X} (Ok x) asked old new
 Renders-made X x (Ok job) line old new made = (string_bytes line, made)
@@ -57,13 +59,14 @@ PrintsWhole-made (Ok job) line old new before after made printed = (string_bytes
 PrintsWhole-made (Err refusal) line old new before after made printed = absurd made
 
 pub PrintsCut-made : (asked : Result Job Refusal) (line : String Global) (old new : Files) (before after : List ℕ) → Makes (Ok line) asked old new → PrintsFront (string_bytes line) before after → PrintsCut asked old new before after
-PrintsCut-made (Ok job) line old new before after made printed = (string_bytes line, made, printed)
+PrintsCut-made (Ok job) line old new before after made printed = (string_bytes line, inl made, printed)
 PrintsCut-made (Err refusal) line old new before after made printed = absurd made
 
 -- a session was not played to its end
 pub Makes-unplayed : (f : SessionFault) (job : Job) (old new : Files) → LeavesWork job.work job.target (with_files old job.first) new → Makes (Err (session_stop f)) (Ok job) old new
 Makes-unplayed session.Store job old new left = inl (inr left)
 Makes-unplayed session.Memory job old new left = inl (inr left)
+Makes-unplayed (session.CycleLimit journal ends) job old new left = inl (inr left)
 
 -- the output could not be written
 pub Makes-unwritten : (e : StoreError) (job : Job) (old new : Files) → LeavesWork job.work job.target (with_files old job.first) new → Makes (Err (stop_of e)) (Ok job) old new
@@ -77,7 +80,7 @@ pub Makes-delivered : (output : Output) (line : String Global) (asked : Result J
     → Makes (Ok line) asked old new
 Makes-delivered output line asked target old mid new is same line_is set =
     let here : SetsFile old target (Some output.bytes.items) new = subst (λ (files : Files). SetsFile files target (Some output.bytes.items) new) (files_are old mid same) set in
-    subst (λ (told : Result Job Refusal). Makes (Ok line) told old new) (sym is) (output.bytes.items, (refl, ap string_bytes line_is), here)
+    subst (λ (told : Result Job Refusal). Makes (Ok line) told old new) (sym is) (ap string_bytes line_is, here)
 
 -- it was not
 pub Makes-undelivered : (output : Output) (e : StoreError) (asked : Result Job Refusal) (target : List ℕ) (old mid new : Files) → asked ≡ Ok (output_job target output) → SameFiles old mid → LeavesFront mid target output.bytes.items new

@@ -4,7 +4,8 @@ use Rattle.std.specs.declared.alloc.Global.{Global}
 use Rattle.af_model.specs.Journals.{JournalData}
 use Rattle.af_io.specs.Files.{Files, SetsFile}
 use Rattle.af_session.specs.declared.summary.Summary.{Summary}
-use Rattle.af_session.specs.Rendered.{EndsState, HandsBack}
+use Rattle.af_session.specs.Ends.{EndsState}
+use Rattle.af_session.specs.Rendered.{HandsBack}
 use Rattle.af_session.specs.Shown.{summary_told}
 use Rattle.af_session.specs.Sound.{journal_pcm}
 use Rattle.af_player.specs.declared.status.Refusal.{Refusal}

@@ -18,7 +18,7 @@ use Rattle.af_player.specs.declared.status.Role.TheVariants as role
 use Rattle.af_player.specs.declared.status.Why.TheVariants.{Missing, Long, Ragged, Short, Total}
 use Rattle.af_player.specs.declared.request.Sizes.{Sizes}
 use Rattle.af_player.specs.declared.request.Turns.{Turns}
-use Rattle.af_player.specs.Requests.{Request, Render, Record, Loop, Generate, request_of}
+use Rattle.af_player.specs.Requests.{Request, Render, Record, Loop, Generate, Play, request_of}
 use Rattle.af_player.specs.Recorded.{heard, recorded, counts_of}
 use Rattle.af_player.specs.Looped.{most_buffer, looped, rolls_of}
 use Rattle.af_player.specs.Generated.{generated_files, generated_frames}
@@ -34,10 +34,11 @@ Err refusal >>= next = Err refusal
 abbrev pub then_cons : {X : Type 0} → X → Result (List X) Refusal → Result (List X) Refusal
 then_cons x rest = rest >>= (λ xs. Ok (x ∷ xs))
 
--- what is to be made: these bytes and this line, or what the turns of a script come to with the frames of its tracks' files
+-- what is to be made: these bytes and this line, or what the turns of a script come to with the frames of its tracks' files, or what its parties come to in rounds, with the journal in a file of this name
 pub data Work : Type 0 where
   Exact : List ℕ → List ℕ → Work
   Session : ScriptData → List (List Frame) → Work
+  Rounds : ScriptData → List (List Frame) → List ℕ → Work
 
 -- the files that are made first, the output's name, and what is to be made
 pub record Job : Type 0 where
@@ -111,6 +112,10 @@ loaded_of files name = loaded role.Script most_script (files name) >>= (λ bytes
 abbrev pub session_job : List ℕ → Loaded → Job
 session_job target l = record { first = []; target = target; work = Session l.script l.files }
 
+-- a script is played in rounds, with its journal in a file of this name
+abbrev pub play_job : List ℕ → List ℕ → Loaded → Job
+play_job target journal l = record { first = []; target = target; work = Rounds l.script l.files journal }
+
 -- ## Recordings and loops
 
 -- the frames of a file that is recorded
@@ -150,6 +155,10 @@ generated_job number script target = record { first = generated_files number scr
 abbrev pub render_asked : Files → List ℕ → List ℕ → Result Job Refusal
 render_asked files script target = loaded_of files script >>= (λ l. Ok (session_job target l))
 
+-- what is made of a script that is played, for an output and a journal of these names
+abbrev pub play_asked : Files → List ℕ → List ℕ → List ℕ → Result Job Refusal
+play_asked files script target journal = loaded_of files script >>= (λ l. Ok (play_job target journal l))
+
 -- what is made of a file that is recorded
 abbrev pub record_asked : Files → List ℕ → List ℕ → Sizes → Result Job Refusal
 record_asked files input target sizes = recorded_from files input >>= (λ frames. Ok (record_job target sizes frames))
@@ -164,6 +173,7 @@ job_of files (Render script target) = render_asked files script target
 job_of files (Record input target sizes) = record_asked files input target sizes
 job_of files (Loop input target turns) = loop_asked files input target turns
 job_of files (Generate number script target) = Ok (generated_job number script target)
+job_of files (Play script target journal) = play_asked files script target journal
 
 -- what the words ask for
 abbrev pub asked_of : Files → List (List ℕ) → Result Job Refusal

@@ -8,16 +8,22 @@ use Rattle.af_player.specs.declared.request.Sizes.{Sizes}
 use Rattle.af_player.specs.declared.request.Turns.{Turns}
 use Rattle.af_player.specs.Dash.{begins_dash}
 
--- a script and an output to render it to; a file to record, an output, and the sizes of the recording; a file to loop, an output, and the turns of the loop; the number of a session, a file for its script, and an output
+-- a script and an output to render it to; a file to record, an output, and the sizes of the recording; a file to loop, an output, and the turns of the loop; the number of a session, a file for its script, and an output; a script, an output to play it to, and a file for its journal
 pub data Request : Type 0 where
   Render : List ℕ → List ℕ → Request
   Record : List ℕ → List ℕ → Sizes → Request
   Loop : List ℕ → List ℕ → Turns → Request
   Generate : ℕ → List ℕ → List ℕ → Request
+  Play : List ℕ → List ℕ → List ℕ → Request
 
 -- two names of files that differ
 abbrev pub two_names : List ℕ → List ℕ → Option (List ℕ × List ℕ)
 two_names first second = if (is_name first && is_name second) && not (bytes_eq first second) then Some (first, second) else None
+
+-- three names of files, no two alike
+abbrev pub are_three_names : List ℕ → List ℕ → List ℕ → Bool
+are_three_names first second third =
+    ((((is_name first && is_name second) && is_name third) && not (bytes_eq first second)) && not (bytes_eq first third)) && not (bytes_eq second third)
 
 -- the sizes that these words spell: room for 1 to 8192 frames, and 1 to 1024 frames in each supply and each read
 abbrev pub sizes_of : List ℕ → List ℕ → List ℕ → Option Sizes
@@ -64,6 +70,11 @@ abbrev pub generate_request : List (List ℕ) → Option Request
 generate_request (number ∷ script ∷ target ∷ []) = option_and_then (λ n. option_map (λ names. Generate n names.0 names.1) (free_names script target)) (number_of number)
 generate_request words = None
 
+-- `play SCRIPT OUT JOURNAL`
+abbrev pub play_request : List (List ℕ) → Option Request
+play_request (script ∷ target ∷ journal ∷ []) = if are_three_names script target journal then Some (Play script target journal) else None
+play_request words = None
+
 -- the command and its words
 abbrev pub command_request : List (List ℕ) → Option Request
 command_request [] = None
@@ -72,6 +83,7 @@ command_request (command ∷ words) =
     else if bytes_eq command (codes "record") then record_request words
     else if bytes_eq command (codes "loop") then loop_request words
     else if bytes_eq command (codes "generate") then generate_request words
+    else if bytes_eq command (codes "play") then play_request words
     else None
 
 -- the request of words none of which begins with `-`

@@ -4,7 +4,8 @@ use Rattle.af_base.specs.declared.frame.Frame.{Frame}
 use Rattle.af_model.specs.Journals.{JournalData}
 use Rattle.af_script.specs.Data.{ScriptData}
 use Rattle.af_session.specs.declared.summary.Summary.{Summary}
-use Rattle.af_session.specs.Rendered.{EndsState, HandsBack}
+use Rattle.af_session.specs.Ends.{EndsState}
+use Rattle.af_session.specs.Rendered.{HandsBack}
 use Rattle.af_session.specs.Shown.{summary_told}
 use Rattle.af_session.specs.Sound.{journal_pcm}
 use Rattle.af_session.specs.Summaries.{summary_text}

@@ -13,7 +13,7 @@ use af_session::Summary;
 use std::alloc::{AllocError, Global};
 
 /// The line of a summary.
-fn summary_line(alloc: Global, summary: &Summary) -> Result<String, AllocError>
+pub fn summary_line(alloc: Global, summary: &Summary) -> Result<String, AllocError>
     ensures { IfOk result (λ line. string_bytes line ≡ summary_line summary.now) }
 {
     format!(in alloc; "{summary}\n")

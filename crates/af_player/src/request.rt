@@ -44,4 +44,10 @@ pub enum Request<'a> {
         script: &'a str,
         target: &'a str,
     },
+    /// A script, the output that it is played to, and the file of its journal.
+    Play {
+        script: &'a str,
+        target: &'a str,
+        journal: &'a str,
+    },
 }

@@ -20,7 +20,7 @@ const SECOND: &str =
     "version = 2\nframes = 2\nnormal = 1\ncycles = 100\nturns = [\"c 0\", \"n\", \"c 0\", \"f 1\"]\n[[track]]\nkind = \"fast\"\nframes = 8\nchannels = 2\nfile = \"in.pcm\"\nops = [\"open\", \"start\", \"write 2\"]\n";
 
 const USAGE: &str =
-    "usage: render SCRIPT OUT or generate NUMBER SCRIPT OUT or record IN OUT N F K or loop IN OUT F K START END COUNT\n";
+    "usage: render SCRIPT OUT or play SCRIPT OUT JOURNAL or generate NUMBER SCRIPT OUT or record IN OUT N F K or loop IN OUT F K START END COUNT\n";
 
 pub(crate) const RENDER: &str = "render one.toml out.pcm";
 
@@ -54,7 +54,6 @@ fn words_that_fit(rt: HostRuntime) -> Result<(), Fail> {
         ("render -- a b", false),
         ("render a a", false),
         ("render .a b", false),
-        ("play a b c", false),
         ("generate 0 a b", true),
         ("generate 2147483647 a b", true),
         ("generate 2147483648 a b", false),
@@ -69,6 +68,14 @@ fn words_that_fit(rt: HostRuntime) -> Result<(), Fail> {
         ("generate 0 g0.pcm b", false),
         ("generate 0 a g7.pcm", false),
         ("generate 0 g8.pcm g.pcm", true),
+        ("play a b c", true),
+        ("play a b", false),
+        ("play a b c d", false),
+        ("play a a c", false),
+        ("play a b a", false),
+        ("play a b b", false),
+        ("play a b .c", false),
+        ("play -- a b c", false),
         ("record a b 8192 1024 1024", true),
         ("record a b 1 1 1", true),
         ("record a b 1 1", false),
@@ -227,6 +234,15 @@ fn each_run_ends_as_it_must(rt: HostRuntime) -> Result<(), Fail> {
             None,
         ),
         ("", Some(ONE), Some(80), (0, 0), 2, USAGE, None),
+        (
+            "play one.toml out.pcm out.pcm",
+            Some(ONE),
+            Some(80),
+            (0, 0),
+            2,
+            USAGE,
+            None,
+        ),
         (
             RECORD,
             None,

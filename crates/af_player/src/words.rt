@@ -7,8 +7,8 @@ ghost use Rattle.af_player.specs.Asking.{request_view, IsSound};
 ghost use Rattle.af_player.specs.Captured.{AreSizes};
 ghost use Rattle.af_player.specs.Dash.{begins_dash};
 ghost use Rattle.af_player.specs.Looped.{AreTurns};
-ghost use Rattle.af_player.specs.Requests.{is_drawn, free_names, number_of, request_of, sizes_of, turns_of, two_names};
-ghost use Rattle.af_player.specs.Words.{needed, with_rules, bare_words, render_words, record_words, loop_words, generate_words, player_words, render_met, record_met, loop_met, generate_met, matched_request};
+ghost use Rattle.af_player.specs.Requests.{is_drawn, are_three_names, free_names, number_of, request_of, sizes_of, turns_of, two_names};
+ghost use Rattle.af_player.specs.Words.{needed, with_rules, bare_words, render_words, record_words, loop_words, generate_words, play_words, player_words, render_met, record_met, loop_met, generate_met, play_met, matched_request};
 
 use crate::request::{Request, Sizes, Turns};
 use af_script::{GENERATED_TRACKS, generated_name, is_name, number_within};
@@ -100,6 +100,16 @@ fn generate_command<'a>(alloc: Global) -> Result<Command<'a>, AllocError>
     with_needed(alloc, command, "out")
 }
 
+/// The subcommand `play SCRIPT OUT JOURNAL`.
+fn play_command<'a>(alloc: Global) -> Result<Command<'a>, AllocError>
+    ensures shape { IfOk result (λ command. shape_of command ≡ play_words) }
+    ensures local { IfOk result (λ command. (out-Command command).has_globals ≡ false) }
+{
+    let command = with_needed(alloc, Command::new(alloc, "play"), "script")?;
+    let command = with_needed(alloc, command, "out")?;
+    with_needed(alloc, command, "journal")
+}
+
 /// The command before its subcommands, without help.
 fn bare_command<'a>(alloc: Global) -> Command<'a>
     ensures { app_of result ≡ bare_words }
@@ -126,7 +136,8 @@ fn player_command<'a>(alloc: Global) -> Result<Command<'a>, AllocError>
     let command = with_sub(bare_command(alloc), render_command(alloc)?)?;
     let command = with_sub(command, record_command(alloc)?)?;
     let command = with_sub(command, loop_command(alloc)?)?;
-    with_sub(command, generate_command(alloc)?)
+    let command = with_sub(command, generate_command(alloc)?)?;
+    with_sub(command, play_command(alloc)?)
 }
 
 /// Two names of files that differ.
@@ -172,6 +183,18 @@ fn number_of(word: &str) -> Option<u32>
     ensures bound { IfSome result (λ number. number < 2 ^ 31) }
 {
     number_within(word, 0, 2147483647)
+}
+
+/// Whether these are three names of files, no two alike.
+fn are_three_names(first: &str, second: &str, third: &str) -> bool
+    ensures { result ≡ are_three_names first.now second.now third.now }
+{
+    is_name(first)
+        && is_name(second)
+        && is_name(third)
+        && first != second
+        && first != third
+        && second != third
 }
 
 /// The sizes of a recording that these words spell.
@@ -286,6 +309,25 @@ fn generate_met<'a>(matches: &ArgMatches<'a>) -> Option<Request<'a>>
     })
 }
 
+/// The request among the matches of `play`.
+fn play_met<'a>(matches: &ArgMatches<'a>) -> Option<Request<'a>>
+    ensures value { option_map request_view result ≡ play_met (rows_of (found_of matches.now)) }
+    ensures sound { IfSome result IsSound }
+{
+    let script = value_of(matches, "script")?;
+    let target = value_of(matches, "out")?;
+    let journal = value_of(matches, "journal")?;
+    if are_three_names(script, target, journal) {
+        Some(Request::Play {
+            script,
+            target,
+            journal,
+        })
+    } else {
+        None
+    }
+}
+
 /// The request among the matches of a subcommand.
 fn matched_request<'a>(matches: &ArgMatches<'a>) -> Option<Request<'a>>
     ensures value { option_map request_view result ≡ matched_request (subcommand_rows_of matches.now) }
@@ -300,6 +342,8 @@ fn matched_request<'a>(matches: &ArgMatches<'a>) -> Option<Request<'a>>
         loop_met(inner)
     } else if name == "generate" {
         generate_met(inner)
+    } else if name == "play" {
+        play_met(inner)
     } else {
         None
     }

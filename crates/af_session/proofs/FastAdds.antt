@@ -57,11 +57,11 @@ added_within m m' entry a mixed i lt =
 -- ## One cycle
 
 -- at most one entry, which is that of a mix where the cycle mixed
-record AddsOne (len : ℕ) (answer : Cycle) (log log' : Logged) (bytes : List ℕ) : Type 0 where
-  entries : List CycleEntry
-  one : length entries ≤ 1
-  mixed : is_mixed answer ≡ true → All IsMixed entries
-  grows : Grows len log log' entries bytes
+pub record AddsOne (len : ℕ) (answer : Cycle) (log log' : Logged) (bytes : List ℕ) : Type 0 where
+  pub entries : List CycleEntry
+  pub one : length entries ≤ 1
+  pub mixed : is_mixed answer ≡ true → All IsMixed entries
+  pub grows : Grows len log log' entries bytes
 
 -- a cycle that adds none
 adds_none : (len : ℕ) (answer : Cycle) (log log' : Logged) (out : List Frame) → IsWhole log → is_mixed answer ≡ false → log' ≡ log → AddsOne len answer log log' (written answer out)
@@ -93,7 +93,7 @@ adds_entry m m' out out' answer entry long whole is a w =
     }
 
 -- a call of mix
-mix_adds : (m m' : MixerState) (out out' : List Frame) (answer : Cycle) → length out ≡ m.frames → IsWhole m.log → MixesOnce m out answer m' out' → AddsOne m.frames answer m.log m'.log (written answer out')
+pub mix_adds : (m m' : MixerState) (out out' : List Frame) (answer : Cycle) → length out ≡ m.frames → IsWhole m.log → MixesOnce m out answer m' out' → AddsOne m.frames answer m.log m'.log (written answer out')
 mix_adds m m' out out' answer long whole x = by_exit m.exited refl
   where
     by_length : (full : Bool) → m.exited ≡ false → (length m.log.entries == m.cycles) ≡ full → AddsOne m.frames answer m.log m'.log (written answer out')
@@ -155,7 +155,7 @@ cycle_whole s s' answer bytes whole w = (cycle_adds s s' answer bytes whole w).g
 -- ## A turn
 
 -- a cycle that mixes nothing is the last
-adds_last : (len left : ℕ) (answer : Cycle) (log log' : Logged) (bytes : List ℕ) → AddsOne len answer log log' bytes → TurnAdds len (suc left) log log' bytes
+pub adds_last : (len left : ℕ) (answer : Cycle) (log log' : Logged) (bytes : List ℕ) → AddsOne len answer log log' bytes → TurnAdds len (suc left) log log' bytes
 adds_last len left answer log log' bytes a = record {
   mixes = [];
   last = a.entries;
@@ -166,7 +166,7 @@ adds_last len left answer log log' bytes a = record {
 }
 
 -- after a mix the turn goes on
-adds_more : (len left : ℕ) (answer : Cycle) (a b c : Logged) (front back : List ℕ) → is_mixed answer ≡ true → AddsOne len answer a b front → TurnAdds len left b c back → TurnAdds len (suc left) a c (front ++ back)
+pub adds_more : (len left : ℕ) (answer : Cycle) (a b c : Logged) (front back : List ℕ) → is_mixed answer ≡ true → AddsOne len answer a b front → TurnAdds len left b c back → TurnAdds len (suc left) a c (front ++ back)
 adds_more len left answer a b c front back mixed p q = record {
   mixes = p.entries ++ q.mixes;
   last = q.last;

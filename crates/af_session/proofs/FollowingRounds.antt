@@ -32,7 +32,7 @@ use Rattle.af_session.proofs.Following.{shown_met}
 use Rattle.af_session.proofs.Sounding.{map_same}
 
 -- the calls of all clients, round by round
-abbrev AllCalls : Type 0
+abbrev pub AllCalls : Type 0
 AllCalls = List (List (List ClientCall))
 
 -- ## One round more
@@ -48,7 +48,7 @@ empty_at (suc n) zero = refl
 empty_at (suc n) (suc i) = empty_at n i
 
 -- a client's calls over one round more
-calls_more : (calls : AllCalls) (more : List (List ClientCall)) (i : ℕ) → calls_over (calls ++ more ∷ []) i ≡ calls_over calls i ++ slice_index_or more i []
+pub calls_more : (calls : AllCalls) (more : List (List ClientCall)) (i : ℕ) → calls_over (calls ++ more ∷ []) i ≡ calls_over calls i ++ slice_index_or more i []
 calls_more calls more i =
     let pick : List (List ClientCall) → List ClientCall = λ c. slice_index_or c i [] in
     flat_map-append pick calls (more ∷ []) ∙ ap (λ (xs : List ClientCall). calls_over calls i ++ xs) (flat_map-cons pick more [] ∙ append-nil (slice_index_or more i []))
@@ -59,10 +59,10 @@ calls_still calls n tracks = map_same (calls_over (calls ++ replicate n [] ∷ [
     (λ i lt. calls_more calls (replicate n []) i ∙ ap (λ (xs : List ClientCall). calls_over calls i ++ xs) (empty_at n i) ∙ append-nil (calls_over calls i))
 
 -- the turns of one round more
-turns_more : (turns : List (Option Turn)) (turn : Option Turn) → turns_over (turns ++ turn ∷ []) ≡ turns_over turns ++ turn_in turn
+pub turns_more : (turns : List (Option Turn)) (turn : Option Turn) → turns_over (turns ++ turn ∷ []) ≡ turns_over turns ++ turn_in turn
 turns_more turns turn = flat_map-append turn_in turns (turn ∷ []) ∙ ap (λ (xs : List Turn). turns_over turns ++ xs) (flat_map-cons turn_in turn [] ∙ append-nil (turn_in turn))
 
-turns_still : (turns : List (Option Turn)) → turns_over (turns ++ None ∷ []) ≡ turns_over turns
+pub turns_still : (turns : List (Option Turn)) → turns_over (turns ++ None ∷ []) ≡ turns_over turns
 turns_still turns = turns_more turns None ∙ append-nil (turns_over turns)
 
 module _ (states : List FastState) (len tracks : ℕ) (calls : AllCalls) (turns : List (Option Turn)) (frames : List Frame) (entries : List CycleEntry) (n : ℕ) where
@@ -123,16 +123,16 @@ noted_more : (rounds : List RoundNoted) (r : RoundNoted) → (map (λ (x : Round
 noted_more rounds r = (map-append (λ (x : RoundNoted). x.calls) rounds (r ∷ []), map-append (λ (x : RoundNoted). x.turn) rounds (r ∷ []))
 
 module _ (first : FastState) (tracks : ℕ) (rounds : List RoundNoted) (m : MixerState) where
-  abbrev states : List FastState
+  abbrev pub states : List FastState
   states = polled_states first m.observer.past.events
 
-  abbrev calls : AllCalls
+  abbrev pub calls : AllCalls
   calls = map (λ (x : RoundNoted). x.calls) rounds
 
-  abbrev turns : List (Option Turn)
+  abbrev pub turns : List (Option Turn)
   turns = map (λ (x : RoundNoted). x.turn) rounds
 
-  shown_round : (r : RoundNoted) → shown_at first tracks (rounds ++ r ∷ []) m ≡ shows states m.frames tracks (calls ++ r.calls ∷ []) (turns ++ r.turn ∷ []) m.log.frames m.log.entries
+  pub shown_round : (r : RoundNoted) → shown_at first tracks (rounds ++ r ∷ []) m ≡ shows states m.frames tracks (calls ++ r.calls ∷ []) (turns ++ r.turn ∷ []) m.log.frames m.log.entries
   shown_round r = let more = noted_more rounds r in λ i. shows states m.frames tracks (more.0 i) (more.1 i) m.log.frames m.log.entries
 
 -- of one in which no client and no normal mixer did anything

@@ -33,6 +33,30 @@ mod RoundForms
 mod JournalSound
 mod NotedRounds
 mod FilesGiven
+pub mod AloneTurns
+pub mod Zips
+pub mod ReadyOfAll
+pub mod NotedOfAll
 mod Following
 mod FollowingRounds
+pub mod NotedTurns
 mod ShownWhole
+mod Quiet
+mod PushedRuns
+mod LastExit
+mod ExitSeen
+mod RoundsLeft
+mod RunOfAll
+mod RoundsOfAll
+mod GoingOn
+mod PlayAnswers
+mod ClientsSpelled
+mod RunSpelled
+mod RunPushed
+mod OpenCalls
+mod OpenLooks
+mod OneTake
+mod MetOpen
+mod SparedTurns
+mod SparedRounds
+mod Spared

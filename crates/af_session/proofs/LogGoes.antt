@@ -37,7 +37,7 @@ goes_then a b c x y = record {
 }
 
 -- a call of mix
-mix_goes : (m m' : MixerState) (out out' : List Frame) (answer : Cycle) → MixesOnce m out answer m' out' → Goes m.log m'.log
+pub mix_goes : (m m' : MixerState) (out out' : List Frame) (answer : Cycle) → MixesOnce m out answer m' out' → Goes m.log m'.log
 mix_goes m m' out out' answer x = by_exit m.exited refl
   where
     by_length : (full : Bool) → m.exited ≡ false → (length m.log.entries == m.cycles) ≡ full → Goes m.log m'.log

@@ -25,7 +25,8 @@ use Rattle.af_script.specs.declared.op.TurnSpec.{TurnSpec}
 use Rattle.af_session.specs.Met.{Met}
 use Rattle.af_session.specs.NewSession.{IsNewSession}
 use Rattle.af_session.specs.Parties.{PartyState}
-use Rattle.af_session.specs.Rendered.{EndsState, Runs}
+use Rattle.af_session.specs.Ends.{EndsState}
+use Rattle.af_session.specs.Rendered.{Runs}
 use Rattle.af_session.specs.Rounds.{Given, IsReady, IsRound, IsTurnRun, with_ends}
 use Rattle.af_session.specs.Shares.{SharedState}
 use Rattle.af_session.specs.Shown.{HasPlaces, calls_over, released_by, shown_at, shown_by, shown_in, shows, summary_told}
@@ -75,7 +76,7 @@ in_step_new script shared s new = record {
 }
 
 -- once all have met
-in_step_met : (a b : SessionState) → Met a b → AreInStep b
+pub in_step_met : (a b : SessionState) → Met a b → AreInStep b
 in_step_met a b met =
     let order = polled_in_order b.normal.mutator.past.first b.normal.mutator.past.events b.fast.observer.past.events met.ends.histories.queue in
     record { missing = order.0; states = order.2 }

@@ -14,4 +14,10 @@ pub mod NewSession
 pub mod Summaries
 pub mod Tallies
 pub mod Shown
+pub mod Ends
 pub mod Rendered
+pub mod Alone
+pub mod SideBySide
+pub mod PlayedRuns
+pub mod Spelled
+pub mod Hostile

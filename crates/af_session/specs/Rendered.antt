@@ -1,20 +1,18 @@
 -- What the turns of a script come to, and what they leave in a file.
-use Rattle.std.specs.Prelude.{◌≡◌, ◌⊎◌, ℕ, ◌<◌, ◌≤◌, ◌++◌, List, length, take, slice_get, Option, option_map, Result, IsErrOf}
+use Rattle.std.specs.Prelude.{◌≡◌, ◌⊎◌, ℕ, ◌<◌, ◌≤◌, ◌++◌, Bool, true, false, List, length, take, Result, IsErrOf}
 use Rattle.af_base.specs.declared.frame.Frame.{Frame}
-use Rattle.af_client.specs.Order.{ClientState}
 use Rattle.af_io.specs.Causes.{Rose}
 use Rattle.af_io.specs.Files.{Files, SameFiles, LeavesFront}
 use Rattle.af_io.specs.declared.store.StoreError.{StoreError}
 use Rattle.af_io.specs.declared.store.StoreError.TheVariants as store
 use Rattle.af_model.specs.Journals.{JournalData, RoundNoted, journal_of}
-use Rattle.af_normal.specs.State.{NormalState}
 use Rattle.af_script.specs.Data.{ScriptData}
 use Rattle.af_script.specs.declared.op.Op.{Op}
 use Rattle.af_script.specs.declared.op.TurnSpec.{TurnSpec}
+use Rattle.af_session.specs.Ends.{EndsState, ends_from}
 use Rattle.af_session.specs.declared.rendering.SessionFault.{SessionFault}
 use Rattle.af_session.specs.declared.rendering.SessionFault.TheVariants as fault
 use Rattle.af_session.specs.NewSession.{IsNewSession}
-use Rattle.af_session.specs.Parties.{PartyState}
 use Rattle.af_session.specs.Rounds.{Given, IsTurnRun, ops_at, file_at}
 use Rattle.af_session.specs.Shares.{SharedState}
 use Rattle.af_session.specs.Sound.{pcm_of}
@@ -59,6 +57,11 @@ abbrev pub LeavesSound : ScriptData → List (List Frame) → List ℕ → Files
 LeavesSound script files name old new = SameFiles old new
     ⊎ ((n : ℕ) × (t : SessionState) × Rendered script files (take n script.turns) t × LeavesFront old name (pcm_of script.frames t.fast.log) new)
 
+-- whether a session was cut off, with its log full
+abbrev pub is_limit : SessionFault → Bool
+is_limit (fault.CycleLimit journal ends) = true
+is_limit _ = false
+
 -- what the store's refusal is in a session
 abbrev pub fault_of : StoreError → SessionFault
 fault_of store.Failed = fault.Store
@@ -71,21 +74,6 @@ pub record HasStoreCause {T : Type 0} (before now : ℕ) (result : Result T Sess
   pub only : before < now → IsErrOf result fault.Store
 
 -- ## What a run hands back
-
--- the clients and the normal mixer
-pub record EndsState : Type 0 where
-  pub clients : List PartyState
-  pub normal : NormalState
-
-abbrev pub ends_from : SessionState → EndsState
-ends_from s = record { clients = s.clients; normal = s.normal }
-
--- the proxies of a track's client
-abbrev pub stream_proxy : EndsState → ℕ → Option ClientState
-stream_proxy e track = option_map (λ (p : PartyState). p.stream) (slice_get e.clients track)
-
-abbrev pub command_proxy : EndsState → ℕ → Option ClientState
-command_proxy e track = option_map (λ (p : PartyState). p.command) (slice_get e.clients track)
 
 -- The journal and the ends of the parties that have played all turns, with a client for each track: the journal has the rounds of the turn run, and the entries of the fast mixer's log
 pub record HandsBack (script : ScriptData) (files : List (List Frame)) (journal : JournalData) (ends : EndsState) : Type 0 where

@@ -17,7 +17,7 @@ use Rattle.af_server.specs.Order.{ServerState}
 use Rattle.af_stateq.specs.Laws.{polled_states, pushed_states}
 use Rattle.af_session.specs.declared.summary.Summary.{Summary}
 use Rattle.af_session.specs.Parties.{PartyState}
-use Rattle.af_session.specs.Rendered.{EndsState}
+use Rattle.af_session.specs.Ends.{EndsState}
 use Rattle.af_session.specs.Summaries.{EntryUsed, Shown, summary_of}
 use Rattle.af_session.specs.Tallies.{Tallied, IsTally}
 

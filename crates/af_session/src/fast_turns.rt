@@ -22,14 +22,14 @@ use af_normal::NormalMixer;
 use std::sync::ledger::Ledger;
 
 // Whether a cycle mixes.
-fn is_mixed(cycle: Cycle) -> bool
+pub(crate) fn is_mixed(cycle: Cycle) -> bool
     ensures { result ≡ is_mixed cycle }
 {
     matches!(cycle, Cycle::Mixed)
 }
 
 // Appends the bytes of a buffer, if it was mixed.
-fn push_written(cycle: Cycle, buffer: &[Frame], bytes: &mut Items<u8>)
+pub(crate) fn push_written(cycle: Cycle, buffer: &[Frame], bytes: &mut Items<u8>)
     requires room { length bytes.old.items + 4 * length buffer.now ≤ bytes.old.room }
     ensures { bytes.new ≡ record bytes.old { items = bytes.old.items ++ written cycle buffer.now } }
 {
@@ -77,7 +77,7 @@ fn note_last(fast: &mut FastMixer, tally: &mut Tally)
 }
 
 // The mix of a cycle. The entry that it adds is noted, with the state that it used, and the frames that it writes; where it adds none nothing is.
-fn mix_noted<L: Ledger>(
+pub(crate) fn mix_noted<L: Ledger>(
     fast: &mut FastMixer,
     links: &Links<'_>,
     buffer: &mut [Frame],

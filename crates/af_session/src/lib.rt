@@ -1,6 +1,7 @@
 //! Sessions: the clients, the normal mixer and the fast mixer of a run, their turns, and how they meet.
 #![tactic(auto)]
 
+mod alone;
 mod asking;
 #[cfg(test)]
 mod client_tests;
@@ -10,14 +11,21 @@ mod given_files;
 mod meetings;
 mod noting;
 mod party;
+mod play_of_all;
+#[cfg(test)]
+mod play_tests;
 mod playing;
+mod playing_of_all;
 mod rendering;
 mod rounds;
+mod rounds_of_all;
+mod side_by_side;
 mod sound;
 
 pub use fast_turns::fast_turn;
 pub use given_files::have_files;
 pub use party::Party;
+pub use play_of_all::play;
 pub use rendering::{Ends, Played, SessionFault, render};
 pub use sound::{pcm, push_pcm};
 

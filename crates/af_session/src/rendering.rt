@@ -1,15 +1,17 @@
 //! A script's turns from first to last, one after the other.
 ghost use Rattle.af_script.specs.Bounds.{most_tracks};
-ghost use Rattle.std.specs.Prelude.{◌^◌, All, ◌≡◌, ◌*◌, ◌<◌, ◌≤◌, ℕ, [], Some, length, take, IfOk, OnOk, OnErr};
+ghost use Rattle.std.specs.Prelude.{◌^◌, All, ◌≡◌, ◌*◌, ◌<◌, ◌≤◌, ℕ, false, [], Some, length, take, IfOk, IfErr, OnOk, OnErr};
 ghost use Rattle.af_io.specs.Causes.{HasCause};
 ghost use Rattle.af_io.specs.Files.{Files, SetsFile, LeavesFront};
 ghost use Rattle.af_link.specs.declared.links.Links.{Links};
 ghost use Rattle.af_model.specs.JournalForm.{IsJournal, IsWhole};
 ghost use Rattle.af_model.specs.Journals.{journal_of};
+ghost use Rattle.af_session.specs.Hostile.{PokesSpareOthers};
 ghost use Rattle.af_session.specs.NewSession.{IsNewSession};
-ghost use Rattle.af_session.specs.Rendered.{HandsBack, HasStoreCause, HaveFiles, LeavesSound, Rendered, Renders, command_proxy, ends_from, stream_proxy};
+ghost use Rattle.af_session.specs.Ends.{command_proxy, ends_from, stream_proxy};
+ghost use Rattle.af_session.specs.Rendered.{HandsBack, HasStoreCause, HaveFiles, LeavesSound, Rendered, Renders, is_limit};
 ghost use Rattle.af_session.specs.Shares.{AreLinksOf};
-ghost use Rattle.af_session.specs.Shown.{released_by, shown_in, summary_told};
+ghost use Rattle.af_session.specs.Shown.{released_by, shown_by, shown_in, summary_told};
 ghost use Rattle.af_session.specs.Sound.{journal_pcm, pcm_of};
 ghost use Rattle.af_session.specs.Summaries.{Shown, nothing_shown, summary_of};
 ghost use Rattle.af_session.specs.Tallies.{IsTally};
@@ -31,10 +33,12 @@ use std::alloc::Global;
 use std::marker::Model;
 
 /// Why a session was not played to its end.
-#[derive(Debug, Drop)]
+#[derive(Drop)]
 pub enum SessionFault {
     /// The store failed, and its count of faults rose.
     Store,
+    /// The log has all of its entries, and some party has not ended. The journal is that of the rounds that were made. Only `play` answers it.
+    CycleLimit { journal: Journal, ends: Ends },
     /// Memory ran out.
     Memory,
 }
@@ -72,7 +76,7 @@ pub struct Ends {
 }
 
 impl Model for Ends {
-    ghost use Rattle.af_session.specs.Rendered.{EndsState};
+    ghost use Rattle.af_session.specs.Ends.{EndsState};
 
     ghost Value = { EndsState };
 
@@ -113,7 +117,7 @@ pub struct Played {
 }
 
 // The frames of a cycle, and room for the bytes of the most cycles of a round.
-fn make_room(alloc: Global, frames: usize) -> Result<(Vec<Frame>, Items<u8>), Memory>
+pub(crate) fn make_room(alloc: Global, frames: usize) -> Result<(Vec<Frame>, Items<u8>), Memory>
     requires { frames ≤ 1024 }
     ensures { IfOk result (λ r. (length r.0.items ≡ frames) × (r.1 ≡ record { items = []; room = 64 * frames })) }
 {
@@ -124,7 +128,7 @@ fn make_room(alloc: Global, frames: usize) -> Result<(Vec<Frame>, Items<u8>), Me
 }
 
 // The tally of so many tracks, and room for a count of each.
-fn make_tally(alloc: Global, tracks: usize) -> Result<(Tally, Items<u64>), Memory>
+pub(crate) fn make_tally(alloc: Global, tracks: usize) -> Result<(Tally, Items<u64>), Memory>
     requires { tracks ≤ most_tracks }
     ensures { IfOk result (λ r. IsTally (nothing_shown tracks) r.0 × (r.1 ≡ record { items = []; room = tracks })) }
 {
@@ -162,6 +166,7 @@ fn play_turns<S: Store>(
     ensures count { OnOk result (length parties.new.clients ≡ length script.now.tracks) }
     ensures tally { OnOk result (IsTally (shown_in script.now.frames rounds.new parties.new.fast.log parties.new.normal.mutator.past.events) tally.new) }
     ensures released { OnOk result (All (λ p. p.stream.released < 2 ^ 58) parties.new.clients) }
+    ensures spared { OnOk result (PokesSpareOthers (shown_in script.now.frames rounds.new parties.new.fast.log parties.new.normal.mutator.past.events)) }
     ensures written { S.told store.old → (base : Files) → SetsFile base name.now (Some []) (S.files store.old) → OnOk result (SetsFile base name.now (Some (pcm_of script.now.frames parties.new.fast.log)) (S.files store.new)) }
     ensures left { S.told store.old → (base : Files) → SetsFile base name.now (Some []) (S.files store.old) → OnErr result (LeavesFront base name.now (pcm_of script.now.frames parties.new.fast.log) (S.files store.new)) }
     ensures tells { S.told store.old → S.told store.new }
@@ -203,6 +208,7 @@ fn play_new<S: Store>(
     ensures count { OnOk result (length parties.new.clients ≡ length script.now.tracks) }
     ensures tally { OnOk result (IsTally (shown_in script.now.frames rounds.new parties.new.fast.log parties.new.normal.mutator.past.events) tally.new) }
     ensures released { OnOk result (All (λ p. p.stream.released < 2 ^ 58) parties.new.clients) }
+    ensures spared { OnOk result (PokesSpareOthers (shown_in script.now.frames rounds.new parties.new.fast.log parties.new.normal.mutator.past.events)) }
     ensures written { S.told store.old → OnOk result (SetsFile (S.files store.old) name.now (Some (pcm_of script.now.frames parties.new.fast.log)) (S.files store.new)) }
     ensures left { S.told store.old → OnErr result (LeavesSound script.now files.now name.now (S.files store.old) (S.files store.new)) }
     ensures tells { S.told store.old → S.told store.new }
@@ -226,7 +232,7 @@ fn push_released(clients: &[Party], released: &mut Items<u64>)
 }
 
 // The summary of what a tally noted and of the frames that the clients released, for whose counts a list has room.
-fn sum_up(parties: &Parties, tally: &Tally, released: &mut Items<u64>) -> Summary
+pub(crate) fn sum_up(parties: &Parties, tally: &Tally, released: &mut Items<u64>) -> Summary
     requires room { length parties.now.clients ≤ released.old.room }
     requires empty { released.old.items ≡ [] }
     requires count { length tally.now.tracks ≡ length parties.now.clients }
@@ -237,29 +243,43 @@ fn sum_up(parties: &Parties, tally: &Tally, released: &mut Items<u64>) -> Summar
     tally.summary(released.as_slice())
 }
 
-// What parties hand back, with the rounds that were noted, and the summary.
-fn hand_back(parties: Parties, rounds: Rounds, summary: Summary) -> Played
+// The journal of parties, whose rounds were noted, and their ends.
+pub(crate) fn hand_over(parties: Parties, rounds: Rounds) -> (Journal, Ends)
     requires whole { IsWhole rounds parties.fast.log }
     requires form { IsJournal (journal_of rounds parties.fast.log) }
-    ensures journal { result.journal ≡ journal_of rounds parties.fast.log }
-    ensures summary { result.summary ≡ summary }
-    ensures ends { result.ends ≡ ends_from parties }
+    ensures journal { result.0 ≡ journal_of rounds parties.fast.log }
+    ensures ends { result.1 ≡ ends_from parties }
 {
     let Parties {
         clients,
         normal,
         fast,
     } = parties;
+    (
+        Journal::new(rounds, fast.into_log()),
+        Ends { clients, normal },
+    )
+}
+
+// What parties hand back, with the rounds that were noted, and the summary.
+pub(crate) fn hand_back(parties: Parties, rounds: Rounds, summary: Summary) -> Played
+    requires whole { IsWhole rounds parties.fast.log }
+    requires form { IsJournal (journal_of rounds parties.fast.log) }
+    ensures journal { result.journal ≡ journal_of rounds parties.fast.log }
+    ensures summary { result.summary ≡ summary }
+    ensures ends { result.ends ≡ ends_from parties }
+{
+    let (journal, ends) = hand_over(parties, rounds);
     Played {
-        journal: Journal::new(rounds, fast.into_log()),
+        journal,
         summary,
-        ends: Ends { clients, normal },
+        ends,
     }
 }
 
 /// Plays the turns of a script one after the other, each as a round after which all parties meet, and writes the sound to the file of this name. All blocks, logs and mixers are made before the file is; the rounds are noted as they are played.
 ///
-/// What was played is a turn run of the script and its files, whose rounds the journal has and of which the summary is, and where the store tells it the file is the sound of the journal. After a fault no file has changed, or the file holds a front of the sound of some first turns.
+/// What was played is a turn run of the script and its files, whose rounds the journal has and of which the summary is, and where the store tells it the file is the sound of the journal. Whatever clients stored in their words, each track on whose blocks nothing was poked is spared: no call of its client was answered Corrupt, and no look of the normal mixer at its blocks was Shut. It never answers CycleLimit. After a fault no file has changed, or the file holds a front of the sound of some first turns.
 pub fn render<S: Store>(
     alloc: Global,
     script: &Script,
@@ -270,6 +290,8 @@ pub fn render<S: Store>(
     requires { HaveFiles (record { tracks = script.now.tracks; files = files.now }) }
     ensures played { IfOk result (λ p. HandsBack script.now files.now p.journal p.ends) }
     ensures summary { IfOk result (λ p. p.summary ≡ summary_told script.now.frames p.journal p.ends) }
+    ensures never { IfErr result (λ f. is_limit f ≡ false) }
+    ensures spared { IfOk result (λ p. PokesSpareOthers (shown_by script.now.frames p.journal p.ends.normal.mutator.past.events)) }
     ensures written { S.told store.old → IfOk result (λ p. SetsFile (S.files store.old) name.now (Some (journal_pcm script.now.frames p.journal)) (S.files store.new)) }
     ensures left { S.told store.old → OnErr result (LeavesSound script.now files.now name.now (S.files store.old) (S.files store.new)) }
     ensures tells { S.told store.old → S.told store.new }

@@ -116,7 +116,7 @@ impl Parties {
     }
 
     // All parties meet.
-    fn meet_all<L: Ledger>(
+    pub(crate) fn meet_all<L: Ledger>(
         &mut self,
         links: &Links<'_>,
         tracks: &[TrackSpec],
@@ -136,7 +136,7 @@ impl Parties {
     }
 
     // Once the normal mixer has ended every client has.
-    fn end_clients(&mut self)
+    pub(crate) fn end_clients(&mut self)
         ensures { self.new ≡ with_ends self.old }
     {
         if self.normal.has_ended() {

@@ -1,11 +1,12 @@
-use Rattle.std.proofs.Common.{◌≡◌, ◌∙◌, ℕ, List, Ok, Err, Result, Some, map, option_map, string_bytes, sym, ap, subst, rules}
+use Rattle.std.proofs.Common.{◌≡◌, ◌∙◌, ℕ, List, Ok, Err, Result, Some, String, map, option_map, string_bytes, sym, ap, subst, rules}
+use Rattle.std.specs.declared.alloc.Global.{Global}
 use Rattle.af_io.specs.Causes.{Rose}
 use Rattle.af_player.specs.declared.status.Refusal.{Refusal}
 use Rattle.af_player.specs.Asked.{Job, asked_of, job_of}
 use Rattle.af_player.specs.Asking.{request_view}
 use Rattle.af_player.specs.Ends.{Makes, PrintsLine}
 use Rattle.af_player.specs.Requests.{request_of}
-use Rattle.af_player.proofs.Left.{asked_line, asked_named, Printed-printed, PrintsSomeLine-nothing, PrintsSomeLine-written, Renders-memory, Renders-printed, Renders-stopped, WholeUnless-printed}
+use Rattle.af_player.proofs.Left.{asked_line, asked_named, Printed-printed, PrintsSomeLine-stopped, PrintsSomeLine-written, Renders-memory, Renders-printed, Renders-stopped, WholeUnless-printed}
 use Rattle.af_player.proofs.run.work.Goals as goal
 
 pub returns-in_err-request-clause-rendered : goal.returns-in_err-request-clause-rendered
@@ -25,7 +26,9 @@ returns-in_err-line-clause-rendered g c = λ told.
 
 pub returns-in_err-line-clause-some : goal.returns-in_err-line-clause-some
 returns-in_err-line-clause-some g c = λ told.
-    let nothing = PrintsSomeLine-nothing (Unit {0}) c.in_err-line.field-0.0 (request_of (map string_bytes c.args.words.now)) (g.O.Sink.held c.args.out.now) in
+    let words = map string_bytes c.args.words.now in
+    let named : Some (request_view c.in-Some.request) ≡ request_of words = sym (ap (option_map request_view) c.in-Some.is) ∙ c.in_ok-request.ensures.value in
+    let nothing = PrintsSomeLine-stopped (Unit {0}) (String Global) c.in_err-line.field-0.0 (request_view c.in-Some.request) (request_of words) (g.O.Sink.held c.args.out.now) named c.in_err-line.ensures.words in
     search (rules, nothing)
 
 pub returns-clause-rendered : goal.returns-clause-rendered
@@ -37,7 +40,7 @@ returns-clause-rendered g c = λ told.
     let asked : asked_of files words ≡ job_of files (request_view request) = asked_named files words (request_view request) (sym (ap (option_map request_view) c.in-Some.is) ∙ c.in_ok-request.ensures.value) in
     let made : Makes (Ok c.in_ok-line.line) (asked_of files words) files new =
     subst (λ (told' : Result Job Refusal). Makes (Ok c.in_ok-line.line) told' files new) (sym asked) (c.in_ok-line.ensures.made told) in
-    Renders-printed c.print.result (asked_of files words) c.in_ok-line.line files new made c.print.ensures.refused
+    Renders-printed c.print.result (asked_of files words) c.in_ok-line.line files new made c.print.ensures.outside
 
 pub returns-clause-printed : goal.returns-clause-printed
 returns-clause-printed g c = λ told told_out.
@@ -68,6 +71,6 @@ returns-clause-some g c = λ told_out.
     let words = map string_bytes c.args.words.now in
     let named : Some (request_view c.in-Some.request) ≡ request_of words = sym (ap (option_map request_view) c.in-Some.is) ∙ c.in_ok-request.ensures.value in
     let same : c.as_str.result.now ≡ string_bytes c.in_ok-line.line = c.as_str.ensures.value in
-    PrintsSomeLine-written c.print.result (request_of words) (string_bytes c.in_ok-line.line) (g.O.Sink.held c.args.out.now) (g.O.Sink.held c.print.new.out)
+    PrintsSomeLine-written c.print.result (request_of words) (string_bytes c.in_ok-line.line) (g.O.Sink.held c.args.out.now) (g.O.Sink.held c.print.new.out) c.print.ensures.outside
     (asked_line (request_of words) (request_view c.in-Some.request) (string_bytes c.in_ok-line.line) named c.in_ok-line.ensures.line)
     (subst (λ (line : List ℕ). PrintsLine c.print.result line (g.O.Sink.held c.args.out.now) (g.O.Sink.held c.print.new.out)) same (c.print.ensures.printed told_out))

@@ -10,5 +10,7 @@ returns c =
     let two : app_of c.in_ok-command-2.command ≡ with_subcommand (with_subcommand bare_words render_words) record_words = c.in_ok-command-2.ensures ∙ ap₂ with_subcommand one c.in_ok-record_command.ensures.shape in
     let three : app_of c.in_ok-command-3.command ≡ with_subcommand (with_subcommand (with_subcommand bare_words render_words) record_words) loop_words =
     c.in_ok-command-3.ensures ∙ ap₂ with_subcommand two c.in_ok-loop_command.ensures.shape in
-    let four : with_subcommand (app_of c.in_ok-command-3.command) (shape_of c.in_ok-generate_command.field-0) ≡ player_words = ap₂ with_subcommand three c.in_ok-generate_command.ensures.shape in
-    subst (λ (app : App). IfOk c.with_sub-4.result (λ command. app_of command ≡ app)) four c.with_sub-4.ensures
+    let four : app_of c.in_ok-command-4.command ≡ with_subcommand (with_subcommand (with_subcommand (with_subcommand bare_words render_words) record_words) loop_words) generate_words =
+    c.in_ok-command-4.ensures ∙ ap₂ with_subcommand three c.in_ok-generate_command.ensures.shape in
+    let five : with_subcommand (app_of c.in_ok-command-4.command) (shape_of c.in_ok-play_command.field-0) ≡ player_words = ap₂ with_subcommand four c.in_ok-play_command.ensures.shape in
+    subst (λ (app : App). IfOk c.with_sub-5.result (λ command. app_of command ≡ app)) five c.with_sub-5.ensures

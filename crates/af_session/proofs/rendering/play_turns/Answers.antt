@@ -7,6 +7,7 @@ use Rattle.af_model.specs.Journals.{RoundNoted, RoundsNoted}
 use Rattle.af_script.specs.Form.{IsScript, IsTurn}
 use Rattle.af_script.specs.declared.op.TurnSpec.{TurnSpec}
 use Rattle.af_script.specs.declared.track.TrackSpec.{TrackSpec}
+use Rattle.af_session.specs.Hostile.{PokesSpareOthers, SparesSoFar}
 use Rattle.af_session.specs.Rendered.{Runs}
 use Rattle.af_session.specs.Rounds.{Given, IsReady}
 use Rattle.af_session.specs.Shown.{shown_at}
@@ -16,6 +17,7 @@ use Rattle.af_session.specs.Tallies.{IsTally, Tallied}
 use Rattle.af_session.specs.Together.{SessionState}
 use Rattle.af_session.proofs.FirstRound.{empty_first, frames_first, ready_first, rendered, silent_first}
 use Rattle.af_session.proofs.ShownWhole.{on_ok_both, released_few, tally_end}
+use Rattle.af_session.proofs.Spared.{spares_first, spares_noted}
 use Rattle.af_session.proofs.rendering.play_turns.Goals as goal
 
 pub play_all-requires-clause-turns : goal.play_all-requires-clause-turns
@@ -141,3 +143,21 @@ returns-clause-released g c =
     let given : Given = record { tracks = c.tracks-tracks.result.now; files = c.args.files.now } in
     on_ok_weaker c.play_all.result (λ (ready : IsReady c.links-links.result given (length c.turns-turns.result.now) c.play_all.new.self). released_few c.links-links.result given (length c.turns-turns.result.now) c.play_all.new.self ready)
     c.play_all.ensures.ready
+
+pub returns-clause-spared : goal.returns-clause-spared
+returns-clause-spared g c =
+    let given : Given = record { tracks = c.tracks-tracks.result.now; files = c.args.files.now } in
+    let turns : List TurnSpec = c.turns-turns.result.now in
+    let links = c.links-links.result in
+    let was : SessionState = c.args.parties.now in
+    let is : SessionState = c.play_all.new.self in
+    let noted : RoundsNoted = c.play_all.new.rounds in
+    let done = c.play_all.ensures in
+    let Ready : Type 0 = IsReady links given (length turns) is in
+    let Tracks : Type 0 = noted.tracks ≡ length c.tracks-tracks.result.now in
+    let Spares : Type 0 = SparesSoFar noted.rounds is in
+    let Two : Type 0 = Tracks × Spares in
+    on_ok_weaker c.play_all.result
+    (λ (x : Ready × Two). spares_noted c.args.script.now.frames noted is.fast.log is.normal.mutator.past.events is (sym x.0.given.0 ∙ sym x.1.0) x.1.1)
+    (on_ok_both Ready Two c.play_all.result done.ready
+    (on_ok_both Tracks Spares c.play_all.result done.tracks (done.spares (spares_first c.args.script.now c.args.shared.now was c.requires.new))))

@@ -3,11 +3,14 @@ use Rattle.af_base.specs.Log.{Logged}
 use Rattle.af_base.specs.Roomy.{Roomy}
 use Rattle.af_io.specs.Files.{SetsFile}
 use Rattle.af_model.specs.Journals.{RoundsNoted, journal_of}
-use Rattle.af_session.specs.Rendered.{EndsState, LeavesSound}
+use Rattle.af_session.specs.Ends.{EndsState}
+use Rattle.af_session.specs.Rendered.{LeavesSound}
 use Rattle.af_session.specs.Sound.{journal_pcm, pcm_of}
 use Rattle.af_session.proofs.JournalSound.{journal_sounds}
 use Rattle.af_session.proofs.ShownWhole.{is_told, tally_tracks}
+use Rattle.af_session.proofs.Spared.{spares_told}
 use Rattle.af_session.proofs.Outgoing.{cause_memory, cause_ok, cause_store, on_err}
+use Rattle.af_session.proofs.PlayAnswers.{memory_never, store_never}
 use Rattle.af_session.proofs.rendering.render.Goals as goal
 
 pub play_new-requires-clause-together : goal.play_new-requires-clause-together
@@ -92,3 +95,22 @@ sum_up-summary-requires-clause-count g c =
     let noted : RoundsNoted = c.play_new.new.rounds in
     let parties = c.play_new.new.parties in
     tally_tracks c.args.script.now.frames noted parties.fast.log parties.normal.mutator.past.events c.play_new.new.tally c.in_ok-play_new.ensures.tally ∙ c.in_ok-play_new.ensures.tracks ∙ sym c.in_ok-play_new.ensures.count
+
+pub returns-in_err-shared-clause-never : goal.returns-in_err-shared-clause-never
+returns-in_err-shared-clause-never g c = memory_never c.from_residual.result c.from_residual.ensures.1
+
+pub returns-in_err-buffer-clause-never : goal.returns-in_err-buffer-clause-never
+returns-in_err-buffer-clause-never g c = memory_never c.from_residual-in_err-buffer.result c.from_residual-in_err-buffer.ensures.1
+
+pub returns-in_err-tally-clause-never : goal.returns-in_err-tally-clause-never
+returns-in_err-tally-clause-never g c = memory_never c.from_residual-in_err-tally.result c.from_residual-in_err-tally.ensures.1
+
+pub returns-in_err-play_new-clause-never : goal.returns-in_err-play_new-clause-never
+returns-in_err-play_new-clause-never g c = store_never c.from_residual-in_err-play_new.result c.in_err-play_new.field-0.0 c.from_residual-in_err-play_new.ensures.1
+
+pub returns-clause-spared : goal.returns-clause-spared
+returns-clause-spared g c =
+    let noted : RoundsNoted = c.play_new.new.rounds in
+    let parties = c.play_new.new.parties in
+    spares_told c.args.script.now.frames noted parties.fast.log parties.normal.mutator.past.events c.hand_back.result.journal c.hand_back.result.ends c.in_ok-play_new.ensures.whole c.hand_back.ensures.journal
+    (ap (λ (e : EndsState). e.normal.mutator.past.events) c.hand_back.ensures.ends) c.in_ok-play_new.ensures.spared

@@ -6,6 +6,7 @@ use Rattle.af_base.specs.Sample.{IsFrame}
 use Rattle.af_io.specs.Files.{SetsFile, LeavesFront}
 use Rattle.af_model.specs.Journals.{RoundsNoted}
 use Rattle.af_script.specs.declared.op.TurnSpec.{TurnSpec}
+use Rattle.af_session.specs.Hostile.{SparesSoFar}
 use Rattle.af_session.specs.Rendered.{Runs}
 use Rattle.af_session.specs.Rounds.{Given}
 use Rattle.af_base.specs.declared.state.FastState.{FastState}
@@ -18,6 +19,7 @@ use Rattle.af_session.proofs.JournalSound.{journal_form, journal_whole}
 use Rattle.af_session.proofs.Outgoing.{on_err, stays_at}
 use Rattle.af_session.proofs.RoundForms.{AreNoted, noted_none, noted_round}
 use Rattle.af_session.proofs.RunMore.{run_none, run_more}
+use Rattle.af_session.proofs.SparedRounds.{spares_round}
 use Rattle.af_session.proofs.parties.Parties.play_all.Goals as goal
 
 pub loop-i-init : goal.loop-i-init
@@ -31,6 +33,7 @@ loop-i-init g c =
       tally = subst (λ (x : RoundsNoted). (first : FastState) → IsTally (shown_at first tracks x.rounds was.fast) c.args.tally.now) (sym c.requires.rounds) (tally_first tracks was.fast c.args.tally.now c.requires.log.0 c.requires.tally);
       places = places_first tracks (length was.clients) (length was.fast.log.entries) c.args.tally.now (sym c.requires.ready.given.0) c.requires.tally;
       noted = subst (λ (x : RoundsNoted). AreNoted tracks x was.fast.log) (sym c.requires.rounds) (noted_none tracks was.fast.log c.requires.log.0 c.requires.log.1);
+      spares = subst (λ (x : RoundsNoted). SparesSoFar [] was → SparesSoFar x.rounds was) (sym c.requires.rounds) (λ new. new);
       sizes = (refl, refl);
       buffer = c.requires.buffer;
       tells = (λ told. told);
@@ -61,6 +64,8 @@ loop-i-preserved g c =
       places = c.play_noted.ensures.places i inv.places;
       noted = subst (λ (x : RoundsNoted). AreNoted (length c.args.tracks.now) x next.fast.log) (sym noted)
           (noted_round c.args.links.now given i now inv.ready _ _ more next round c.in_ok-play_noted.ensures.frames c.loop-i.rounds inv.noted);
+      spares = subst (λ (x : RoundsNoted). SparesSoFar [] c.args.self.now → SparesSoFar x.rounds next) (sym noted)
+          (λ new. spares_round c.args.links.now given i now inv.ready next (c.play_noted.ensures.ready i inv.ready) more _ _ c.loop-i.rounds.rounds round (inv.spares new));
       sizes = (c.play_noted.ensures.sizes.0 ∙ inv.sizes.0, c.play_noted.ensures.sizes.1 ∙ inv.sizes.1);
       buffer = search rules;
       tells = (λ told. c.play_noted.ensures.tells (inv.tells told));
@@ -122,3 +127,6 @@ returns-clause-tally g c = c.loop-i.invariant.tally
 
 pub returns-clause-frames : goal.returns-clause-frames
 returns-clause-frames g c = c.loop-i.invariant.sizes.0
+
+pub returns-clause-spares : goal.returns-clause-spares
+returns-clause-spares g c = λ new. c.loop-i.invariant.spares new

@@ -1,0 +1,104 @@
+//! The command `play`: a script's parties, played in rounds into a file, and the text of their journal beside it.
+ghost use Rattle.std.specs.Prelude.{◌≡◌, ◌++◌, ℕ, List, Ok, Some, IfOk, OnOk, OnErr, string_bytes};
+ghost use Rattle.af_io.specs.Causes.{HasCause};
+ghost use Rattle.af_io.specs.Files.{SetsFile, LeavesFront};
+ghost use Rattle.af_journal.specs.Texts.{text_of};
+ghost use Rattle.af_player.specs.Asked.{play_asked, play_job};
+ghost use Rattle.af_player.specs.Ends.{Makes};
+ghost use Rattle.af_player.specs.Loading.{loaded_view, AreFilesFor};
+ghost use Rattle.af_player.specs.Plays.{IsSomePlayLine};
+ghost use Rattle.af_player.specs.Requests.{Play};
+ghost use Rattle.af_player.specs.Status.{HasFault, SuitsRequest};
+
+use crate::deliver::write_file;
+use crate::load::{Loaded, load_script};
+use crate::render::summary_line;
+use crate::status::Stop;
+use af_base::Memory;
+use af_io::{Gate, Store, StoreError};
+use af_model::Journal;
+use af_session::SessionFault;
+use std::alloc::Global;
+use std::thread::Threads;
+
+/// The text of a journal.
+fn text_of(alloc: Global, journal: &Journal) -> Result<Vec<u8>, Memory>
+    ensures { IfOk result (λ text. text.items ≡ text_of journal.now) }
+{
+    let mut text = Vec::new(alloc);
+    af_journal::write(alloc, journal, &mut text)?;
+    Ok(text)
+}
+
+/// Makes the file of a journal anew, with its text as one piece.
+fn write_journal<S: Store>(
+    alloc: Global,
+    store: &mut S,
+    name: &str,
+    journal: &Journal,
+) -> Result<(), StoreError>
+    ensures written { S.told store.old → OnOk result (SetsFile (S.files store.old) name.now (Some (text_of journal.now)) (S.files store.new)) }
+    ensures left { S.told store.old → OnErr result (LeavesFront (S.files store.old) name.now (text_of journal.now) (S.files store.new)) }
+    ensures cause { HasCause (S.faults store.old) (S.faults store.new) result }
+{
+    let text = text_of(alloc, journal)?;
+    write_file(store, name, &text)
+}
+
+/// Plays what was loaded, writes the journal, and answers the line of a run in which all parties have ended.
+fn play<R: Threads + Sync, S: Store, G: Gate>(
+    rt: &R,
+    alloc: Global,
+    loaded: &Loaded,
+    store: &mut S,
+    target: &str,
+    journal: &str,
+    gate: &G,
+) -> Result<String, Stop>
+    requires { AreFilesFor loaded.now }
+    ensures made { S.told store.old → Makes result (Ok (play_job target.now journal.now (loaded_view loaded.now))) (S.files store.old) (S.files store.new) }
+    ensures line { IfOk result (λ line. IsSomePlayLine (string_bytes line)) }
+    ensures cause { HasFault (S.faults store.old) (S.faults store.new) result }
+    ensures words { (script : List ℕ) → SuitsRequest result (Play script target.now journal.now) }
+{
+    match af_session::play(
+        rt,
+        alloc,
+        &loaded.script,
+        &loaded.files,
+        store,
+        target,
+        gate,
+    ) {
+        Ok(played) => {
+            write_journal(alloc, store, journal, &played.journal)?;
+            Ok(summary_line(alloc, &played.summary)?)
+        }
+        Err(SessionFault::CycleLimit { journal: cut, .. }) => {
+            write_journal(alloc, store, journal, &cut)?;
+            let cycles = loaded.script.cycles();
+            Err(Stop::Limit { cycles })
+        }
+        Err(SessionFault::Store) => Err(Stop::Store),
+        Err(SessionFault::Memory) => Err(Stop::Memory),
+    }
+}
+
+/// Loads a script and the files of its tracks, and plays it in rounds into the output. The journal is written where all parties have ended, whose line is answered, and where the play was cut off at its limit of cycles.
+pub fn play_script<R: Threads + Sync, S: Store, G: Gate>(
+    rt: &R,
+    alloc: Global,
+    store: &mut S,
+    script: &str,
+    target: &str,
+    journal: &str,
+    gate: &G,
+) -> Result<String, Stop>
+    ensures made { S.told store.old → Makes result (play_asked (S.files store.old) script.now target.now journal.now) (S.files store.old) (S.files store.new) }
+    ensures line { IfOk result (λ line. IsSomePlayLine (string_bytes line)) }
+    ensures cause { HasFault (S.faults store.old) (S.faults store.new) result }
+    ensures words { SuitsRequest result (Play script.now target.now journal.now) }
+{
+    let loaded = load_script(alloc, store, script)?;
+    play(rt, alloc, &loaded, store, target, journal, gate)
+}

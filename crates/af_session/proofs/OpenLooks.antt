@@ -1,0 +1,137 @@
+-- A server that is not shut in the end found no words that don't fit: no look of it was Shut.
+use Rattle.std.proofs.Common.{◌≡◌, ℕ, ◌-◌, ◌==◌, not, nat_lt, Bool, true, false, if◌then◌else◌, is_some, fold, min, MatchOption, List, [], ◌∷◌, ◌++◌, Option, Some, None, refl, sym, ap, subst, ◌∙◌, append-nil, append_assoc}
+use Rattle.std.specs.List.{list_all}
+use Rattle.std.proofs.lemmas.Grind.{fold-append}
+use Rattle.std.proofs.lemmas.Option.{none-some}
+use Rattle.af_base.specs.declared.event.ServerEvent.{ServerEvent}
+use Rattle.af_base.specs.declared.event.ServerEvent.TheVariants as server
+use Rattle.af_base.specs.declared.log.SlotEntry.{SlotEntry}
+use Rattle.af_base.specs.declared.seen.Seen.{Seen}
+use Rattle.af_base.specs.declared.seen.Seen.TheVariants as seen
+use Rattle.af_base.specs.declared.turn.CommandLook.{CommandLook}
+use Rattle.af_life.specs.Looks.{LegalLooks, all_command_events, as_slot, command_events, did, takes_command}
+use Rattle.af_life.specs.Obeys.{is_shut, shows_command}
+use Rattle.af_model.proofs.Logic.{both_are}
+use Rattle.af_model.specs.Cycles.{Listed, LooksBy, after_look, cycle_events, kept, tally}
+use Rattle.af_model.specs.Room.{ahead, outside}
+use Rattle.af_model.specs.ServerCalls.{ServerKept, is_noticed, look_at, look_events, server_begins, server_keeps, server_kept}
+use Rattle.af_model.specs.declared.shape.Shape.{Shape}
+
+-- what a list tells, after further events
+pub kept_more : (k : Shape) (es more : List ServerEvent) → server_kept k (es ++ more) ≡ fold (server_keeps k) (server_kept k es) more
+kept_more k es more = fold-append (server_keeps k) (server_begins k) es more
+
+-- ## One look
+
+module _ (shape : Shape) where
+  -- the words that shut a server after further events
+  abbrev pub shut_after : ServerKept → List ServerEvent → Option (ℕ × ℕ)
+  shut_after k events = (fold (server_keeps shape) k events).shut
+
+  shut_append : (k : ServerKept) (es more : List ServerEvent) → shut_after k (es ++ more) ≡ shut_after (fold (server_keeps shape) k es) more
+  shut_append k es more = ap (λ (x : ServerKept). x.shut) (fold-append (server_keeps shape) k es more)
+
+  -- what a look leaves: nothing shuts it where it noticed a flush, and else a front outside the room does
+  shut_by : (k : ServerKept) (answer : Seen) (flush rear front : ℕ) → shut_after k (look_events answer flush rear front) ≡ (if is_noticed shape (not (flush == k.flush)) rear front then None else outside shape.frames front rear)
+  shut_by k seen.Absent flush rear front = refl
+  shut_by k (seen.Flushed dropped) flush rear front = refl
+  shut_by k (seen.Shut f r) flush rear front = refl
+  shut_by k seen.Empty flush rear front = refl
+  shut_by k (seen.Frames count) flush rear front = refl
+
+  -- events that look at no front
+  abbrev pub Stay : List ServerEvent → Type 0
+  Stay events = (k : ServerKept) → shut_after k events ≡ k.shut
+
+  stay_tally : (missing : ℕ) → Stay (tally missing)
+  stay_tally missing k = by_none (missing == 0)
+    where
+      by_none : (b : Bool) → shut_after k (if b then [] else server.Tally missing ∷ server.SetFlags 1 ∷ []) ≡ k.shut
+      by_none true = refl
+      by_none false = refl
+
+  stay_shut : (was : Bool) → Stay (if was then [] else server.SetFlags 4 ∷ [])
+  stay_shut true k = refl
+  stay_shut false k = refl
+
+  -- what follows a look looks at none
+  stay_after : (asked : ℕ) (was : Bool) (answer : Seen) → Stay (after_look asked was answer)
+  stay_after asked was seen.Absent k = refl
+  stay_after asked was (seen.Flushed dropped) k = refl
+  stay_after asked was (seen.Shut front rear) k = stay_shut was k
+  stay_after asked was seen.Empty k = stay_tally asked k
+  stay_after asked was (seen.Frames count) k = stay_tally (asked - count) (fold (server_keeps shape) k (server.Take count ∷ []))
+
+  -- where a look shut nobody, it shows no words that don't fit
+  abbrev shut_if : (noticed outside_is : Bool) (front rear : ℕ) → Option (ℕ × ℕ)
+  shut_if noticed outside_is front rear = if noticed then None else (if outside_is then Some (front, rear) else None)
+
+  open_sight : (kept_flush asked flush rear front : ℕ) (noticed outside_is : Bool)
+      → shut_if noticed outside_is front rear ≡ None
+      → is_shut (if noticed then seen.Flushed kept_flush else if outside_is then seen.Shut front rear else if rear == front then seen.Empty else seen.Frames (min asked (ahead front rear))) ≡ false
+  open_sight kept_flush asked flush rear front true outside_is fine = refl
+  open_sight kept_flush asked flush rear front false true fine = absurd (none-some (front, rear) (sym fine))
+  open_sight kept_flush asked flush rear front false false fine = fits (rear == front)
+    where
+      fits : (b : Bool) → is_shut (if b then seen.Empty else seen.Frames (min asked (ahead front rear))) ≡ false
+      fits true = refl
+      fits false = refl
+
+module _ (asked : ℕ) (s : Listed) (slot : SlotEntry) (front : ℕ) (looks : LooksBy asked s slot front) where
+  abbrev shown_now : Seen
+  shown_now = look_at s.shape (kept s).flush asked slot.flush slot.rear front
+
+  -- the events of a look by a server that was shut, or wasn't, and those that follow it
+  abbrev look_of : Bool → List ServerEvent
+  look_of was = if was then [] else look_events slot.seen slot.flush slot.rear front
+
+  open_by : (first more : List ServerEvent) (o : Option (ℕ × ℕ)) → Stay s.shape first → Stay s.shape more → ((k : ServerKept) → (fold (server_keeps s.shape) k first).flush ≡ k.flush) → (kept s).shut ≡ o
+      → MatchOption o (slot.seen ≡ shown_now) (λ words. (slot.seen ≡ seen.Shut words.0 words.1) × (slot.flush ≡ (kept s).flush) × (slot.rear ≡ words.1))
+      → shut_after s.shape (kept s) (first ++ (look_of (is_some o) ++ more)) ≡ None → ((kept s).shut ≡ None) × (is_shut slot.seen ≡ false)
+  open_by first more (Some words) quiet calm same is shows fine =
+      let k : ServerKept = kept s in
+      let m : ServerKept = fold (server_keeps s.shape) k first in
+      absurd (none-some words (sym fine ∙ shut_append s.shape k first more ∙ calm m ∙ quiet k ∙ is))
+  open_by first more None quiet calm same is shows fine =
+      let k : ServerKept = kept s in
+      let m : ServerKept = fold (server_keeps s.shape) k first in
+      let seen_events = look_events slot.seen slot.flush slot.rear front in
+      let looked : shut_after s.shape (kept s) (first ++ (seen_events ++ more)) ≡ (if is_noticed s.shape (not (slot.flush == k.flush)) slot.rear front then None else outside s.shape.frames front slot.rear) =
+      shut_append s.shape k first (seen_events ++ more)
+      ∙ shut_append s.shape m seen_events more
+      ∙ calm (fold (server_keeps s.shape) m seen_events)
+      ∙ shut_by s.shape m slot.seen slot.flush slot.rear front
+      ∙ ap (λ (flush : ℕ). if is_noticed s.shape (not (slot.flush == flush)) slot.rear front then None else outside s.shape.frames front slot.rear) (same k) in
+      (is, ap is_shut shows ∙ open_sight s.shape _ asked slot.flush slot.rear front (is_noticed s.shape (not (slot.flush == k.flush)) slot.rear front) (nat_lt s.shape.frames (ahead front slot.rear)) (sym looked ∙ fine))
+
+  -- a look with what stands before it and after it
+  pub open_look : (first more : List ServerEvent) → Stay s.shape first → Stay s.shape more → ((k : ServerKept) → (fold (server_keeps s.shape) k first).flush ≡ k.flush)
+      → shut_after s.shape (kept s) (first ++ ((if is_some (kept s).shut then [] else look_events slot.seen slot.flush slot.rear front) ++ more)) ≡ None → ((kept s).shut ≡ None) × (is_shut slot.seen ≡ false)
+  open_look first more quiet calm same fine = open_by first more (kept s).shut quiet calm same refl looks.1 fine
+
+  -- the look of a cycle
+  pub open_cycle : shut_after s.shape (kept s) (cycle_events asked s slot front) ≡ None → ((kept s).shut ≡ None) × (is_shut slot.seen ≡ false)
+  open_cycle fine = open_look (server.SawGain slot.gains ∷ []) (after_look asked (is_some (kept s).shut) slot.seen) (λ k. refl) (stay_after s.shape asked (is_some (kept s).shut) slot.seen) (λ k. refl) fine
+
+-- ## The looks at a command block
+
+stay_taken : (shape : Shape) (look : CommandLook) → Stay shape (takes_command look)
+stay_taken shape look k = by_command (shows_command look.seen)
+  where
+    by_command : (b : Bool) → shut_after shape k (if b then server.Take 2 ∷ [] else []) ≡ k.shut
+    by_command true = refl
+    by_command false = refl
+
+-- where a server isn't shut after some looks at commands none of them was Shut
+pub open_commands : (s : Listed) (looks : List CommandLook) (fronts : List ℕ) → LegalLooks s looks fronts → (server_kept s.shape (s.events ++ all_command_events s looks fronts)).shut ≡ None
+    → ((kept s).shut ≡ None) × (list_all (λ look. not (is_shut look.seen)) looks ≡ true)
+open_commands s [] [] legal fine = (subst (λ (es : List ServerEvent). (server_kept s.shape es).shut ≡ None) (append-nil s.events) fine, refl)
+open_commands s [] (front ∷ fronts) legal fine = absurd legal
+open_commands s (look ∷ looks) [] legal fine = absurd legal
+open_commands s (look ∷ looks) (front ∷ fronts) legal fine =
+    let events : List ServerEvent = command_events s look front in
+    let rest : List ServerEvent = all_command_events (did s events) looks fronts in
+    let after = open_commands (did s events) looks fronts legal.2 (subst (λ (es : List ServerEvent). (server_kept s.shape es).shut ≡ None) (sym (append_assoc s.events events rest)) fine) in
+    let here : shut_after s.shape (kept s) events ≡ None = sym (ap (λ (x : ServerKept). x.shut) (kept_more s.shape s.events events)) ∙ after.0 in
+    let one = open_look 2 s (as_slot look) front legal.0 [] (takes_command look) (λ k. refl) (stay_taken s.shape look) (λ k. refl) here in
+    (one.0, both_are (not (is_shut look.seen)) (list_all (λ (l : CommandLook). not (is_shut l.seen)) looks) (ap not one.1) after.1)

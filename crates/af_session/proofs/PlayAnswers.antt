@@ -1,0 +1,131 @@
+-- What a play answers, by what was played.
+use Rattle.std.proofs.Common.{◌≡◌, ◌≤◌, ◌<◌, ℕ, Bool, true, false, List, length, Result, Ok, Err, IfErr, IfOk, IsErrAnd, IsErrOf, refl, sym, ap, subst, ◌∙◌}
+use Rattle.af_base.specs.declared.frame.Frame.{Frame}
+use Rattle.af_base.specs.Log.{Logged}
+use Rattle.af_io.specs.Causes.{HasCause}
+use Rattle.af_io.specs.declared.store.StoreError.{StoreError}
+use Rattle.af_io.specs.declared.store.StoreError.TheVariants as store
+use Rattle.af_model.specs.JournalForm.{IsWhole}
+use Rattle.af_model.specs.Journals.{JournalData, RoundsNoted, journal_of}
+use Rattle.af_script.specs.Data.{ScriptData}
+use Rattle.af_session.specs.Ends.{EndsState, ends_from}
+use Rattle.af_session.specs.declared.rendering.Played.{Played}
+use Rattle.af_session.specs.declared.rendering.SessionFault.{SessionFault}
+use Rattle.af_session.specs.declared.rendering.SessionFault.TheVariants as fault
+use Rattle.af_session.specs.PlayedRuns.{AtFault, AtLimit, HandsBackRun, Plays, all_ended, is_full}
+use Rattle.af_session.specs.Rendered.{HasStoreCause, fault_of, is_limit}
+use Rattle.af_session.specs.Shown.{released_by, shown_in, summary_told}
+use Rattle.af_session.specs.Summaries.{Shown, summary_of}
+use Rattle.af_session.specs.Tallies.{IsTally, Tallied}
+use Rattle.af_session.specs.Together.{SessionState}
+use Rattle.af_session.proofs.Outgoing.{cause_ok}
+use Rattle.af_session.proofs.ShownWhole.{is_told}
+
+-- ## Answers
+
+pub if_ok_one : {T E : Type 0} (A B : T → Type 0) (r : Result T E) → ((x : T) → A x → B x) → IfOk r A → IfOk r B
+if_ok_one A B (Ok x) f a = f x a
+if_ok_one A B (Err e) f a = tt
+
+pub if_ok_three : {T E : Type 0} (A B C D : T → Type 0) (r : Result T E) → ((x : T) → A x → B x → C x → D x) → IfOk r A → IfOk r B → IfOk r C → IfOk r D
+if_ok_three A B C D (Ok x) f a b c = f x a b c
+if_ok_three A B C D (Err e) f a b c = tt
+
+-- ## Want of memory and faults of the store
+
+limits_not : (e : StoreError) → is_limit (fault_of e) ≡ false
+limits_not store.Failed = refl
+limits_not store.Memory = refl
+
+module _ {T : Type 0} (r : Result T SessionFault) where
+  -- neither is a limit
+  pub memory_never : IsErrAnd r (λ f. f ≡ fault.Memory) → IfErr r (λ f. is_limit f ≡ false)
+  memory_never = by_answer r
+    where
+      by_answer : (x : Result T SessionFault) → IsErrAnd x (λ f. f ≡ fault.Memory) → IfErr x (λ f. is_limit f ≡ false)
+      by_answer (Ok y) is = tt
+      by_answer (Err f) is = ap is_limit is
+
+  pub store_never : (e : StoreError) → IsErrAnd r (λ f. f ≡ fault_of e) → IfErr r (λ f. is_limit f ≡ false)
+  store_never e = by_answer r
+    where
+      by_answer : (x : Result T SessionFault) → IsErrAnd x (λ f. f ≡ fault_of e) → IfErr x (λ f. is_limit f ≡ false)
+      by_answer (Ok y) is = tt
+      by_answer (Err f) is = ap is_limit is ∙ limits_not e
+
+  -- so nothing is claimed of one
+  pub off_limit : (P : JournalData → EndsState → Type 0) → IfErr r (λ f. is_limit f ≡ false) → IfErr r (AtLimit P)
+  off_limit P = by_answer r
+    where
+      by_fault : (f : SessionFault) → is_limit f ≡ false → AtLimit P f
+      by_fault fault.Store is = tt
+      by_fault fault.Memory is = tt
+      by_fault (fault.CycleLimit journal ends) is = absurd (let e : ⊥ = cc in e)
+
+      by_answer : (x : Result T SessionFault) → IfErr x (λ f. is_limit f ≡ false) → IfErr x (AtLimit P)
+      by_answer (Ok y) is = tt
+      by_answer (Err f) is = by_fault f is
+
+  -- what is so anyway is so after a fault
+  pub at_fault : (P : Type 0) → P → IfErr r (AtFault P)
+  at_fault P p = by_answer r
+    where
+      by_fault : (f : SessionFault) → AtFault P f
+      by_fault fault.Store = p
+      by_fault fault.Memory = p
+      by_fault (fault.CycleLimit journal ends) = tt
+
+      by_answer : (x : Result T SessionFault) → IfErr x (AtFault P)
+      by_answer (Ok y) = tt
+      by_answer (Err f) = by_fault f
+
+-- ## A run that was played to its end, or to that of the log
+
+no_store : {T : Type 0} (j : JournalData) (e : EndsState) → IsErrOf {T = T} {E = SessionFault} (Err (fault.CycleLimit j e)) fault.Store → ⊥
+no_store {T} j e h = let x : ⊥ = cc in x
+
+no_fault : (x : Unit {0}) → IsErrOf {T = Unit {0}} {E = StoreError} (Ok x) store.Failed → ⊥
+no_fault x h = let e : ⊥ = cc in e
+
+-- an answer that is an error was cut off, with this journal and these ends
+abbrev pub IsCut : Result Played SessionFault → Type 0 → JournalData → EndsState → Type 0
+IsCut r A j e = IfErr r (λ f. A × (f ≡ fault.CycleLimit j e))
+
+pub cut_off : (P : JournalData → EndsState → Type 0) (r : Result Played SessionFault) (A : Type 0) (j : JournalData) (e : EndsState) → (A → P j e) → IsCut r A j e → IfErr r (AtLimit P)
+cut_off P (Ok p) A j e h is = tt
+cut_off P (Err f) A j e h is = subst (AtLimit P) (sym is.1) (h is.0)
+
+pub cut_fault : (P : Type 0) (r : Result Played SessionFault) (A : Type 0) (j : JournalData) (e : EndsState) → IsCut r A j e → IfErr r (AtFault P)
+cut_fault P (Ok p) A j e is = tt
+cut_fault P (Err f) A j e is = subst (AtFault P) (sym is.1) tt
+
+pub cause_cut : (r : Result Played SessionFault) (A : Type 0) (j : JournalData) (e : EndsState) (x : Unit {0}) (before now : ℕ) → HasCause {T = Unit {0}} before now (Ok x) → IsCut r A j e → HasStoreCause before now r
+cause_cut (Ok p) A j e x before now cause is = cause_ok p x before now cause
+cause_cut (Err f) A j e x before now cause is = subst (λ (y : SessionFault). HasStoreCause {T = Played} before now (Err y)) (sym is.1) (record {
+  later = cause.later;
+  failed = (λ h. absurd (no_store {T = Played} j e h));
+  only = (λ lt. absurd (no_fault x (cause.only lt)));
+})
+
+-- what is handed back
+pub hands_back : (ended : Bool) (script : ScriptData) (files : List (List Frame)) (t : SessionState) (noted : RoundsNoted) (j : JournalData) (e : EndsState) → Plays script files noted.rounds t → noted.tracks ≡ length script.tracks
+    → length t.clients ≡ length script.tracks → length noted.rounds ≤ script.cycles → (all_ended t ≡ false → is_full t ≡ true) → all_ended t ≡ ended → j ≡ journal_of noted t.fast.log → e ≡ ends_from t → HandsBackRun ended script files j e
+hands_back ended script files t noted j e played tracks count few over is journal ends = record {
+  parties = t;
+  rounds = noted.rounds;
+  played = played;
+  journal_is = journal ∙ ap (λ (n : ℕ). journal_of (record { tracks = n; rounds = noted.rounds }) t.fast.log) tracks;
+  ends_are = ends;
+  count = ap (λ (x : EndsState). length x.clients) ends ∙ count;
+  few = few;
+  all = is;
+  cut = (λ more. over (is ∙ more));
+}
+
+-- the summary is told by the journal and the ends
+pub told_of : (r : Result Played SessionFault) (len : ℕ) (noted : RoundsNoted) (t : SessionState) (y : Tallied) → IsWhole noted t.fast.log → IsTally (shown_in len noted t.fast.log t.normal.mutator.past.events) y
+    → ((run : Shown) → IsTally run y → IfOk r (λ p. p.summary ≡ summary_of run (released_by t.clients))) → IfOk r (λ p. p.journal ≡ journal_of noted t.fast.log) → IfOk r (λ p. p.ends ≡ ends_from t)
+    → IfOk r (λ p. p.summary ≡ summary_told len p.journal p.ends)
+told_of (Ok p) len noted t y whole tally sums journal ends =
+    is_told len noted t.fast.log t.normal.mutator.past.events t.clients y p.summary p.journal p.ends whole journal (ap (λ (x : EndsState). x.clients) ends) (ap (λ (x : EndsState). x.normal.mutator.past.events) ends) tally sums
+told_of (Err f) len noted t y whole tally sums journal ends = tt

@@ -1,0 +1,23 @@
+use Rattle.std.proofs.Common.{◌≡◌, ◌++◌, Bool, false, List, [], ℕ, sym, subst, ◌∙◌}
+use Rattle.std.specs.Bool.{MatchBool}
+use Rattle.af_fast.specs.Mixer.{MixerState}
+use Rattle.af_session.specs.Alone.{CyclesOn, FastTurned, most_cycles}
+use Rattle.af_session.proofs.AloneTurns.{sounds_on}
+use Rattle.af_session.proofs.alone.turn_alone.Goals as goal
+
+pub returns-then-not-has_exited-clause-turned : goal.returns-then-not-has_exited-clause-turned
+returns-then-not-has_exited-clause-turned g c =
+    let m : MixerState = c.args.fast.now in
+    let m' : MixerState = c.cycles_on.new.fast in
+    let done = c.cycles_on.ensures.turned in
+    let added : List ℕ = done.0 in
+    let runs : m.exited ≡ false = sym c.has_exited.ensures ∙ c.if-not-has_exited.true in
+    let turned : FastTurned m added m' = subst (λ (b : Bool). MatchBool b ((added ≡ []) × (m' ≡ m)) (CyclesOn most_cycles m added m')) (sym runs) done.2 in
+    record {
+      added = added;
+      written_is = done.1;
+      played = turned;
+      can = c.cycles_on.ensures.can;
+      sizes = c.cycles_on.ensures.sizes;
+      sound = (λ before same. sounds_on m m' c.args.bytes.now c.cycles_on.new.bytes added before c.requires.can.whole turned done.1 same);
+    }

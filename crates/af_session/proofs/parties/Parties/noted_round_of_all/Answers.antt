@@ -1,0 +1,58 @@
+use Rattle.std.proofs.Common.{◌≡◌, ◌+◌, ◌++◌, ℕ, List, length, sym, ap, ◌∙◌, arith}
+use Rattle.af_base.specs.Log.{Logged}
+use Rattle.af_io.specs.Files.{LeavesFront}
+use Rattle.af_model.specs.Journals.{cycles_of}
+use Rattle.af_session.specs.Rounds.{Given, IsReady}
+use Rattle.af_session.specs.SideBySide.{all_noted}
+use Rattle.af_session.specs.Together.{SessionState}
+use Rattle.af_session.proofs.NotedRounds.{few_noted, left_whole, then_memory}
+use Rattle.af_session.proofs.Outgoing.{on_err}
+use Rattle.af_session.proofs.RoundsOfAll.{notes_of_all}
+use Rattle.af_session.proofs.parties.Parties.noted_round_of_all.Goals as goal
+
+pub note_all-requires-clause-more : goal.note_all-requires-clause-more
+note_all-requires-clause-more g c =
+    let given : Given = record { tracks = c.args.tracks.now; files = c.args.files.now } in
+    let was : SessionState = c.args.self.now in
+    let is : SessionState = c.send_round_of_all.new.self in
+    let count : c.len-entries.result ≡ length was.fast.log.entries = c.len-entries.ensures ∙ ap (λ (l : Logged). length l.entries) c.log.ensures ∙ ap (λ (s : SessionState). length s.fast.log.entries) c.self.view_is in
+    let longer = (notes_of_all given was (all_noted was is) c.send_round_of_all.new.bytes.items is c.send_round_of_all.ensures.round).goes.longer in
+    omega (arith, count, longer)
+
+pub note_all-requires-clause-few : goal.note_all-requires-clause-few
+note_all-requires-clause-few g c =
+    let given : Given = record { tracks = c.args.tracks.now; files = c.args.files.now } in
+    let n : ℕ = c.requires.ready.0 in
+    let was : SessionState = c.args.self.now in
+    let is : SessionState = c.send_round_of_all.new.self in
+    let next : IsReady c.args.links.now given (n + 1) is = c.send_round_of_all.ensures.ready n c.requires.ready.2 in
+    few_noted c.args.links.now given n (n + 1) was is c.requires.ready.2 next (cycles_of c.args.rounds.now.rounds) c.requires.count
+
+pub returns-clause-noted : goal.returns-clause-noted
+returns-clause-noted g c =
+    let was : SessionState = c.args.self.now in
+    let count : c.len-entries.result ≡ length was.fast.log.entries = c.len-entries.ensures ∙ ap (λ (l : Logged). length l.entries) c.log.ensures ∙ ap (λ (s : SessionState). length s.fast.log.entries) c.self.view_is in
+    let ended : c.has_ended-had_ended.result ≡ was.normal.ended = c.has_ended-had_ended.ensures ∙ ap (λ (s : SessionState). s.normal.ended) c.self.view_is in
+    c.in_ok-note_all.ensures.noted was ended count
+
+pub returns-clause-frames : goal.returns-clause-frames
+returns-clause-frames g c =
+    let was : SessionState = c.args.self.now in
+    let ended : c.has_ended-had_ended.result ≡ was.normal.ended = c.has_ended-had_ended.ensures ∙ ap (λ (s : SessionState). s.normal.ended) c.self.view_is in
+    c.in_ok-note_all.ensures.frames was ended
+
+pub returns-in_err-send_round_of_all-clause-left : goal.returns-in_err-send_round_of_all-clause-left
+returns-in_err-send_round_of_all-clause-left g c = λ told base out set.
+    let left : LeavesFront base c.args.name.now (out ++ c.send_round_of_all.new.bytes.items) (g.S.Store.files c.send_round_of_all.new.store) = c.in_err-send_round_of_all.ensures.left told base out set in
+    on_err c.from_residual.result left
+
+pub returns-in_err-note_all-clause-left : goal.returns-in_err-note_all-clause-left
+returns-in_err-note_all-clause-left g c = λ told base out set.
+    let whole : List ℕ = out ++ c.send_round_of_all.new.bytes.items in
+    let left : LeavesFront base c.args.name.now whole (g.S.Store.files c.send_round_of_all.new.store) =
+    left_whole base (g.S.Store.files c.send_round_of_all.new.store) c.args.name.now whole (c.in_ok-send_round_of_all.ensures.written told base out set) in
+    on_err c.from_residual-in_err-note_all.result left
+
+pub returns-in_err-note_all-clause-cause : goal.returns-in_err-note_all-clause-cause
+returns-in_err-note_all-clause-cause g c =
+    then_memory c.from_residual-in_err-note_all.result (g.S.Store.faults c.args.store.now) (g.S.Store.faults c.send_round_of_all.new.store) c.in_ok-send_round_of_all.field-0 c.from_residual-in_err-note_all.ensures.1 c.in_ok-send_round_of_all.ensures.cause

@@ -1,0 +1,187 @@
+use Rattle.std.proofs.Common.{rules, ◌≡◌, ◌+◌, ◌-◌, ◌<◌, ◌≤◌, ◌++◌, ◌∷◌, ℕ, List, [], Some, true, length, refl, sym, ap, subst, ◌∙◌, arith}
+use Rattle.std.specs.Prelude.{All}
+use Rattle.std.proofs.lemmas.List.{length-append}
+use Rattle.af_base.specs.Log.{Logged}
+use Rattle.af_base.specs.Sample.{IsFrame}
+use Rattle.af_base.specs.declared.state.FastState.{FastState}
+use Rattle.af_io.specs.Files.{SetsFile, LeavesFront}
+use Rattle.af_model.specs.Journals.{RoundNoted, RoundsNoted}
+use Rattle.af_session.specs.PlayedRuns.{GoesOn, RunsOfAll}
+use Rattle.af_session.specs.Rounds.{Given, IsReady}
+use Rattle.af_session.specs.Shown.{HasPlaces, shown_at}
+use Rattle.af_session.specs.SideBySide.{IsRoundOfAll, all_noted}
+use Rattle.af_session.specs.Sound.{pcm_of}
+use Rattle.af_session.specs.Tallies.{IsTally}
+use Rattle.af_session.specs.Together.{SessionState}
+use Rattle.af_session.proofs.ExitSeen.{Knowing, round_knows}
+use Rattle.af_session.proofs.FirstRound.{empty_first}
+use Rattle.af_session.proofs.GoingOn.{few_so_far, goes_further}
+use Rattle.af_session.proofs.JournalSound.{journal_form, journal_whole}
+use Rattle.af_session.proofs.Outgoing.{on_err, stays_at}
+use Rattle.af_session.proofs.RoundForms.{AreNoted, noted_none}
+use Rattle.af_session.proofs.RoundsLeft.{IsGoing, going_first}
+use Rattle.af_session.proofs.RoundsOfAll.{noted_of_all}
+use Rattle.af_session.proofs.RunOfAll.{knowing_first, run_of_more, run_of_none}
+use Rattle.af_session.proofs.ShownWhole.{places_first, tally_first}
+use Rattle.af_session.proofs.parties.Parties.play_to_end.Goals as goal
+
+pub loop-alloc-init : goal.loop-alloc-init
+loop-alloc-init g c =
+    let given : Given = record { tracks = c.args.tracks.now; files = c.args.files.now } in
+    let was : SessionState = c.args.self.now in
+    let tracks : ℕ = length c.args.tracks.now in
+    let new = c.requires.new in
+    let log = empty_first new.0 new.1 was new.2 [] in
+    let none : length c.args.rounds.now.rounds ≡ 0 = ap (λ (x : RoundsNoted). length x.rounds) c.requires.rounds in
+    record {
+      ready = subst (λ (n : ℕ). IsReady c.args.links.now given n was) (sym none) c.requires.ready;
+      knowing = knowing_first new.0 new.1 was new.2;
+      few = omega (arith, none);
+      going = subst (λ (n : ℕ). IsGoing n was) (sym none) (going_first was);
+      run = subst (λ (x : RoundsNoted). RunsOfAll given was x.rounds was) (sym c.requires.rounds) (run_of_none given was);
+      tally = subst (λ (x : RoundsNoted). (first : FastState) → IsTally (shown_at first tracks x.rounds was.fast) c.args.tally.now) (sym c.requires.rounds) (tally_first tracks was.fast c.args.tally.now log.0 c.requires.tally);
+      places = subst (λ (n : ℕ). HasPlaces n (length was.clients) (length was.fast.log.entries) c.args.tally.now) (sym none)
+          (places_first tracks (length was.clients) (length was.fast.log.entries) c.args.tally.now (sym c.requires.ready.given.0) c.requires.tally);
+      noted = subst (λ (x : RoundsNoted). AreNoted tracks x was.fast.log) (sym c.requires.rounds) (noted_none tracks was.fast.log log.0 log.1);
+      sizes = (refl, refl, refl);
+      buffer = c.requires.buffer;
+      tells = (λ told. told);
+      stays = refl;
+      written = (λ told base set. set);
+    }
+
+pub loop-alloc-preserved : goal.loop-alloc-preserved
+loop-alloc-preserved g c =
+    let given : Given = record { tracks = c.args.tracks.now; files = c.args.files.now } in
+    let inv = c.loop-alloc.invariant in
+    let rounds : RoundsNoted = c.loop-alloc.rounds in
+    let i : ℕ = length rounds.rounds in
+    let now : SessionState = c.loop-alloc.self in
+    let next : SessionState = c.noted_round_of_all.new.self in
+    let frames : ℕ = c.args.self.now.fast.frames in
+    let more = c.noted_round_of_all.new.bytes.items in
+    let then : List ℕ = pcm_of frames now.fast.log in
+    let grown : then ++ more ≡ pcm_of frames next.fast.log =
+    c.noted_round_of_all.ensures.sound then (ap (λ (n : ℕ). pcm_of n now.fast.log) (sym inv.sizes.0)) ∙ ap (λ (n : ℕ). pcm_of n next.fast.log) inv.sizes.0 in
+    let goes : GoesOn now = c.goes_on.ensures.yes c.loop-alloc-test.true in
+    let round = c.noted_round_of_all.ensures.round in
+    let noted = c.in_ok-noted_round_of_all.ensures.noted in
+    let room = inv.ready.together.fast.0.room.entries.0 in
+    let longer : length c.noted_round_of_all.new.rounds.rounds ≡ i + 1 = ap (λ (x : RoundsNoted). length x.rounds) noted ∙ length-append rounds.rounds (all_noted now next ∷ []) in
+    let few : i < now.fast.cycles = few_so_far i now room goes inv.going in
+    record {
+      ready = subst (λ (n : ℕ). IsReady c.args.links.now given n next) (sym longer) (c.noted_round_of_all.ensures.ready i inv.ready);
+      knowing = round_knows given now next (all_noted now next) more inv.knowing round;
+      few = omega (arith, longer, few, inv.sizes.1, c.requires.cycles);
+      going = subst (λ (n : ℕ). IsGoing n next) (sym longer) (goes_further given i now next (all_noted now next) more inv.knowing inv.ready.together.fast.0.keeps.exited_is room goes inv.going round);
+      run = subst (λ (x : RoundsNoted). RunsOfAll given c.args.self.now x.rounds next) (sym noted)
+          (run_of_more given c.args.self.now now next rounds.rounds inv.run goes (all_noted now next) more round grown);
+      tally = subst (λ (x : RoundsNoted). (first : FastState) → IsTally (shown_at first (length c.args.tracks.now) x.rounds next.fast) c.noted_round_of_all.new.tally) (sym noted)
+          (λ first. c.noted_round_of_all.ensures.tally first (length c.args.tracks.now) rounds.rounds (inv.tally first));
+      places = subst (λ (n : ℕ). HasPlaces n (length next.clients) (length next.fast.log.entries) c.noted_round_of_all.new.tally) (sym longer) (c.noted_round_of_all.ensures.places i inv.places);
+      noted = subst (λ (x : RoundsNoted). AreNoted (length c.args.tracks.now) x next.fast.log) (sym noted)
+          (noted_of_all c.args.links.now given i now inv.ready (all_noted now next) more next round c.in_ok-noted_round_of_all.ensures.frames rounds inv.noted);
+      sizes = (c.noted_round_of_all.ensures.sizes.0 ∙ inv.sizes.0, c.noted_round_of_all.ensures.sizes.1 ∙ inv.sizes.1, c.noted_round_of_all.ensures.sizes.2 ∙ inv.sizes.2);
+      buffer = search rules;
+      tells = (λ told. c.noted_round_of_all.ensures.tells (inv.tells told));
+      stays = sym (stays_at (g.S.Store.faults c.loop-alloc.store) (g.S.Store.faults c.noted_round_of_all.new.store) c.in_ok-noted_round_of_all.field-0 c.in_ok-noted_round_of_all.ensures.cause) ∙ inv.stays;
+      written = (λ told base set.
+          subst (λ (xs : List ℕ). SetsFile base c.args.name.now (Some xs) (g.S.Store.files c.noted_round_of_all.new.store)) grown
+          (c.in_ok-noted_round_of_all.ensures.written (inv.tells told) base then (inv.written told base set)));
+    }
+
+pub loop-alloc-smaller : goal.loop-alloc-smaller
+loop-alloc-smaller g c =
+    let inv = c.loop-alloc.invariant in
+    let rounds : RoundsNoted = c.loop-alloc.rounds in
+    let now : SessionState = c.loop-alloc.self in
+    let next : SessionState = c.noted_round_of_all.new.self in
+    let goes : GoesOn now = c.goes_on.ensures.yes c.loop-alloc-test.true in
+    let longer : length c.noted_round_of_all.new.rounds.rounds ≡ length rounds.rounds + 1 =
+    ap (λ (x : RoundsNoted). length x.rounds) c.in_ok-noted_round_of_all.ensures.noted ∙ length-append rounds.rounds (all_noted now next ∷ []) in
+    let few = few_so_far (length rounds.rounds) now inv.ready.together.fast.0.room.entries.0 goes inv.going in
+    omega (arith, longer, few, inv.sizes.1, c.requires.cycles)
+
+pub goes_on-requires-clause-cycles : goal.goes_on-requires-clause-cycles
+goes_on-requires-clause-cycles g c = c.requires.cycles ∙ sym c.loop-alloc.invariant.sizes.1
+
+pub noted_round_of_all-requires-clause-ready : goal.noted_round_of_all-requires-clause-ready
+noted_round_of_all-requires-clause-ready g c =
+    let inv = c.loop-alloc.invariant in
+    let rounds : RoundsNoted = c.loop-alloc.rounds in
+    let now : SessionState = c.loop-alloc.self in
+    let goes : GoesOn now = c.goes_on.ensures.yes c.loop-alloc-test.true in
+    let order = inv.ready.together.fast.0.room in
+    let few = few_so_far (length rounds.rounds) now order.entries.0 goes inv.going in
+    (length rounds.rounds, omega (arith, few, order.sized.2), inv.ready)
+
+pub noted_round_of_all-requires-clause-count : goal.noted_round_of_all-requires-clause-count
+noted_round_of_all-requires-clause-count g c = c.loop-alloc.invariant.noted.count
+
+pub noted_round_of_all-requires-clause-places : goal.noted_round_of_all-requires-clause-places
+noted_round_of_all-requires-clause-places g c =
+    let inv = c.loop-alloc.invariant in
+    let rounds : RoundsNoted = c.loop-alloc.rounds in
+    let now : SessionState = c.loop-alloc.self in
+    let goes : GoesOn now = c.goes_on.ensures.yes c.loop-alloc-test.true in
+    let order = inv.ready.together.fast.0.room in
+    let few = few_so_far (length rounds.rounds) now order.entries.0 goes inv.going in
+    (length rounds.rounds, omega (arith, few, order.sized.2), inv.places)
+
+pub returns-in_err-noted_round_of_all-clause-run : goal.returns-in_err-noted_round_of_all-clause-run
+returns-in_err-noted_round_of_all-clause-run g c =
+    let given : Given = record { tracks = c.args.tracks.now; files = c.args.files.now } in
+    let inv = c.loop-alloc.invariant in
+    let rounds : RoundsNoted = c.loop-alloc.rounds in
+    let now : SessionState = c.loop-alloc.self in
+    let next : SessionState = c.noted_round_of_all.new.self in
+    let frames : ℕ = c.args.self.now.fast.frames in
+    let more = c.noted_round_of_all.new.bytes.items in
+    let then : List ℕ = pcm_of frames now.fast.log in
+    let grown : then ++ more ≡ pcm_of frames next.fast.log =
+    c.noted_round_of_all.ensures.sound then (ap (λ (n : ℕ). pcm_of n now.fast.log) (sym inv.sizes.0)) ∙ ap (λ (n : ℕ). pcm_of n next.fast.log) inv.sizes.0 in
+    let goes : GoesOn now = c.goes_on.ensures.yes c.loop-alloc-test.true in
+    (rounds.rounds ++ all_noted now next ∷ [], run_of_more given c.args.self.now now next rounds.rounds inv.run goes (all_noted now next) more c.noted_round_of_all.ensures.round grown)
+
+pub returns-in_err-noted_round_of_all-clause-left : goal.returns-in_err-noted_round_of_all-clause-left
+returns-in_err-noted_round_of_all-clause-left g c = λ told base set.
+    let inv = c.loop-alloc.invariant in
+    let now : SessionState = c.loop-alloc.self in
+    let next : SessionState = c.noted_round_of_all.new.self in
+    let frames : ℕ = c.args.self.now.fast.frames in
+    let more = c.noted_round_of_all.new.bytes.items in
+    let then : List ℕ = pcm_of frames now.fast.log in
+    let grown : then ++ more ≡ pcm_of frames next.fast.log =
+    c.noted_round_of_all.ensures.sound then (ap (λ (n : ℕ). pcm_of n now.fast.log) (sym inv.sizes.0)) ∙ ap (λ (n : ℕ). pcm_of n next.fast.log) inv.sizes.0 in
+    let left : LeavesFront base c.args.name.now (pcm_of frames next.fast.log) (g.S.Store.files c.noted_round_of_all.new.store) =
+    subst (λ (xs : List ℕ). LeavesFront base c.args.name.now xs (g.S.Store.files c.noted_round_of_all.new.store)) grown
+    (c.in_err-noted_round_of_all.ensures.left (inv.tells told) base then (inv.written told base set)) in
+    on_err c.from_residual.result left
+
+pub returns-clause-run : goal.returns-clause-run
+returns-clause-run g c = (c.loop-alloc.rounds.rounds, c.loop-alloc.invariant.run)
+
+pub returns-clause-all : goal.returns-clause-all
+returns-clause-all g c = c.loop-alloc.invariant.run
+
+pub returns-clause-few : goal.returns-clause-few
+returns-clause-few g c = c.loop-alloc.invariant.few
+
+pub returns-clause-over : goal.returns-clause-over
+returns-clause-over g c = c.goes_on.ensures.no c.loop-alloc-test.false
+
+pub returns-clause-whole : goal.returns-clause-whole
+returns-clause-whole g c =
+    let samples : All IsFrame c.loop-alloc.self.fast.log.frames = subst (All IsFrame) (c.frames.ensures ∙ ap (λ (l : Logged). l.frames) c.log.ensures ∙ ap (λ (s : SessionState). s.fast.log.frames) c.self.view_is) c.know_frames.ensures in
+    journal_whole (length c.args.tracks.now) c.loop-alloc.rounds c.loop-alloc.self.fast.log c.loop-alloc.invariant.noted samples
+
+pub returns-clause-form : goal.returns-clause-form
+returns-clause-form g c =
+    let samples : All IsFrame c.loop-alloc.self.fast.log.frames = subst (All IsFrame) (c.frames.ensures ∙ ap (λ (l : Logged). l.frames) c.log.ensures ∙ ap (λ (s : SessionState). s.fast.log.frames) c.self.view_is) c.know_frames.ensures in
+    journal_form (length c.args.tracks.now) c.loop-alloc.rounds c.loop-alloc.self.fast.log c.loop-alloc.invariant.noted samples
+
+pub returns-clause-tally : goal.returns-clause-tally
+returns-clause-tally g c = c.loop-alloc.invariant.tally
+
+pub returns-clause-frames : goal.returns-clause-frames
+returns-clause-frames g c = c.loop-alloc.invariant.sizes.0

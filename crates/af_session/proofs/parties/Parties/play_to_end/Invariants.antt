@@ -1,0 +1,32 @@
+use Rattle.std.proofs.Common.{◌≡◌, ◌-◌, ◌≤◌, Some, length}
+use Rattle.af_io.specs.Files.{Files, SetsFile}
+use Rattle.af_base.specs.declared.state.FastState.{FastState}
+use Rattle.af_session.specs.PlayedRuns.{RunsOfAll}
+use Rattle.af_session.specs.Rounds.{IsReady}
+use Rattle.af_session.specs.Shown.{HasPlaces, shown_at}
+use Rattle.af_session.specs.Sound.{pcm_of}
+use Rattle.af_session.specs.Tallies.{IsTally}
+use Rattle.af_session.proofs.ExitSeen.{Knowing}
+use Rattle.af_session.proofs.RoundForms.{AreNoted}
+use Rattle.af_session.proofs.RoundsLeft.{IsGoing}
+use Rattle.af_session.proofs.parties.Parties.play_to_end.Given as goal
+
+abbrev pub invariant-loop-alloc : goal.invariant-loop-alloc
+invariant-loop-alloc g l = record {
+  ready : IsReady l.links (record { tracks = l.tracks; files = l.files }) (length l.rounds.rounds) l.self;
+  knowing : Knowing l.self;
+  few : length l.rounds.rounds ≤ l.cycles;
+  going : IsGoing (length l.rounds.rounds) l.self;
+  run : RunsOfAll (record { tracks = l.tracks; files = l.files }) l.fn.self l.rounds.rounds l.self;
+  tally : (first : FastState) → IsTally (shown_at first (length l.tracks) l.rounds.rounds l.self.fast) l.tally;
+  places : HasPlaces (length l.rounds.rounds) (length l.self.clients) (length l.self.fast.log.entries) l.tally;
+  noted : AreNoted (length l.tracks) l.rounds l.self.fast.log;
+  sizes : (l.self.fast.frames ≡ l.fn.self.fast.frames) × (l.self.fast.cycles ≡ l.fn.self.fast.cycles) × (l.bytes.room ≡ l.fn.bytes.room);
+  buffer : length l.buffer ≡ l.fn.self.fast.frames;
+  tells : g.S.Store.told l.fn.store → g.S.Store.told l.store;
+  stays : g.S.Store.faults l.store ≡ g.S.Store.faults l.fn.store;
+  written : g.S.Store.told l.fn.store → (base : Files) → SetsFile base l.name (Some (pcm_of l.fn.self.fast.frames l.fn.self.fast.log)) (g.S.Store.files l.fn.store) → SetsFile base l.name (Some (pcm_of l.fn.self.fast.frames l.self.fast.log)) (g.S.Store.files l.store);
+}
+
+abbrev pub decreases-loop-alloc : goal.decreases-loop-alloc
+decreases-loop-alloc g l = l.cycles - length l.rounds.rounds

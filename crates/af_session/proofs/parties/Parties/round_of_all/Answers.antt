@@ -1,0 +1,114 @@
+use Rattle.std.proofs.Common.{◌≡◌, ◌+◌, ◌<◌, ◌≤◌, ◌++◌, ℕ, Bool, List, length, map, refl, sym, ap, subst, ◌∙◌, arith}
+use Rattle.af_base.specs.Log.{Logged, slots}
+use Rattle.af_base.specs.Turn.{turn_of}
+use Rattle.af_session.specs.Parties.{PartyState}
+use Rattle.af_session.specs.Rounds.{Given, IsReady}
+use Rattle.af_session.specs.Shown.{HasPlaces}
+use Rattle.af_session.specs.SideBySide.{with_all_calls, with_turn_if}
+use Rattle.af_session.specs.Sound.{pcm_of}
+use Rattle.af_session.specs.Summaries.{Shown}
+use Rattle.af_session.specs.Tallies.{IsTally}
+use Rattle.af_session.specs.Together.{SessionState}
+use Rattle.af_session.proofs.FollowingRounds.{places_more}
+use Rattle.af_session.proofs.NotedOfAll.{noted_after}
+use Rattle.af_session.proofs.NotedTurns.{follows_after, follows_all, places_after, sizes_after}
+use Rattle.af_session.proofs.Ready.{ready_ends}
+use Rattle.af_session.proofs.parties.Parties.round_of_all.Goals as goal
+
+pub note_turns-requires-clause-places : goal.note_turns-requires-clause-places
+note_turns-requires-clause-places g c =
+    let given : Given = record { tracks = c.args.tracks.now; files = c.args.files.now } in
+    let n : ℕ = c.requires.ready.0 in
+    let was : SessionState = c.args.self.now in
+    let is : SessionState = c.play_at_once.new.self in
+    let next : IsReady c.args.links.now given (n + 1) is = c.play_at_once.ensures.ready n c.requires.ready.2 in
+    let long : length was.clients ≡ length is.clients = sym c.requires.ready.2.given.0 ∙ next.given.0 in
+    let places = c.requires.places in
+    let few : length is.fast.log.entries ≤ 100000 = (let room = next.together.fast.0.room in omega (arith, room.entries.0, room.sized.2)) in (
+      places.0,
+      length is.fast.log.entries,
+      places.1,
+      few,
+      subst (λ (k : ℕ). HasPlaces places.0 k (length is.fast.log.entries) c.play_at_once.new.tally) long (c.play_at_once.ensures.noted.places places.0 (length was.clients) places.2),
+    )
+
+pub note_turns-requires-clause-takes : goal.note_turns-requires-clause-takes
+note_turns-requires-clause-takes g c =
+    let given : Given = record { tracks = c.args.tracks.now; files = c.args.files.now } in
+    let n : ℕ = c.requires.ready.0 in
+    let is : SessionState = c.play_at_once.new.self in
+    let next : IsReady c.args.links.now given (n + 1) is = c.play_at_once.ensures.ready n c.requires.ready.2 in
+    let whole = next.together.normal.takes.together in
+    let most = next.together.normal.tied.sizes.few in
+    omega arith
+
+pub meet_in-requires-clause-ready : goal.meet_in-requires-clause-ready
+meet_in-requires-clause-ready g c = (c.requires.ready.0 + 1, c.play_at_once.ensures.ready c.requires.ready.0 c.requires.ready.2)
+
+pub returns-clause-ready : goal.returns-clause-ready
+returns-clause-ready g c = λ n held.
+    let given : Given = record { tracks = c.args.tracks.now; files = c.args.files.now } in
+    subst (IsReady c.args.links.now given (n + 1)) (sym c.end_clients.ensures)
+    (ready_ends c.args.links.now given (n + 1) c.meet_in.new.self (c.meet_in.ensures.ready (n + 1) (c.play_at_once.ensures.ready n held)))
+
+pub returns-clause-sizes : goal.returns-clause-sizes
+returns-clause-sizes g c =
+    let given : Given = record { tracks = c.args.tracks.now; files = c.args.files.now } in
+    let n : ℕ = c.requires.ready.0 in
+    let next = c.play_at_once.ensures.ready n c.requires.ready.2 in
+    let after = c.meet_in.ensures.ready (n + 1) next in
+    let same = sizes_after c.args.self.now c.play_at_once.new.self c.meet_in.new.self c.end_clients.new.self c.meet_in.ensures.met (sym after.given.0 ∙ next.given.0) c.end_clients.ensures in
+    (same.0 ∙ c.play_at_once.ensures.sizes.0, same.1 ∙ c.play_at_once.ensures.sizes.1)
+
+pub returns-clause-round : goal.returns-clause-round
+returns-clause-round g c =
+    let n : ℕ = c.requires.ready.0 in
+    let next = c.play_at_once.ensures.ready n c.requires.ready.2 in
+    let after = c.meet_in.ensures.ready (n + 1) next in
+    let turns = c.play_at_once.ensures.turns in (
+      turns.0,
+      turns.1,
+      record {
+        turned = c.play_at_once.new.self;
+        met = c.meet_in.new.self;
+        plays = turns.2;
+        told = noted_after c.args.self.now c.play_at_once.new.self c.meet_in.new.self c.end_clients.new.self c.meet_in.ensures.met (sym after.given.0 ∙ next.given.0) c.end_clients.ensures;
+        meets = c.meet_in.ensures.met;
+        ends = c.end_clients.ensures;
+      },
+    )
+
+pub returns-clause-tally : goal.returns-clause-tally
+returns-clause-tally g c =
+    let n : ℕ = c.requires.ready.0 in
+    let was : SessionState = c.args.self.now in
+    let is : SessionState = c.play_at_once.new.self in
+    let next = c.play_at_once.ensures.ready n c.requires.ready.2 in
+    let after = c.meet_in.ensures.ready (n + 1) next in
+    let noted = c.play_at_once.ensures.noted in
+    let long : length was.clients ≡ length is.clients = sym c.requires.ready.2.given.0 ∙ next.given.0 in
+    let ended : c.has_ended-had_ended.result ≡ was.normal.ended = c.has_ended-had_ended.ensures ∙ ap (λ (s : SessionState). s.normal.ended) c.self.view_is in
+    let tracks : length c.args.tally.now.tracks ≡ length is.clients = c.requires.places.2.tracks_are ∙ long in
+    let told = subst (λ (b : Bool). (run : Shown) → IsTally run c.play_at_once.new.tally → IsTally (with_turn_if b (turn_of is.normal.entry) (with_all_calls (map (λ (p : PartyState). p.calls.items) is.clients) (length is.clients) run)) c.note_turns.new.tally) ended c.note_turns.ensures.tally in
+    let follows = follows_all was is (turn_of is.normal.entry) c.args.tally.now c.play_at_once.new.tally c.note_turns.new.tally long refl tracks noted.follows told in
+    follows_after was is c.meet_in.new.self c.end_clients.new.self c.meet_in.ensures.met (sym after.given.0 ∙ next.given.0) c.end_clients.ensures c.args.tally.now c.note_turns.new.tally next.together.fast.0 follows
+
+pub returns-clause-places : goal.returns-clause-places
+returns-clause-places g c = λ n held.
+    let k : ℕ = c.requires.ready.0 in
+    let was : SessionState = c.args.self.now in
+    let is : SessionState = c.play_at_once.new.self in
+    let next = c.play_at_once.ensures.ready k c.requires.ready.2 in
+    let after = c.meet_in.ensures.ready (k + 1) next in
+    let long : length was.clients ≡ length is.clients = sym c.requires.ready.2.given.0 ∙ next.given.0 in
+    let turned = subst (λ (m : ℕ). HasPlaces n m (length is.fast.log.entries) c.play_at_once.new.tally) long (c.play_at_once.ensures.noted.places n (length was.clients) held) in
+    places_after was is c.meet_in.new.self c.end_clients.new.self c.meet_in.ensures.met (sym after.given.0 ∙ next.given.0) c.end_clients.ensures (n + 1) c.note_turns.new.tally
+    (places_more n (length is.clients) (length is.fast.log.entries) slots c.play_at_once.new.tally c.note_turns.new.tally (omega arith) c.note_turns.ensures.keeps turned)
+
+pub returns-clause-sound : goal.returns-clause-sound
+returns-clause-sound g c = λ before same.
+    let n : ℕ = c.requires.ready.0 in
+    let next = c.play_at_once.ensures.ready n c.requires.ready.2 in
+    let after = c.meet_in.ensures.ready (n + 1) next in
+    let kept = sizes_after c.args.self.now c.play_at_once.new.self c.meet_in.new.self c.end_clients.new.self c.meet_in.ensures.met (sym after.given.0 ∙ next.given.0) c.end_clients.ensures in
+    c.play_at_once.ensures.sound before same ∙ ap (λ (l : Logged). pcm_of c.args.self.now.fast.frames l) (sym kept.2)

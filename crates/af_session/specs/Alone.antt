@@ -1,0 +1,33 @@
+-- A turn of the fast mixer while the other parties make theirs: cycles one after the other, with no meeting between them.
+use Rattle.std.specs.Prelude.{◌≡◌, ℕ, zero, suc, ◌++◌, true, false, List, [], length, MatchBool}
+use Rattle.af_base.specs.declared.frame.Frame.{Frame}
+use Rattle.af_base.specs.declared.log.Cycle.{Cycle}
+use Rattle.af_model.specs.Cycles.{is_mixed}
+use Rattle.af_fast.specs.Mixer.{MixerState}
+use Rattle.af_fast.specs.Mixing.{Adopts, MixesOnce}
+use Rattle.af_session.specs.Sound.{written}
+
+-- One cycle: a poll and a mix into some buffer that has the frames of a cycle, and the bytes of what was mixed
+pub record CyclesOnce (m : MixerState) (answer : Cycle) (bytes : List ℕ) (m' : MixerState) : Type 0 where
+  pub polled : MixerState
+  pub adopts : Adopts m polled
+  pub before : List Frame
+  pub after : List Frame
+  pub long : length before ≡ m.frames
+  pub mixes : MixesOnce polled before answer m' after
+  pub sizes : (m'.frames ≡ m.frames) × (m'.cycles ≡ m.cycles)
+  pub bytes_are : bytes ≡ written answer after
+
+-- So many cycles with the bytes that they wrote, or fewer where one of them mixes nothing: it is the last
+abbrev pub CyclesOn : ℕ → MixerState → List ℕ → MixerState → Type 0
+CyclesOn zero m bytes m' = (bytes ≡ []) × (m' ≡ m)
+CyclesOn (suc left) m bytes m' = (answer : Cycle) × (next : MixerState) × (front : List ℕ) × (back : List ℕ) × CyclesOnce m answer front next × (bytes ≡ front ++ back)
+    × (is_mixed answer ≡ true → CyclesOn left next back m') × (is_mixed answer ≡ false → (back ≡ []) × (m' ≡ next))
+
+-- the most cycles of a turn
+abbrev pub most_cycles : ℕ
+most_cycles = 16
+
+-- a turn: none where the mixer has ended
+abbrev pub FastTurned : MixerState → List ℕ → MixerState → Type 0
+FastTurned m bytes m' = MatchBool m.exited ((bytes ≡ []) × (m' ≡ m)) (CyclesOn most_cycles m bytes m')

@@ -1,0 +1,21 @@
+-- What a run hands back of its parties.
+use Rattle.std.specs.Prelude.{ℕ, List, slice_get, Option, option_map}
+use Rattle.af_client.specs.Order.{ClientState}
+use Rattle.af_normal.specs.State.{NormalState}
+use Rattle.af_session.specs.Parties.{PartyState}
+use Rattle.af_session.specs.Together.{SessionState}
+
+-- the clients and the normal mixer
+pub record EndsState : Type 0 where
+  pub clients : List PartyState
+  pub normal : NormalState
+
+abbrev pub ends_from : SessionState → EndsState
+ends_from s = record { clients = s.clients; normal = s.normal }
+
+-- the proxies of a track's client
+abbrev pub stream_proxy : EndsState → ℕ → Option ClientState
+stream_proxy e track = option_map (λ (p : PartyState). p.stream) (slice_get e.clients track)
+
+abbrev pub command_proxy : EndsState → ℕ → Option ClientState
+command_proxy e track = option_map (λ (p : PartyState). p.command) (slice_get e.clients track)

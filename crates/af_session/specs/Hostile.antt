@@ -1,0 +1,59 @@
+-- What pokes may do: shut their own track, and no other.
+use Rattle.std.specs.Prelude.{◌≡◌, ℕ, ◌<◌, ◌==◌, ◌&&◌, not, Bool, true, false, List, length, map, slice_get, Some}
+use Rattle.std.specs.List.{list_all}
+use Rattle.af_base.specs.declared.event.ClientCall.{ClientCall}
+use Rattle.af_base.specs.declared.event.ClientCall.TheVariants.{Corrupt, SendCorrupt}
+use Rattle.af_base.specs.Turn.{Turn}
+use Rattle.af_life.specs.Kept.{track_in}
+use Rattle.af_life.specs.Obeys.{is_shut}
+use Rattle.af_model.specs.History.{is_lawful as is_tame}
+use Rattle.af_model.specs.Journals.{RoundNoted}
+use Rattle.af_session.specs.Parties.{PartyState}
+use Rattle.af_session.specs.Shown.{calls_over, turns_over}
+use Rattle.af_session.specs.Summaries.{Look, Shown, calls_of, has_no_poke, is_lawful, turn_looks}
+use Rattle.af_session.specs.Together.{SessionState}
+
+-- a write or a send found that the words of its block don't fit it
+abbrev pub is_corrupt : ClientCall → Bool
+is_corrupt (Corrupt front rear) = true
+is_corrupt (SendCorrupt front rear) = true
+is_corrupt _ = false
+
+-- none of these calls did
+abbrev pub none_corrupt : List ClientCall → Bool
+none_corrupt calls = list_all (λ call. not (is_corrupt call)) calls
+
+-- of these looks at stream blocks none at the track i was Shut
+abbrev pub none_shut : ℕ → List Look → Bool
+none_shut i looks = list_all (λ look. not ((look.track == i) && is_shut look.seen)) looks
+
+-- a turn of the normal mixer found neither block of the track i shut: by no look at its commands, and by none at its stream
+abbrev pub is_spared_in_turn : ℕ → Turn → Bool
+is_spared_in_turn i turn = list_all (λ look. not (is_shut look.seen)) (track_in turn i).looks && none_shut i (turn_looks turn)
+
+-- The track i is spared in a run: no call of its client was answered Corrupt, and no look of the normal mixer at its blocks was Shut
+pub record IsSpared (run : Shown) (i : ℕ) : Type 0 where
+  pub calls : none_corrupt (calls_of run i) ≡ true
+  pub turns : list_all (is_spared_in_turn i) run.turns ≡ true
+
+-- Whatever the clients stored in their words, each track on whose blocks no poke was performed is spared
+pub record PokesSpareOthers (run : Shown) : Type 0 where
+  pub each : (i : ℕ) → i < length run.calls → is_lawful run i ≡ true → IsSpared run i
+
+-- ## While the run goes on
+
+-- a client's two lists hold no poke
+abbrev pub IsTame : PartyState → Type 0
+IsTame p = (is_tame p.stream.pass.part.events ≡ true) × (is_tame p.command.pass.part.events ≡ true)
+
+-- all calls of a client in some rounds, and all turns of the normal mixer
+abbrev pub all_calls : List RoundNoted → ℕ → List ClientCall
+all_calls rounds i = calls_over (map (λ r. r.calls) rounds) i
+
+abbrev pub all_turns : List RoundNoted → List Turn
+all_turns rounds = turns_over (map (λ r. r.turn) rounds)
+
+-- In these rounds each track was spared whose client poked nothing, and the lists of such a client hold no poke
+pub record SparesSoFar (rounds : List RoundNoted) (s : SessionState) : Type 0 where
+  pub tame : (i : ℕ) (p : PartyState) → slice_get s.clients i ≡ Some p → has_no_poke (all_calls rounds i) ≡ true → IsTame p
+  pub spared : (i : ℕ) → i < length s.clients → has_no_poke (all_calls rounds i) ≡ true → (none_corrupt (all_calls rounds i) ≡ true) × (list_all (is_spared_in_turn i) (all_turns rounds) ≡ true)

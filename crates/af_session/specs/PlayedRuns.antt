@@ -1,0 +1,87 @@
+-- What the rounds of all parties come to.
+use Rattle.std.specs.Prelude.{◌≡◌, ◌⊎◌, ℕ, ◌≤◌, ◌==◌, ◌&&◌, ◌++◌, Bool, true, false, List, [], ◌∷◌, length}
+use Rattle.std.specs.List.{list_all}
+use Rattle.af_base.specs.declared.frame.Frame.{Frame}
+use Rattle.af_io.specs.Files.{Files, SameFiles, LeavesFront}
+use Rattle.af_model.specs.Journals.{JournalData, RoundNoted, journal_of}
+use Rattle.af_script.specs.Data.{ScriptData}
+use Rattle.af_session.specs.NewSession.{IsNewSession}
+use Rattle.af_session.specs.Parties.{PartyState}
+use Rattle.af_session.specs.Ends.{EndsState, ends_from}
+use Rattle.af_session.specs.declared.rendering.SessionFault.{SessionFault}
+use Rattle.af_session.specs.declared.rendering.SessionFault.TheVariants as fault
+use Rattle.af_session.specs.Rounds.{Given}
+use Rattle.af_session.specs.Shares.{SharedState}
+use Rattle.af_session.specs.SideBySide.{IsRoundOfAll}
+use Rattle.af_session.specs.Sound.{pcm_of}
+use Rattle.af_session.specs.Together.{SessionState}
+
+-- ## When a run goes on
+
+-- every client has ended, and both mixers
+abbrev pub all_ended : SessionState → Bool
+all_ended s = s.normal.ended && (s.fast.exited && list_all (λ (p : PartyState). p.client.ended) s.clients)
+
+-- the log has all of its entries
+abbrev pub is_full : SessionState → Bool
+is_full s = length s.fast.log.entries == s.fast.cycles
+
+-- some party goes on, and the log has room
+pub record GoesOn (s : SessionState) : Type 0 where
+  pub some : all_ended s ≡ false
+  pub room : is_full s ≡ false
+
+-- ## Runs
+
+-- The rounds of all parties, one after the other, from s to t, each of which finds that the run goes on: with what the journal notes, and the bytes of the sound
+abbrev pub IsRunOfAll : Given → SessionState → List RoundNoted → List ℕ → SessionState → Type 0
+IsRunOfAll g s [] bytes t = (bytes ≡ []) × (t ≡ s)
+IsRunOfAll g s (r ∷ rs) bytes t = (front : List ℕ) × (back : List ℕ) × (m : SessionState) × GoesOn s × (bytes ≡ front ++ back) × IsRoundOfAll g s r front m × IsRunOfAll g m rs back t
+
+-- these rounds were played from s to t, and the sound of the log grew by just their bytes
+pub record RunsOfAll (g : Given) (s : SessionState) (rounds : List RoundNoted) (t : SessionState) : Type 0 where
+  pub bytes : List ℕ
+  pub run : IsRunOfAll g s rounds bytes t
+  pub sound : pcm_of s.fast.frames t.fast.log ≡ pcm_of s.fast.frames s.fast.log ++ bytes
+
+-- The parties t have played these rounds since they were made of the script, with the files; their bytes are the sound of the log
+pub record Plays (script : ScriptData) (files : List (List Frame)) (rounds : List RoundNoted) (t : SessionState) : Type 0 where
+  pub shared : SharedState
+  pub start : SessionState
+  pub new : IsNewSession script shared start
+  pub bytes : List ℕ
+  pub run : IsRunOfAll (record { tracks = script.tracks; files = files }) start rounds bytes t
+  pub sound : bytes ≡ pcm_of script.frames t.fast.log
+
+-- ## What is left and handed back
+
+-- no file has changed, or only that of this name, which holds a front of the sound of some first rounds
+abbrev pub LeavesRun : ScriptData → List (List Frame) → List ℕ → Files → Files → Type 0
+LeavesRun script files name old new = SameFiles old new
+    ⊎ ((rounds : List RoundNoted) × (t : SessionState) × Plays script files rounds t × LeavesFront old name (pcm_of script.frames t.fast.log) new)
+
+-- The journal and the ends of parties that have played rounds since they were made, no more than there are cycles: the journal has these rounds, and the entries of the fast mixer's log. `ended` says whether all have ended; else the log has all of its entries
+pub record HandsBackRun (ended : Bool) (script : ScriptData) (files : List (List Frame)) (journal : JournalData) (ends : EndsState) : Type 0 where
+  pub parties : SessionState
+  pub rounds : List RoundNoted
+  pub played : Plays script files rounds parties
+  pub journal_is : journal ≡ journal_of (record { tracks = length script.tracks; rounds = rounds }) parties.fast.log
+  pub ends_are : ends ≡ ends_from parties
+  pub count : length ends.clients ≡ length script.tracks
+  pub few : length rounds ≤ script.cycles
+  pub all : all_ended parties ≡ ended
+  pub cut : ended ≡ false → is_full parties ≡ true
+
+-- ## Why a run was not played to its end
+
+-- what is so of the journal and the ends of a run that was cut off
+abbrev pub AtLimit : (JournalData → EndsState → Type 0) → SessionFault → Type 0
+AtLimit P (fault.CycleLimit journal ends) = P journal ends
+AtLimit P fault.Store = Unit {0}
+AtLimit P fault.Memory = Unit {0}
+
+-- what is so after a fault of the store, and after want of memory
+abbrev pub AtFault : Type 0 → SessionFault → Type 0
+AtFault P (fault.CycleLimit journal ends) = Unit {0}
+AtFault P fault.Store = P
+AtFault P fault.Memory = P

@@ -1,0 +1,190 @@
+//! A script's rounds from first to last, in which each party is on its own.
+ghost use Rattle.std.specs.Prelude.{◌≡◌, ◌*◌, ◌<◌, ◌≤◌, ◌^◌, ℕ, List, [], Some, true, false, All, length, IfErr, IfOk, OnErr, OnOk};
+ghost use Rattle.af_io.specs.Causes.{HasCause};
+ghost use Rattle.af_io.specs.Files.{Files, LeavesFront, SetsFile};
+ghost use Rattle.af_link.specs.declared.links.Links.{Links};
+ghost use Rattle.af_model.specs.JournalForm.{IsJournal, IsWhole};
+ghost use Rattle.af_model.specs.Journals.{RoundNoted, journal_of};
+ghost use Rattle.af_session.specs.Ends.{ends_from};
+ghost use Rattle.af_session.specs.NewSession.{IsNewSession};
+ghost use Rattle.af_session.specs.declared.rendering.SessionFault.TheVariants.{CycleLimit};
+ghost use Rattle.af_session.specs.PlayedRuns.{AtFault, AtLimit, HandsBackRun, LeavesRun, Plays, all_ended, is_full};
+ghost use Rattle.af_session.specs.Rendered.{HasStoreCause, HaveFiles};
+ghost use Rattle.af_session.specs.Shares.{AreLinksOf};
+ghost use Rattle.af_session.specs.Shown.{released_by, shown_in, summary_told};
+ghost use Rattle.af_session.specs.Sound.{journal_pcm, pcm_of};
+ghost use Rattle.af_session.specs.Summaries.{Shown, nothing_shown, summary_of};
+ghost use Rattle.af_session.specs.Tallies.{IsTally};
+ghost use Rattle.af_session.specs.Together.{AreTogether};
+
+use crate::making::make;
+use crate::parties::Parties;
+use crate::rendering::{Played, SessionFault, hand_back, hand_over, make_room, make_tally, sum_up};
+use crate::shared::Shared;
+use crate::tally::Tally;
+use af_base::{Frame, Items};
+use af_io::{Gate, Pcm, Store, StoreError};
+use af_model::Rounds;
+use af_script::Script;
+use std::alloc::Global;
+use std::thread::Threads;
+
+// All rounds of a script's new parties, into a file that is empty.
+fn play_rounds<R: Threads + Sync, S: Store, G: Gate>(
+    rt: &R,
+    alloc: Global,
+    shared: &Shared,
+    parties: &mut Parties,
+    script: &Script,
+    files: &[Pcm],
+    store: &mut S,
+    name: &str,
+    buffer: &mut [Frame],
+    bytes: &mut Items<u8>,
+    rounds: &mut Rounds,
+    tally: &mut Tally,
+    gate: &G,
+) -> Result<(), StoreError>
+    requires new { IsNewSession script.now shared.now parties.old }
+    requires together { (links : Links) → AreLinksOf shared.now links → AreTogether links parties.old }
+    requires files { HaveFiles (record { tracks = script.now.tracks; files = files.now }) }
+    requires buffer { length buffer.old ≡ script.now.frames }
+    requires room { bytes.old.room ≡ 64 * script.now.frames }
+    requires rounds { rounds.old ≡ record { tracks = length script.now.tracks; rounds = [] } }
+    requires tally { IsTally (nothing_shown (length script.now.tracks)) tally.old }
+    ensures some { (played : List RoundNoted) × Plays script.now files.now played parties.new }
+    ensures all { OnOk result (Plays script.now files.now rounds.new.rounds parties.new) }
+    ensures over { OnOk result (all_ended parties.new ≡ false → is_full parties.new ≡ true) }
+    ensures few { OnOk result (length rounds.new.rounds ≤ script.now.cycles) }
+    ensures tracks { OnOk result (rounds.new.tracks ≡ length script.now.tracks) }
+    ensures whole { OnOk result (IsWhole rounds.new parties.new.fast.log) }
+    ensures form { OnOk result (IsJournal (journal_of rounds.new parties.new.fast.log)) }
+    ensures count { OnOk result (length parties.new.clients ≡ length script.now.tracks) }
+    ensures tally { OnOk result (IsTally (shown_in script.now.frames rounds.new parties.new.fast.log parties.new.normal.mutator.past.events) tally.new) }
+    ensures released { OnOk result (All (λ p. p.stream.released < 2 ^ 58) parties.new.clients) }
+    ensures written { S.told store.old → (base : Files) → SetsFile base name.now (Some []) (S.files store.old) → OnOk result (SetsFile base name.now (Some (pcm_of script.now.frames parties.new.fast.log)) (S.files store.new)) }
+    ensures left { S.told store.old → (base : Files) → SetsFile base name.now (Some []) (S.files store.old) → OnErr result (LeavesFront base name.now (pcm_of script.now.frames parties.new.fast.log) (S.files store.new)) }
+    ensures tells { S.told store.old → S.told store.new }
+    ensures cause { HasCause (S.faults store.old) (S.faults store.new) result }
+{
+    let links = shared.links();
+    let cycles = script.cycles();
+    let tracks = script.tracks();
+    parties.play_to_end(
+        rt, alloc, &links, cycles, tracks, files, store, name, buffer, bytes, rounds, tally, gate,
+    )
+}
+
+// Makes the file, and plays all rounds of a script's new parties.
+fn play_made<R: Threads + Sync, S: Store, G: Gate>(
+    rt: &R,
+    alloc: Global,
+    shared: &Shared,
+    parties: &mut Parties,
+    script: &Script,
+    files: &[Pcm],
+    store: &mut S,
+    name: &str,
+    buffer: &mut [Frame],
+    bytes: &mut Items<u8>,
+    rounds: &mut Rounds,
+    tally: &mut Tally,
+    gate: &G,
+) -> Result<(), StoreError>
+    requires new { IsNewSession script.now shared.now parties.old }
+    requires together { (links : Links) → AreLinksOf shared.now links → AreTogether links parties.old }
+    requires files { HaveFiles (record { tracks = script.now.tracks; files = files.now }) }
+    requires buffer { length buffer.old ≡ script.now.frames }
+    requires room { bytes.old.room ≡ 64 * script.now.frames }
+    requires rounds { rounds.old ≡ record { tracks = length script.now.tracks; rounds = [] } }
+    requires tally { IsTally (nothing_shown (length script.now.tracks)) tally.old }
+    ensures all { OnOk result (Plays script.now files.now rounds.new.rounds parties.new) }
+    ensures over { OnOk result (all_ended parties.new ≡ false → is_full parties.new ≡ true) }
+    ensures few { OnOk result (length rounds.new.rounds ≤ script.now.cycles) }
+    ensures tracks { OnOk result (rounds.new.tracks ≡ length script.now.tracks) }
+    ensures whole { OnOk result (IsWhole rounds.new parties.new.fast.log) }
+    ensures form { OnOk result (IsJournal (journal_of rounds.new parties.new.fast.log)) }
+    ensures count { OnOk result (length parties.new.clients ≡ length script.now.tracks) }
+    ensures tally { OnOk result (IsTally (shown_in script.now.frames rounds.new parties.new.fast.log parties.new.normal.mutator.past.events) tally.new) }
+    ensures released { OnOk result (All (λ p. p.stream.released < 2 ^ 58) parties.new.clients) }
+    ensures written { S.told store.old → OnOk result (SetsFile (S.files store.old) name.now (Some (pcm_of script.now.frames parties.new.fast.log)) (S.files store.new)) }
+    ensures left { S.told store.old → OnErr result (LeavesRun script.now files.now name.now (S.files store.old) (S.files store.new)) }
+    ensures tells { S.told store.old → S.told store.new }
+    ensures cause { HasCause (S.faults store.old) (S.faults store.new) result }
+{
+    store.create(name)?;
+    play_rounds(
+        rt, alloc, shared, parties, script, files, store, name, buffer, bytes, rounds, tally, gate,
+    )
+}
+
+// What parties answer that were played to their end, or to that of the log, with the rounds that were noted.
+fn answer(
+    parties: Parties,
+    rounds: Rounds,
+    tally: &Tally,
+    released: &mut Items<u64>,
+) -> Result<Played, SessionFault>
+    requires whole { IsWhole rounds parties.fast.log }
+    requires form { IsJournal (journal_of rounds parties.fast.log) }
+    requires room { length parties.clients ≤ released.old.room }
+    requires empty { released.old.items ≡ [] }
+    requires count { length tally.now.tracks ≡ length parties.clients }
+    requires small { All (λ p. p.stream.released < 2 ^ 58) parties.clients }
+    ensures ended { IfOk result (λ _. all_ended parties ≡ true) }
+    ensures journal { IfOk result (λ p. p.journal ≡ journal_of rounds parties.fast.log) }
+    ensures ends { IfOk result (λ p. p.ends ≡ ends_from parties) }
+    ensures summary { (run : Shown) → IsTally run tally.now → IfOk result (λ p. p.summary ≡ summary_of run (released_by parties.clients)) }
+    ensures cut { IfErr result (λ f. (all_ended parties ≡ false) × (f ≡ CycleLimit (journal_of rounds parties.fast.log) (ends_from parties))) }
+{
+    if !parties.have_ended() {
+        let (journal, ends) = hand_over(parties, rounds);
+        return Err(SessionFault::CycleLimit { journal, ends });
+    }
+    let summary = sum_up(&parties, tally, released);
+    Ok(hand_back(parties, rounds, summary))
+}
+
+/// Plays a script in rounds. In each every party that has not ended makes one turn, on a thread of its own where one can be made: each client, the normal mixer, and the fast mixer, which makes sixteen cycles, or fewer after one that isn't mixed. Then all parties meet. A party's turn begins at the gate, by its number: the clients' are those of their tracks, and the mixers' come behind. The sound goes to the file of this name, round by round. All blocks, logs and mixers are made before the file is; the rounds are noted as they are played. It makes at most as many rounds as the script has cycles.
+///
+/// Whatever the threads did, what was played is a run of the script and its files, of rounds of all parties, whose journal is handed back, and where the store tells it the file is the sound of the journal. Ok says that all parties have ended, CycleLimit that the log is full and some party has not; so after each round but the last some party goes on and the log has room. After a fault no file has changed, or the file holds a front of the sound of some first rounds.
+pub fn play<R: Threads + Sync, S: Store, G: Gate>(
+    rt: &R,
+    alloc: Global,
+    script: &Script,
+    files: &[Pcm],
+    store: &mut S,
+    name: &str,
+    gate: &G,
+) -> Result<Played, SessionFault>
+    requires { HaveFiles (record { tracks = script.now.tracks; files = files.now }) }
+    ensures played { IfOk result (λ p. HandsBackRun true script.now files.now p.journal p.ends) }
+    ensures limit { IfErr result (AtLimit (HandsBackRun false script.now files.now)) }
+    ensures summary { IfOk result (λ p. p.summary ≡ summary_told script.now.frames p.journal p.ends) }
+    ensures written { S.told store.old → IfOk result (λ p. SetsFile (S.files store.old) name.now (Some (journal_pcm script.now.frames p.journal)) (S.files store.new)) }
+    ensures cut { S.told store.old → IfErr result (AtLimit (λ journal _. SetsFile (S.files store.old) name.now (Some (journal_pcm script.now.frames journal)) (S.files store.new))) }
+    ensures left { S.told store.old → IfErr result (AtFault (LeavesRun script.now files.now name.now (S.files store.old) (S.files store.new))) }
+    ensures tells { S.told store.old → S.told store.new }
+    ensures cause { HasStoreCause (S.faults store.old) (S.faults store.new) result }
+{
+    let (shared, mut parties) = make(alloc, script)?;
+    let (mut buffer, mut bytes) = make_room(alloc, script.frames() as usize)?;
+    let (mut tally, mut released) = make_tally(alloc, script.tracks().len())?;
+    let mut rounds = Rounds::new(alloc, script.tracks().len() as u32);
+    play_made(
+        rt,
+        alloc,
+        &shared,
+        &mut parties,
+        script,
+        files,
+        store,
+        name,
+        &mut buffer,
+        &mut bytes,
+        &mut rounds,
+        &mut tally,
+        gate,
+    )?;
+    answer(parties, rounds, &tally, &mut released)
+}

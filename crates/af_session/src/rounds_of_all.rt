@@ -1,0 +1,121 @@
+//! The rounds of all parties at once: their turns, and then the meetings of all.
+ghost use Rattle.std.specs.Prelude.{◌≡◌, ◌+◌, ◌*◌, ◌<◌, ◌≤◌, ◌++◌, ℕ, List, length, map};
+ghost use Rattle.af_base.specs.Log.{slots};
+ghost use Rattle.af_base.specs.Turn.{turn_of};
+ghost use Rattle.af_session.specs.Met.{Met};
+ghost use Rattle.af_session.specs.Parties.{PartyState};
+ghost use Rattle.af_session.specs.Rounds.{IsReady};
+ghost use Rattle.af_session.specs.Shown.{FollowsRound, HasPlaces};
+ghost use Rattle.af_session.specs.SideBySide.{AllPlayed, HasNotedOn, IsRoundOfAll, all_noted, with_all_calls, with_turn_if};
+ghost use Rattle.af_session.specs.Sound.{pcm_of};
+ghost use Rattle.af_session.specs.Summaries.{Shown};
+ghost use Rattle.af_session.specs.Tallies.{IsTally, Keeps};
+
+use crate::parties::Parties;
+use crate::side_by_side::all_turns;
+use crate::tally::Tally;
+use af_base::{Frame, Items, Steps};
+use af_io::{Gate, Pcm};
+use af_link::Links;
+use af_script::TrackSpec;
+use std::marker::Brand;
+use std::sync::ledger::{Blank, Ledger};
+use std::thread::Threads;
+
+impl Parties {
+    // The turns of all parties at once.
+    fn play_at_once<R: Threads + Sync, G: Gate>(
+        &mut self,
+        rt: &R,
+        links: &Links<'_>,
+        tracks: &[TrackSpec],
+        files: &[Pcm],
+        buffer: &mut [Frame],
+        bytes: &mut Items<u8>,
+        tally: &mut Tally,
+        gate: &G,
+    )
+        requires buffer { length buffer.old ≡ self.old.fast.frames }
+        requires room { length bytes.old.items + 64 * self.old.fast.frames ≤ bytes.old.room }
+        requires ready { (n : ℕ) × (n < 131072) × IsReady links.now (record { tracks = tracks.now; files = files.now }) n self.old }
+        requires places { (n : ℕ) × (n < 100000) × HasPlaces n (length self.old.clients) (length self.old.fast.log.entries) tally.old }
+        ensures ready { (n : ℕ) → IsReady links.now (record { tracks = tracks.now; files = files.now }) n self.old → IsReady links.now (record { tracks = tracks.now; files = files.now }) (n + 1) self.new }
+        ensures sizes { (self.new.fast.frames ≡ self.old.fast.frames) × (self.new.fast.cycles ≡ self.old.fast.cycles) }
+        ensures turns { (added : List ℕ) × (bytes.new ≡ record bytes.old { items = bytes.old.items ++ added }) × AllPlayed (record { tracks = tracks.now; files = files.now }) self.old self.new added }
+        ensures noted { HasNotedOn self.old.fast self.new.fast tally.old tally.new }
+        ensures sound { (before : List ℕ) → before ++ bytes.old.items ≡ pcm_of self.old.fast.frames self.old.fast.log → before ++ bytes.new.items ≡ pcm_of self.old.fast.frames self.new.fast.log }
+    {
+        let Parties {
+            clients,
+            normal,
+            fast,
+        } = self;
+        all_turns(
+            rt, clients, normal, fast, links, tracks, files, buffer, bytes, tally, gate,
+        );
+    }
+
+    // Notes the calls of each client and the normal mixer's turn, which it made if it hadn't ended.
+    fn note_turns(&self, had_ended: bool, tally: &mut Tally)
+        requires places { (n : ℕ) × (entries : ℕ) × (n < 100000) × (entries ≤ 100000) × HasPlaces n (length self.now.clients) entries tally.old }
+        requires takes { length self.now.normal.entry.mixes.items ≤ slots }
+        ensures tally { (run : Shown) → IsTally run tally.old → IsTally (with_turn_if had_ended (turn_of self.now.normal.entry) (with_all_calls (map (λ (p : PartyState). p.calls.items) self.now.clients) (length self.now.clients) run)) tally.new }
+        ensures keeps { Keeps slots 0 tally.old tally.new }
+    {
+        for i in 0..self.clients.len() {
+            tally.note_calls(i, self.clients[i].calls.as_slice());
+        }
+        if !had_ended {
+            tally.note_turn(self.normal.last());
+        }
+    }
+
+    // The meetings of all, whose steps are counted by themselves.
+    fn meet_in<L: Ledger>(
+        &mut self,
+        blank: Blank,
+        links: &Links<'_>,
+        tracks: &[TrackSpec],
+        files: &[Pcm],
+    )
+        requires ledger { (blank.name ≡ L.name) × (blank.parts ≡ L.parts) × (0 < blank.parts) }
+        requires ready { (n : ℕ) × IsReady links.now (record { tracks = tracks.now; files = files.now }) n self.old }
+        ensures ready { (n : ℕ) → IsReady links.now (record { tracks = tracks.now; files = files.now }) n self.old → IsReady links.now (record { tracks = tracks.now; files = files.now }) n self.new }
+        ensures met { Met self.old self.new }
+    {
+        let mut steps = Steps::<L>::start(blank);
+        self.meet_all(links, tracks, files, &mut steps);
+    }
+
+    /// A round of all parties: each that hasn't ended makes one turn, on a thread of its own where one can be made, and then all meet. Once the normal mixer has ended every client has. The bytes of what the fast mixer mixed are appended to `bytes`, which has room for those of sixteen cycles. It takes no memory.
+    ///
+    /// Each turn is a legal one by what its party saw, and after the meetings the lists of each two that met have a history. Where the bytes that went out before, and `bytes` behind them, were the sound of the fast mixer's log, they are so again.
+    pub fn round_of_all<R: Threads + Sync, G: Gate>(
+        &mut self,
+        rt: &R,
+        links: &Links<'_>,
+        tracks: &[TrackSpec],
+        files: &[Pcm],
+        buffer: &mut [Frame],
+        bytes: &mut Items<u8>,
+        tally: &mut Tally,
+        gate: &G,
+    )
+        requires buffer { length buffer.old ≡ self.old.fast.frames }
+        requires room { length bytes.old.items + 64 * self.old.fast.frames ≤ bytes.old.room }
+        requires ready { (n : ℕ) × (n < 131072) × IsReady links.now (record { tracks = tracks.now; files = files.now }) n self.old }
+        requires places { (n : ℕ) × (n < 100000) × HasPlaces n (length self.old.clients) (length self.old.fast.log.entries) tally.old }
+        ensures ready { (n : ℕ) → IsReady links.now (record { tracks = tracks.now; files = files.now }) n self.old → IsReady links.now (record { tracks = tracks.now; files = files.now }) (n + 1) self.new }
+        ensures sizes { (self.new.fast.frames ≡ self.old.fast.frames) × (self.new.fast.cycles ≡ self.old.fast.cycles) }
+        ensures round { (added : List ℕ) × (bytes.new ≡ record bytes.old { items = bytes.old.items ++ added }) × IsRoundOfAll (record { tracks = tracks.now; files = files.now }) self.old (all_noted self.old self.new) added self.new }
+        ensures tally { FollowsRound (all_noted self.old self.new) self.old.fast self.new.fast tally.old tally.new }
+        ensures places { (n : ℕ) → HasPlaces n (length self.old.clients) (length self.old.fast.log.entries) tally.old → HasPlaces (n + 1) (length self.new.clients) (length self.new.fast.log.entries) tally.new }
+        ensures sound { (before : List ℕ) → before ++ bytes.old.items ≡ pcm_of self.old.fast.frames self.old.fast.log → before ++ bytes.new.items ≡ pcm_of self.old.fast.frames self.new.fast.log }
+    {
+        let had_ended = self.normal.has_ended();
+        self.play_at_once(rt, links, tracks, files, buffer, bytes, tally, gate);
+        self.note_turns(had_ended, tally);
+        self.meet_in::<Brand>(Blank::new(1), links, tracks, files);
+        self.end_clients();
+    }
+}
