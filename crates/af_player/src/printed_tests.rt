@@ -29,7 +29,11 @@ impl Source {
             0 => format!(in alloc; "gain {} {}", self.draw(65536), self.draw(65536))?,
             1 | 2 => format!(in alloc; "write {}", 1 + self.draw(5000))?,
             3 => {
-                format!(in alloc; "poke stream {} {}", self.draw(frames.min(8192)), self.draw(1 << 24))?
+                format!(in alloc;
+                    "poke stream {} {}",
+                    self.draw(frames.min(8192)),
+                    self.draw(1 << 24)
+                )?
             }
             4 => format!(in alloc; "poke command {} {}", self.draw(135), self.draw(1 << 24))?,
             other => {
@@ -63,13 +67,17 @@ impl Source {
         };
         let mut text = format!(in alloc;
             "[[track]]\nkind = '{kind}'\nframes = {frames}\nchannels = {}\nfile = 't-{number}_{}'\nops = [{}]\n",
-            1 + self.draw(2), self.draw(1000), self.ops(alloc, frames, count)?
+            1 + self.draw(2),
+            self.draw(1000),
+            self.ops(alloc, frames, count)?
         )?;
         if version == 2 {
-            text.push_str(
-                format!(in alloc; "base = {}\nscale = {}\n", self.draw(1 << 24), self.draw(4097))?
-                    .as_str(),
-            )?;
+            text.push_str(format!(in alloc;
+                "base = {}\nscale = {}\n",
+                self.draw(1 << 24),
+                self.draw(4097)
+            )?
+            .as_str())?;
         }
         Ok(text)
     }
@@ -94,7 +102,10 @@ impl Source {
         let tracks = 1 + self.draw(4);
         let mut text = format!(in alloc;
             "version = {version}\nframes = {}\nnormal = {}\ncycles = {}\nturns = [{}]\n",
-            1 + self.draw(1024), 1 + self.draw(16), 1000 + self.draw(9000), self.turns(alloc, tracks)?
+            1 + self.draw(1024),
+            1 + self.draw(16),
+            1000 + self.draw(9000),
+            self.turns(alloc, tracks)?
         )?;
         for number in 0..tracks {
             text.push_str(self.track(alloc, version, number)?.as_str())?;

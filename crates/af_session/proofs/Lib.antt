@@ -53,10 +53,12 @@ mod PlayAnswers
 mod ClientsSpelled
 mod RunSpelled
 mod RunPushed
+mod NeverOlder
 mod OpenCalls
 mod OpenLooks
 mod OneTake
 mod MetOpen
 mod SparedTurns
 mod SparedRounds
+mod SparedOfAll
 mod Spared

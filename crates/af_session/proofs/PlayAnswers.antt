@@ -12,9 +12,11 @@ use Rattle.af_session.specs.Ends.{EndsState, ends_from}
 use Rattle.af_session.specs.declared.rendering.Played.{Played}
 use Rattle.af_session.specs.declared.rendering.SessionFault.{SessionFault}
 use Rattle.af_session.specs.declared.rendering.SessionFault.TheVariants as fault
-use Rattle.af_session.specs.PlayedRuns.{AtFault, AtLimit, HandsBackRun, Plays, all_ended, is_full}
+use Rattle.af_session.specs.Hostile.{PokesSpareOthers}
+use Rattle.af_session.specs.PlayedRuns.{AtFault, AtLimit, HandedBack, HandsBackRun, Plays, all_ended, is_full}
 use Rattle.af_session.specs.Rendered.{HasStoreCause, fault_of, is_limit}
-use Rattle.af_session.specs.Shown.{released_by, shown_in, summary_told}
+use Rattle.af_session.specs.Shown.{released_by, shown_by, shown_in, summary_told}
+use Rattle.af_session.specs.Spelled.{NoneOlder}
 use Rattle.af_session.specs.Summaries.{Shown, summary_of}
 use Rattle.af_session.specs.Tallies.{IsTally, Tallied}
 use Rattle.af_session.specs.Together.{SessionState}
@@ -129,3 +131,27 @@ pub told_of : (r : Result Played SessionFault) (len : ℕ) (noted : RoundsNoted)
 told_of (Ok p) len noted t y whole tally sums journal ends =
     is_told len noted t.fast.log t.normal.mutator.past.events t.clients y p.summary p.journal p.ends whole journal (ap (λ (x : EndsState). x.clients) ends) (ap (λ (x : EndsState). x.normal.mutator.past.events) ends) tally sums
 told_of (Err f) len noted t y whole tally sums journal ends = tt
+
+-- what is so of the journal and the ends of a run is so of what is handed back
+pub handed : (P : JournalData → EndsState → Type 0) (r : Result Played SessionFault) (A : Type 0) (j : JournalData) (e : EndsState) → P j e → IfOk r (λ p. p.journal ≡ j) → IfOk r (λ p. p.ends ≡ e) → IsCut r A j e → HandedBack P r
+handed P (Ok p) A j e is journal ends cut = subst (λ (x : JournalData × EndsState). P x.0 x.1) (λ i. (sym journal i, sym ends i)) is
+handed P (Err f) A j e is journal ends cut = subst (AtLimit P) (sym cut.1) is
+
+-- nothing is after want of memory or a fault of the store
+pub none_handed : (P : JournalData → EndsState → Type 0) (r : Result Played SessionFault) (fault : SessionFault) → is_limit fault ≡ false → IsErrAnd r (λ f. f ≡ fault) → HandedBack P r
+none_handed P (Ok p) fault not is = absurd is
+none_handed P (Err f) fault not is = off_limit {T = Played} (Err f) P (ap is_limit is ∙ not)
+
+pub memory_handed : (P : JournalData → EndsState → Type 0) (r : Result Played SessionFault) → IsErrAnd r (λ f. f ≡ fault.Memory) → HandedBack P r
+memory_handed P r is = none_handed P r fault.Memory refl is
+
+pub store_handed : (P : JournalData → EndsState → Type 0) (r : Result Played SessionFault) (e : StoreError) → IsErrAnd r (λ f. f ≡ fault_of e) → HandedBack P r
+store_handed P r e is = none_handed P r (fault_of e) (limits_not e) is
+
+-- what a journal and the ends tell of the tracks that were spared
+abbrev pub spares_by : ℕ → JournalData → EndsState → Type 0
+spares_by len j e = PokesSpareOthers (shown_by len j e.normal.mutator.past.events)
+
+-- what a journal tells of the states that its cycles used
+abbrev pub older_by : JournalData → EndsState → Type 0
+older_by j e = NoneOlder j

@@ -95,7 +95,7 @@ module _ (rounds : List RoundNoted) (r : RoundNoted) where
 tame_after : (p q : PartyState) → IsPartyAsBefore p q → IsTame p → IsTame q
 tame_after p q known tame = (known.stream.lawful tame.0, known.command.lawful tame.1)
 
-abbrev Follows : SessionState → SessionState → Type 0
+abbrev pub Follows : SessionState → SessionState → Type 0
 Follows s t = (i : ℕ) (q : PartyState) → slice_get t.clients i ≡ Some q → (p : PartyState) × (slice_get s.clients i ≡ Some p) × (IsTame p → IsTame q)
 
 follows_met : (a b : SessionState) → Met a b → Follows a b
@@ -143,7 +143,7 @@ quiet_round s t cycles follows = record {
 -- ## A round's meetings and ends
 
 module _ (links : Links) (g : Given) (n : ℕ) (turned met t : SessionState) (meets : Met turned met) (ends : t ≡ with_ends met) (after : IsReady links g n t) where
-  follows_close : Follows turned t
+  pub follows_close : Follows turned t
   follows_close = follows_then turned met t (follows_met turned met meets) (subst (Follows met) (sym ends) (follows_ended met))
 
   keeps : EndsKeep met (with_ends met)
@@ -173,7 +173,7 @@ module _ (links : Links) (g : Given) (n : ℕ) (turned met t : SessionState) (me
     in_order = (after.together.clients i q is).in_order
 
     -- neither of its proxies is shut
-    open_after : (p : PartyState) → slice_get turned.clients i ≡ Some p → ((client_kept_of p.stream.pass.part).shut ≡ None) × ((client_kept_of p.command.pass.part).shut ≡ None)
+    pub open_after : (p : PartyState) → slice_get turned.clients i ≡ Some p → ((client_kept_of p.stream.pass.part).shut ≡ None) × ((client_kept_of p.command.pass.part).shut ≡ None)
     open_after p was =
         let z = closed i q is in
         let same : z.party ≡ p = same_Some z.party p (sym z.was ∙ was) in
@@ -188,6 +188,16 @@ module _ (links : Links) (g : Given) (n : ℕ) (turned met t : SessionState) (me
               ∙ ap (λ (c : ClientState). (client_kept_of c.pass.part).shut) (sym z.command)
               ∙ sym in_order.1.shut_is
               ∙ in_order.1.lawful_open tame.1,
+        )
+
+    -- nor was anything poked before the meetings
+    pub tame_before : (p : PartyState) → slice_get turned.clients i ≡ Some p → IsTame p
+    tame_before p was =
+        let z = closed i q is in
+        let known = party_met _ _ z.party z.party' z.track in
+        subst IsTame (same_Some z.party p (sym z.was ∙ was)) (
+          known.stream.before (ap (λ (c : ClientState). is_lawful c.pass.part.events) (sym z.stream) ∙ tame.0),
+          known.command.before (ap (λ (c : ClientState). is_lawful c.pass.part.events) (sym z.command) ∙ tame.1),
         )
 
   -- ## The normal mixer made its turn
@@ -208,7 +218,7 @@ module _ (links : Links) (g : Given) (n : ℕ) (turned met t : SessionState) (me
     stream_order s here = (after.together.normal.tied.proxies.streams_of i s (ap (λ (m : NormalState). stream_at m.streams i) same_normal ∙ here)).in_order
 
     -- its command proxy isn't shut
-    command_open : (s : ServerState) × (slice_get turned.normal.commands i ≡ Some s) × ((server_kept_of s.pass.part).shut ≡ None)
+    pub command_open : (s : ServerState) × (slice_get turned.normal.commands i ≡ Some s) × ((server_kept_of s.pass.part).shut ≡ None)
     command_open =
         let k = z.track in
         (k.command, k.has_command, open_met (client_made z.party.command.pass) k.command k.command' z.party.command z.party'.command k.commanded (command_order k.command' k.has_command') tame_party.1)
@@ -235,7 +245,7 @@ module _ (links : Links) (g : Given) (n : ℕ) (turned met t : SessionState) (me
         absurd (true≢false (sym there ∙ ap is_some away.still_away))
 
     -- nor is its stream's where that is home
-    stream_open : is_home (track_at turned.normal.tracks i).holder ≡ true → (u : ServerState) × (stream_at turned.normal.streams i ≡ Some u) × ((server_kept_of u.pass.part).shut ≡ None)
+    pub stream_open : is_home (track_at turned.normal.tracks i).holder ≡ true → (u : ServerState) × (stream_at turned.normal.streams i ≡ Some u) × ((server_kept_of u.pass.part).shut ≡ None)
     stream_open home = by_stream (stream_at turned.normal.streams i) refl (there_after home)
 
 -- ## A whole round

@@ -1,5 +1,5 @@
 -- What the rounds of all parties come to.
-use Rattle.std.specs.Prelude.{◌≡◌, ◌⊎◌, ℕ, ◌≤◌, ◌==◌, ◌&&◌, ◌++◌, Bool, true, false, List, [], ◌∷◌, length}
+use Rattle.std.specs.Prelude.{◌≡◌, ◌⊎◌, ℕ, ◌≤◌, ◌==◌, ◌&&◌, ◌++◌, Bool, true, false, List, [], ◌∷◌, length, Result, Ok, Err}
 use Rattle.std.specs.List.{list_all}
 use Rattle.af_base.specs.declared.frame.Frame.{Frame}
 use Rattle.af_io.specs.Files.{Files, SameFiles, LeavesFront}
@@ -8,6 +8,7 @@ use Rattle.af_script.specs.Data.{ScriptData}
 use Rattle.af_session.specs.NewSession.{IsNewSession}
 use Rattle.af_session.specs.Parties.{PartyState}
 use Rattle.af_session.specs.Ends.{EndsState, ends_from}
+use Rattle.af_session.specs.declared.rendering.Played.{Played}
 use Rattle.af_session.specs.declared.rendering.SessionFault.{SessionFault}
 use Rattle.af_session.specs.declared.rendering.SessionFault.TheVariants as fault
 use Rattle.af_session.specs.Rounds.{Given}
@@ -85,3 +86,8 @@ abbrev pub AtFault : Type 0 → SessionFault → Type 0
 AtFault P (fault.CycleLimit journal ends) = Unit {0}
 AtFault P fault.Store = P
 AtFault P fault.Memory = P
+
+-- what is so of the journal and the ends that a play hands back, whether it was played to its end or cut off
+abbrev pub HandedBack : (JournalData → EndsState → Type 0) → Result Played SessionFault → Type 0
+HandedBack P (Ok played) = P played.journal played.ends
+HandedBack P (Err fault) = AtLimit P fault

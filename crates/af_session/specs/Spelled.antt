@@ -1,13 +1,14 @@
 -- What a journal tells of the lists of the parties that made it.
-use Rattle.std.specs.Prelude.{◌≡◌, ℕ, ◌+◌, List, [], ◌∷◌, length, map, flat_map, slice_get, slice_index_or, Option, Some, None}
+use Rattle.std.specs.Prelude.{◌≡◌, ℕ, ◌+◌, ◌≤◌, List, [], ◌∷◌, length, map, flat_map, slice_get, slice_index_or, Option, Some, None}
 use Rattle.std.specs.List.{range_with_len}
 use Rattle.af_base.specs.declared.event.ClientCall.{ClientCall}
 use Rattle.af_base.specs.declared.event.ClientEvent.{ClientEvent}
+use Rattle.af_base.specs.declared.log.CycleEntry.{CycleEntry}
 use Rattle.af_base.specs.declared.state.Push.{Push}
 use Rattle.af_base.specs.declared.state.Push.TheVariants.{Pushed, Clean, Busy}
 use Rattle.af_base.specs.Turn.{Turn}
 use Rattle.af_client.specs.Order.{ClientState}
-use Rattle.af_model.specs.Journals.{JournalData, RoundSeen}
+use Rattle.af_model.specs.Journals.{EntrySeen, JournalData, RoundSeen, entries_of}
 use Rattle.af_model.specs.Spelled.{Kind, stream, commands, ClientStep, called, met_server, client_spelled}
 use Rattle.af_stateq.specs.Laws.{pushed_states}
 use Rattle.af_session.specs.Ends.{EndsState}
@@ -67,3 +68,14 @@ first_numbers count = map (λ (k : ℕ). k + 1) (range_with_len 0 count)
 -- they are the numbers of the states that stand in the list of the mutator that a run hands back, each once and in order
 abbrev pub PushesStandOnce : JournalData → EndsState → Type 0
 PushesStandOnce j ends = pushes_told j ≡ first_numbers (length (pushed_states ends.normal.mutator.past.events))
+
+-- ## The states used
+
+-- the state of each entry is that of the one before it or the next, from the number n on
+abbrev pub StepsUp : ℕ → List CycleEntry → Type 0
+StepsUp n [] = Unit {0}
+StepsUp n (entry ∷ entries) = (n ≤ entry.state) × (entry.state ≤ n + 1) × StepsUp entry.state entries
+
+-- no cycle of a journal uses a state older than that of one before it, or leaves one out
+abbrev pub NoneOlder : JournalData → Type 0
+NoneOlder j = StepsUp 0 (map (λ (e : EntrySeen). e.entry) (entries_of j.rounds))

@@ -6,13 +6,15 @@ ghost use Rattle.af_link.specs.declared.links.Links.{Links};
 ghost use Rattle.af_model.specs.JournalForm.{IsJournal, IsWhole};
 ghost use Rattle.af_model.specs.Journals.{RoundNoted, journal_of};
 ghost use Rattle.af_session.specs.Ends.{ends_from};
+ghost use Rattle.af_session.specs.Hostile.{PokesSpareOthers};
 ghost use Rattle.af_session.specs.NewSession.{IsNewSession};
 ghost use Rattle.af_session.specs.declared.rendering.SessionFault.TheVariants.{CycleLimit};
-ghost use Rattle.af_session.specs.PlayedRuns.{AtFault, AtLimit, HandsBackRun, LeavesRun, Plays, all_ended, is_full};
+ghost use Rattle.af_session.specs.PlayedRuns.{AtFault, AtLimit, HandedBack, HandsBackRun, LeavesRun, Plays, all_ended, is_full};
 ghost use Rattle.af_session.specs.Rendered.{HasStoreCause, HaveFiles};
 ghost use Rattle.af_session.specs.Shares.{AreLinksOf};
-ghost use Rattle.af_session.specs.Shown.{released_by, shown_in, summary_told};
+ghost use Rattle.af_session.specs.Shown.{released_by, shown_by, shown_in, summary_told};
 ghost use Rattle.af_session.specs.Sound.{journal_pcm, pcm_of};
+ghost use Rattle.af_session.specs.Spelled.{CallsStandOnce, NoneOlder, PushesStandOnce};
 ghost use Rattle.af_session.specs.Summaries.{Shown, nothing_shown, summary_of};
 ghost use Rattle.af_session.specs.Tallies.{IsTally};
 ghost use Rattle.af_session.specs.Together.{AreTogether};
@@ -62,6 +64,7 @@ fn play_rounds<R: Threads + Sync, S: Store, G: Gate>(
     ensures count { OnOk result (length parties.new.clients ≡ length script.now.tracks) }
     ensures tally { OnOk result (IsTally (shown_in script.now.frames rounds.new parties.new.fast.log parties.new.normal.mutator.past.events) tally.new) }
     ensures released { OnOk result (All (λ p. p.stream.released < 2 ^ 58) parties.new.clients) }
+    ensures spared { OnOk result (PokesSpareOthers (shown_in script.now.frames rounds.new parties.new.fast.log parties.new.normal.mutator.past.events)) }
     ensures written { S.told store.old → (base : Files) → SetsFile base name.now (Some []) (S.files store.old) → OnOk result (SetsFile base name.now (Some (pcm_of script.now.frames parties.new.fast.log)) (S.files store.new)) }
     ensures left { S.told store.old → (base : Files) → SetsFile base name.now (Some []) (S.files store.old) → OnErr result (LeavesFront base name.now (pcm_of script.now.frames parties.new.fast.log) (S.files store.new)) }
     ensures tells { S.told store.old → S.told store.new }
@@ -107,6 +110,7 @@ fn play_made<R: Threads + Sync, S: Store, G: Gate>(
     ensures count { OnOk result (length parties.new.clients ≡ length script.now.tracks) }
     ensures tally { OnOk result (IsTally (shown_in script.now.frames rounds.new parties.new.fast.log parties.new.normal.mutator.past.events) tally.new) }
     ensures released { OnOk result (All (λ p. p.stream.released < 2 ^ 58) parties.new.clients) }
+    ensures spared { OnOk result (PokesSpareOthers (shown_in script.now.frames rounds.new parties.new.fast.log parties.new.normal.mutator.past.events)) }
     ensures written { S.told store.old → OnOk result (SetsFile (S.files store.old) name.now (Some (pcm_of script.now.frames parties.new.fast.log)) (S.files store.new)) }
     ensures left { S.told store.old → OnErr result (LeavesRun script.now files.now name.now (S.files store.old) (S.files store.new)) }
     ensures tells { S.told store.old → S.told store.new }
@@ -147,7 +151,7 @@ fn answer(
 
 /// Plays a script in rounds. In each every party that has not ended makes one turn, on a thread of its own where one can be made: each client, the normal mixer, and the fast mixer, which makes sixteen cycles, or fewer after one that isn't mixed. Then all parties meet. A party's turn begins at the gate, by its number: the clients' are those of their tracks, and the mixers' come behind. The sound goes to the file of this name, round by round. All blocks, logs and mixers are made before the file is; the rounds are noted as they are played. It makes at most as many rounds as the script has cycles.
 ///
-/// Whatever the threads did, what was played is a run of the script and its files, of rounds of all parties, whose journal is handed back, and where the store tells it the file is the sound of the journal. Ok says that all parties have ended, CycleLimit that the log is full and some party has not; so after each round but the last some party goes on and the log has room. After a fault no file has changed, or the file holds a front of the sound of some first rounds.
+/// Whatever the threads did, what was played is a run of the script and its files, of rounds of all parties, whose journal is handed back: in it each client's calls and each state pushed stand once, in their order, and no cycle uses a state older than one before it. Where the store tells it the file is the sound of the journal. Whatever clients stored in their words, each track on whose blocks nothing was poked is spared: no call of its client was answered Corrupt, and no look of the normal mixer at its blocks was Shut. Ok says that all parties have ended, CycleLimit that the log is full and some party has not; so after each round but the last some party goes on and the log has room. After a fault no file has changed, or the file holds a front of the sound of some first rounds.
 pub fn play<R: Threads + Sync, S: Store, G: Gate>(
     rt: &R,
     alloc: Global,
@@ -161,6 +165,10 @@ pub fn play<R: Threads + Sync, S: Store, G: Gate>(
     ensures played { IfOk result (λ p. HandsBackRun true script.now files.now p.journal p.ends) }
     ensures limit { IfErr result (AtLimit (HandsBackRun false script.now files.now)) }
     ensures summary { IfOk result (λ p. p.summary ≡ summary_told script.now.frames p.journal p.ends) }
+    ensures calls { HandedBack CallsStandOnce result }
+    ensures pushes { HandedBack PushesStandOnce result }
+    ensures never_older { HandedBack (λ journal _. NoneOlder journal) result }
+    ensures spared { HandedBack (λ journal ends. PokesSpareOthers (shown_by script.now.frames journal ends.normal.mutator.past.events)) result }
     ensures written { S.told store.old → IfOk result (λ p. SetsFile (S.files store.old) name.now (Some (journal_pcm script.now.frames p.journal)) (S.files store.new)) }
     ensures cut { S.told store.old → IfErr result (AtLimit (λ journal _. SetsFile (S.files store.old) name.now (Some (journal_pcm script.now.frames journal)) (S.files store.new))) }
     ensures left { S.told store.old → IfErr result (AtFault (LeavesRun script.now files.now name.now (S.files store.old) (S.files store.new))) }

@@ -6,12 +6,17 @@ use Rattle.af_model.specs.Journals.{JournalData, RoundsNoted, journal_of}
 use Rattle.af_session.specs.Ends.{EndsState, ends_from}
 use Rattle.af_session.specs.declared.rendering.Played.{Played}
 use Rattle.af_session.specs.PlayedRuns.{HandsBackRun, LeavesRun, all_ended}
+use Rattle.af_session.specs.Spelled.{CallsStandOnce, PushesStandOnce}
 use Rattle.af_session.specs.Sound.{journal_pcm, pcm_of}
 use Rattle.af_session.specs.Together.{SessionState}
 use Rattle.af_session.proofs.JournalSound.{journal_sounds}
+use Rattle.af_session.proofs.NeverOlder.{none_older}
 use Rattle.af_session.proofs.Outgoing.{cause_memory, cause_store}
-use Rattle.af_session.proofs.PlayAnswers.{at_fault, cause_cut, cut_fault, cut_off, hands_back, if_ok_one, if_ok_three, memory_never, off_limit, store_never, told_of}
+use Rattle.af_session.proofs.PlayAnswers.{at_fault, cause_cut, cut_fault, cut_off, handed, hands_back, if_ok_one, if_ok_three, memory_handed, memory_never, off_limit, older_by, spares_by, store_handed, store_never, told_of}
+use Rattle.af_session.proofs.RunPushed.{pushes_stand_once}
+use Rattle.af_session.proofs.RunSpelled.{calls_stand_once}
 use Rattle.af_session.proofs.ShownWhole.{tally_tracks}
+use Rattle.af_session.proofs.Spared.{spares_told}
 use Rattle.af_session.proofs.play_of_all.play.Goals as goal
 
 pub play_made-requires-clause-together : goal.play_made-requires-clause-together
@@ -142,3 +147,89 @@ pub returns-clause-cause : goal.returns-clause-cause
 returns-clause-cause g c =
     let t : SessionState = c.play_made.new.parties in
     cause_cut c.answer.result (all_ended t ≡ false) (journal_of c.play_made.new.rounds t.fast.log) (ends_from t) c.in_ok-play_made.field-0 (g.S.Store.faults c.args.store.now) (g.S.Store.faults c.play_made.new.store) c.in_ok-play_made.ensures.cause c.answer.ensures.cut
+
+pub returns-in_err-shared-clause-calls : goal.returns-in_err-shared-clause-calls
+returns-in_err-shared-clause-calls g c = memory_handed CallsStandOnce c.from_residual.result c.from_residual.ensures.1
+
+pub returns-in_err-buffer-clause-calls : goal.returns-in_err-buffer-clause-calls
+returns-in_err-buffer-clause-calls g c = memory_handed CallsStandOnce c.from_residual-in_err-buffer.result c.from_residual-in_err-buffer.ensures.1
+
+pub returns-in_err-tally-clause-calls : goal.returns-in_err-tally-clause-calls
+returns-in_err-tally-clause-calls g c = memory_handed CallsStandOnce c.from_residual-in_err-tally.result c.from_residual-in_err-tally.ensures.1
+
+pub returns-in_err-play_made-clause-calls : goal.returns-in_err-play_made-clause-calls
+returns-in_err-play_made-clause-calls g c = store_handed CallsStandOnce c.from_residual-in_err-play_made.result c.in_err-play_made.field-0.0 c.from_residual-in_err-play_made.ensures.1
+
+pub returns-in_err-shared-clause-pushes : goal.returns-in_err-shared-clause-pushes
+returns-in_err-shared-clause-pushes g c = memory_handed PushesStandOnce c.from_residual.result c.from_residual.ensures.1
+
+pub returns-in_err-buffer-clause-pushes : goal.returns-in_err-buffer-clause-pushes
+returns-in_err-buffer-clause-pushes g c = memory_handed PushesStandOnce c.from_residual-in_err-buffer.result c.from_residual-in_err-buffer.ensures.1
+
+pub returns-in_err-tally-clause-pushes : goal.returns-in_err-tally-clause-pushes
+returns-in_err-tally-clause-pushes g c = memory_handed PushesStandOnce c.from_residual-in_err-tally.result c.from_residual-in_err-tally.ensures.1
+
+pub returns-in_err-play_made-clause-pushes : goal.returns-in_err-play_made-clause-pushes
+returns-in_err-play_made-clause-pushes g c = store_handed PushesStandOnce c.from_residual-in_err-play_made.result c.in_err-play_made.field-0.0 c.from_residual-in_err-play_made.ensures.1
+
+pub returns-in_err-shared-clause-spared : goal.returns-in_err-shared-clause-spared
+returns-in_err-shared-clause-spared g c = memory_handed (spares_by c.args.script.now.frames) c.from_residual.result c.from_residual.ensures.1
+
+pub returns-in_err-buffer-clause-spared : goal.returns-in_err-buffer-clause-spared
+returns-in_err-buffer-clause-spared g c = memory_handed (spares_by c.args.script.now.frames) c.from_residual-in_err-buffer.result c.from_residual-in_err-buffer.ensures.1
+
+pub returns-in_err-tally-clause-spared : goal.returns-in_err-tally-clause-spared
+returns-in_err-tally-clause-spared g c = memory_handed (spares_by c.args.script.now.frames) c.from_residual-in_err-tally.result c.from_residual-in_err-tally.ensures.1
+
+pub returns-in_err-play_made-clause-spared : goal.returns-in_err-play_made-clause-spared
+returns-in_err-play_made-clause-spared g c = store_handed (spares_by c.args.script.now.frames) c.from_residual-in_err-play_made.result c.in_err-play_made.field-0.0 c.from_residual-in_err-play_made.ensures.1
+
+pub returns-in_err-shared-clause-never_older : goal.returns-in_err-shared-clause-never_older
+returns-in_err-shared-clause-never_older g c = memory_handed older_by c.from_residual.result c.from_residual.ensures.1
+
+pub returns-in_err-buffer-clause-never_older : goal.returns-in_err-buffer-clause-never_older
+returns-in_err-buffer-clause-never_older g c = memory_handed older_by c.from_residual-in_err-buffer.result c.from_residual-in_err-buffer.ensures.1
+
+pub returns-in_err-tally-clause-never_older : goal.returns-in_err-tally-clause-never_older
+returns-in_err-tally-clause-never_older g c = memory_handed older_by c.from_residual-in_err-tally.result c.from_residual-in_err-tally.ensures.1
+
+pub returns-in_err-play_made-clause-never_older : goal.returns-in_err-play_made-clause-never_older
+returns-in_err-play_made-clause-never_older g c = store_handed older_by c.from_residual-in_err-play_made.result c.in_err-play_made.field-0.0 c.from_residual-in_err-play_made.ensures.1
+
+-- ## What is handed back
+
+pub returns-clause-calls : goal.returns-clause-calls
+returns-clause-calls g c =
+    let t : SessionState = c.play_made.new.parties in
+    let noted : RoundsNoted = c.play_made.new.rounds in
+    let made = c.in_ok-play_made.ensures in
+    let run : HandsBackRun (all_ended t) c.args.script.now c.args.files.now (journal_of noted t.fast.log) (ends_from t) =
+    hands_back (all_ended t) c.args.script.now c.args.files.now t noted (journal_of noted t.fast.log) (ends_from t) made.all made.tracks made.count made.few made.over refl refl refl in
+    handed CallsStandOnce c.answer.result (all_ended t ≡ false) (journal_of noted t.fast.log) (ends_from t)
+    (calls_stand_once (all_ended t) c.args.script.now c.args.files.now (journal_of noted t.fast.log) (ends_from t) run) c.answer.ensures.journal c.answer.ensures.ends c.answer.ensures.cut
+
+pub returns-clause-pushes : goal.returns-clause-pushes
+returns-clause-pushes g c =
+    let t : SessionState = c.play_made.new.parties in
+    let noted : RoundsNoted = c.play_made.new.rounds in
+    let made = c.in_ok-play_made.ensures in
+    let run : HandsBackRun (all_ended t) c.args.script.now c.args.files.now (journal_of noted t.fast.log) (ends_from t) =
+    hands_back (all_ended t) c.args.script.now c.args.files.now t noted (journal_of noted t.fast.log) (ends_from t) made.all made.tracks made.count made.few made.over refl refl refl in
+    handed PushesStandOnce c.answer.result (all_ended t ≡ false) (journal_of noted t.fast.log) (ends_from t)
+    (pushes_stand_once (all_ended t) c.args.script.now c.args.files.now (journal_of noted t.fast.log) (ends_from t) run) c.answer.ensures.journal c.answer.ensures.ends c.answer.ensures.cut
+
+pub returns-clause-spared : goal.returns-clause-spared
+returns-clause-spared g c =
+    let t : SessionState = c.play_made.new.parties in
+    let noted : RoundsNoted = c.play_made.new.rounds in
+    let made = c.in_ok-play_made.ensures in
+    handed (spares_by c.args.script.now.frames) c.answer.result (all_ended t ≡ false) (journal_of noted t.fast.log) (ends_from t)
+    (spares_told c.args.script.now.frames noted t.fast.log t.normal.mutator.past.events (journal_of noted t.fast.log) (ends_from t) made.whole refl refl made.spared) c.answer.ensures.journal c.answer.ensures.ends c.answer.ensures.cut
+
+pub returns-clause-never_older : goal.returns-clause-never_older
+returns-clause-never_older g c =
+    let t : SessionState = c.play_made.new.parties in
+    let noted : RoundsNoted = c.play_made.new.rounds in
+    let made = c.in_ok-play_made.ensures in
+    handed older_by c.answer.result (all_ended t ≡ false) (journal_of noted t.fast.log) (ends_from t)
+    (none_older c.args.script.now c.args.files.now noted t made.all made.whole) c.answer.ensures.journal c.answer.ensures.ends c.answer.ensures.cut

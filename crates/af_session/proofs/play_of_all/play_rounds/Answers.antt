@@ -5,6 +5,7 @@ use Rattle.af_io.specs.Files.{SetsFile, LeavesFront}
 use Rattle.af_base.specs.declared.state.FastState.{FastState}
 use Rattle.af_model.specs.Journals.{RoundNoted, RoundsNoted}
 use Rattle.af_script.specs.declared.track.TrackSpec.{TrackSpec}
+use Rattle.af_session.specs.Hostile.{PokesSpareOthers, SparesSoFar}
 use Rattle.af_session.specs.PlayedRuns.{RunsOfAll}
 use Rattle.af_session.specs.Rounds.{Given, IsReady}
 use Rattle.af_session.specs.Shown.{shown_at}
@@ -16,6 +17,7 @@ use Rattle.af_session.proofs.FirstRound.{frames_first, ready_first, silent_first
 use Rattle.af_session.proofs.RoundsOfAll.{tally_of_all}
 use Rattle.af_session.proofs.RunOfAll.{plays}
 use Rattle.af_session.proofs.ShownWhole.{on_ok_both, released_few}
+use Rattle.af_session.proofs.Spared.{spares_first, spares_noted}
 use Rattle.af_session.proofs.play_of_all.play_rounds.Goals as goal
 
 pub play_to_end-requires-clause-buffer : goal.play_to_end-requires-clause-buffer
@@ -136,3 +138,20 @@ returns-clause-released g c =
     let given : Given = record { tracks = c.tracks-tracks.result.now; files = c.args.files.now } in
     on_ok_weaker c.play_to_end.result (λ (ready : IsReady c.links-links.result given (length c.play_to_end.new.rounds.rounds) c.play_to_end.new.self). released_few c.links-links.result given (length c.play_to_end.new.rounds.rounds) c.play_to_end.new.self ready)
     c.play_to_end.ensures.ready
+
+pub returns-clause-spared : goal.returns-clause-spared
+returns-clause-spared g c =
+    let given : Given = record { tracks = c.tracks-tracks.result.now; files = c.args.files.now } in
+    let links = c.links-links.result in
+    let was : SessionState = c.args.parties.now in
+    let is : SessionState = c.play_to_end.new.self in
+    let noted : RoundsNoted = c.play_to_end.new.rounds in
+    let done = c.play_to_end.ensures in
+    let Ready : Type 0 = IsReady links given (length noted.rounds) is in
+    let Tracks : Type 0 = noted.tracks ≡ length c.tracks-tracks.result.now in
+    let Spares : Type 0 = SparesSoFar noted.rounds is in
+    let Two : Type 0 = Tracks × Spares in
+    on_ok_weaker c.play_to_end.result
+    (λ (x : Ready × Two). spares_noted c.args.script.now.frames noted is.fast.log is.normal.mutator.past.events is (sym x.0.given.0 ∙ sym x.1.0) x.1.1)
+    (on_ok_both Ready Two c.play_to_end.result done.ready
+    (on_ok_both Tracks Spares c.play_to_end.result done.tracks (done.spares (spares_first c.args.script.now c.args.shared.now was c.requires.new))))

@@ -6,6 +6,7 @@ use Rattle.af_base.specs.Sample.{IsFrame}
 use Rattle.af_base.specs.declared.state.FastState.{FastState}
 use Rattle.af_io.specs.Files.{SetsFile, LeavesFront}
 use Rattle.af_model.specs.Journals.{RoundNoted, RoundsNoted}
+use Rattle.af_session.specs.Hostile.{SparesSoFar}
 use Rattle.af_session.specs.PlayedRuns.{GoesOn, RunsOfAll}
 use Rattle.af_session.specs.Rounds.{Given, IsReady}
 use Rattle.af_session.specs.Shown.{HasPlaces, shown_at}
@@ -23,6 +24,7 @@ use Rattle.af_session.proofs.RoundsLeft.{IsGoing, going_first}
 use Rattle.af_session.proofs.RoundsOfAll.{noted_of_all}
 use Rattle.af_session.proofs.RunOfAll.{knowing_first, run_of_more, run_of_none}
 use Rattle.af_session.proofs.ShownWhole.{places_first, tally_first}
+use Rattle.af_session.proofs.SparedOfAll.{spares_of_all}
 use Rattle.af_session.proofs.parties.Parties.play_to_end.Goals as goal
 
 pub loop-alloc-init : goal.loop-alloc-init
@@ -43,6 +45,7 @@ loop-alloc-init g c =
       places = subst (λ (n : ℕ). HasPlaces n (length was.clients) (length was.fast.log.entries) c.args.tally.now) (sym none)
           (places_first tracks (length was.clients) (length was.fast.log.entries) c.args.tally.now (sym c.requires.ready.given.0) c.requires.tally);
       noted = subst (λ (x : RoundsNoted). AreNoted tracks x was.fast.log) (sym c.requires.rounds) (noted_none tracks was.fast.log log.0 log.1);
+      spares = subst (λ (x : RoundsNoted). SparesSoFar [] was → SparesSoFar x.rounds was) (sym c.requires.rounds) (λ new. new);
       sizes = (refl, refl, refl);
       buffer = c.requires.buffer;
       tells = (λ told. told);
@@ -81,6 +84,8 @@ loop-alloc-preserved g c =
       places = subst (λ (n : ℕ). HasPlaces n (length next.clients) (length next.fast.log.entries) c.noted_round_of_all.new.tally) (sym longer) (c.noted_round_of_all.ensures.places i inv.places);
       noted = subst (λ (x : RoundsNoted). AreNoted (length c.args.tracks.now) x next.fast.log) (sym noted)
           (noted_of_all c.args.links.now given i now inv.ready (all_noted now next) more next round c.in_ok-noted_round_of_all.ensures.frames rounds inv.noted);
+      spares = subst (λ (x : RoundsNoted). SparesSoFar [] c.args.self.now → SparesSoFar x.rounds next) (sym noted)
+          (λ new. spares_of_all c.args.links.now given i now inv.ready next (c.noted_round_of_all.ensures.ready i inv.ready) more (all_noted now next) round rounds.rounds (inv.spares new));
       sizes = (c.noted_round_of_all.ensures.sizes.0 ∙ inv.sizes.0, c.noted_round_of_all.ensures.sizes.1 ∙ inv.sizes.1, c.noted_round_of_all.ensures.sizes.2 ∙ inv.sizes.2);
       buffer = search rules;
       tells = (λ told. c.noted_round_of_all.ensures.tells (inv.tells told));
@@ -185,3 +190,6 @@ returns-clause-tally g c = c.loop-alloc.invariant.tally
 
 pub returns-clause-frames : goal.returns-clause-frames
 returns-clause-frames g c = c.loop-alloc.invariant.sizes.0
+
+pub returns-clause-spares : goal.returns-clause-spares
+returns-clause-spares g c = λ new. c.loop-alloc.invariant.spares new

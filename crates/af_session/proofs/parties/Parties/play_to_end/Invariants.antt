@@ -1,6 +1,7 @@
-use Rattle.std.proofs.Common.{◌≡◌, ◌-◌, ◌≤◌, Some, length}
+use Rattle.std.proofs.Common.{◌≡◌, ◌-◌, ◌≤◌, [], Some, length}
 use Rattle.af_io.specs.Files.{Files, SetsFile}
 use Rattle.af_base.specs.declared.state.FastState.{FastState}
+use Rattle.af_session.specs.Hostile.{SparesSoFar}
 use Rattle.af_session.specs.PlayedRuns.{RunsOfAll}
 use Rattle.af_session.specs.Rounds.{IsReady}
 use Rattle.af_session.specs.Shown.{HasPlaces, shown_at}
@@ -21,6 +22,7 @@ invariant-loop-alloc g l = record {
   tally : (first : FastState) → IsTally (shown_at first (length l.tracks) l.rounds.rounds l.self.fast) l.tally;
   places : HasPlaces (length l.rounds.rounds) (length l.self.clients) (length l.self.fast.log.entries) l.tally;
   noted : AreNoted (length l.tracks) l.rounds l.self.fast.log;
+  spares : SparesSoFar [] l.fn.self → SparesSoFar l.rounds.rounds l.self;
   sizes : (l.self.fast.frames ≡ l.fn.self.fast.frames) × (l.self.fast.cycles ≡ l.fn.self.fast.cycles) × (l.bytes.room ≡ l.fn.bytes.room);
   buffer : length l.buffer ≡ l.fn.self.fast.frames;
   tells : g.S.Store.told l.fn.store → g.S.Store.told l.store;
