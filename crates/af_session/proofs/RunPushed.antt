@@ -1,5 +1,5 @@
 -- In a run of all parties the journal tells each push once, in order.
-use Rattle.std.proofs.Common.{◌≡◌, ℕ, zero, suc, ◌+◌, Bool, true, false, true≢false, if◌then◌else◌, List, [], ◌∷◌, ◌++◌, length, length-append, drop, map, Option, Some, None, refl, sym, ap, subst, ◌∙◌, append_assoc, append-nil, arith}
+use Rattle.std.proofs.Common.{◌≡◌, ℕ, zero, suc, ◌+◌, Bool, true, false, true≢false, if◌then◌else◌, List, [], ◌∷◌, ◌++◌, length, length-append, drop, take, map, Option, Some, None, refl, sym, ap, subst, ◌∙◌, append_assoc, append-nil, arith}
 use Rattle.std.specs.Prelude.{flat_map}
 use Rattle.std.specs.Bool.{MatchBool}
 use Rattle.std.proofs.lemmas.List.Concat.{flat_map-cons}
@@ -86,7 +86,7 @@ run_knows g s (r ∷ rs) bytes t run knows = run_knows g run.2 rs run.1 t run.6 
 pushes_dealt : (entries : List EntrySeen) (rounds : List RoundNoted) → flat_map (λ (r : RoundSeen). pushed_by r.turn) (rounds_seen entries rounds) ≡ pushes_over rounds
 pushes_dealt entries [] = refl
 pushes_dealt entries (r ∷ rs) =
-    flat_map-cons (λ (y : RoundSeen). pushed_by y.turn) _ (rounds_seen (drop r.cycles entries) rs)
+    flat_map-cons (λ (y : RoundSeen). pushed_by y.turn) (record { calls = r.calls; turn = r.turn; entries = take r.cycles entries }) (rounds_seen (drop r.cycles entries) rs)
     ∙ ap (λ (l : List ℕ). pushed_by r.turn ++ l) (pushes_dealt (drop r.cycles entries) rs)
     ∙ sym (flat_map-cons (λ (y : RoundNoted). pushed_by y.turn) r rs)
 

@@ -1,5 +1,5 @@
 -- In a run of all parties each client's lists are spelled by just the calls that the journal tells of it.
-use Rattle.std.proofs.Common.{◌≡◌, ◌⊎◌, ℕ, ◌<◌, ◌≤◌, Bool, true, false, if◌then◌else◌, List, [], ◌∷◌, ◌++◌, length, map, option_map, slice_get, Option, Some, None, refl, sym, ap, subst, ◌∙◌, append_assoc, append-nil, drop, ⊎_elim, arith}
+use Rattle.std.proofs.Common.{◌≡◌, ◌⊎◌, ℕ, ◌<◌, ◌≤◌, Bool, true, false, if◌then◌else◌, List, [], ◌∷◌, ◌++◌, length, map, option_map, slice_get, Option, Some, None, refl, sym, ap, subst, ◌∙◌, append_assoc, append-nil, drop, take, ⊎_elim, arith}
 use Rattle.std.specs.Prelude.{flat_map, slice_index_or}
 use Rattle.std.proofs.lemmas.List.Concat.{flat_map-cons}
 use Rattle.std.proofs.lemmas.Option.{get_or_from_slice_get, none-some, same_Some, slice_get-map, slice_get_cases, slice_get_within}
@@ -64,7 +64,7 @@ ended_from ps true i q s is at = by_place (slice_get ps i) refl
     there = sym (slice_get-map end_party ps i) ∙ ap (λ (l : List PartyState). slice_get (map end_party l) i) (sym is) ∙ at
 
     by_place : (o : Option PartyState) → slice_get ps i ≡ o → (p : PartyState) × (slice_get ps i ≡ Some p) × ((calls : List ClientCall) → BothSpell calls p → BothSpell calls q)
-    by_place None e = absurd (let x : ⊥ = none-some (sym (ap (option_map end_party) e) ∙ there) in x)
+    by_place None e = absurd (none-some q (sym (ap (option_map end_party) e) ∙ there))
     by_place (Some p) e =
         let same : end_party p ≡ q = same_Some (end_party p) q (sym (ap (option_map end_party) e) ∙ there) in
         (p, e, λ calls spells. subst (BothSpell calls) same spells)
@@ -116,7 +116,7 @@ run_spells g s (r ∷ rs) bytes t run calls spells = λ i p at.
 calls_dealt : (entries : List EntrySeen) (rounds : List RoundNoted) (i : ℕ) → flat_map (λ (r : RoundSeen). slice_index_or r.calls i []) (rounds_seen entries rounds) ≡ calls_over rounds i
 calls_dealt entries [] i = refl
 calls_dealt entries (r ∷ rs) i =
-    flat_map-cons (λ (y : RoundSeen). slice_index_or y.calls i []) _ (rounds_seen (drop r.cycles entries) rs)
+    flat_map-cons (λ (y : RoundSeen). slice_index_or y.calls i []) (record { calls = r.calls; turn = r.turn; entries = take r.cycles entries }) (rounds_seen (drop r.cycles entries) rs)
     ∙ ap (λ (l : List ClientCall). slice_index_or r.calls i [] ++ l) (calls_dealt (drop r.cycles entries) rs i)
     ∙ sym (flat_map-cons (λ (y : RoundNoted). slice_index_or y.calls i []) r rs)
 

@@ -20,10 +20,10 @@ use Rattle.af_session.proofs.Spared.{spares_told}
 use Rattle.af_session.proofs.play_of_all.play.Goals as goal
 
 pub play_made-requires-clause-together : goal.play_made-requires-clause-together
-play_made-requires-clause-together g c = λ links of. c.in_ok-shared.ensures.together links of
+play_made-requires-clause-together g c = λ κs lives links of. c.in_ok-shared.ensures.together links of
 
 pub play_made-requires-clause-room : goal.play_made-requires-clause-room
-play_made-requires-clause-room g c = ap (λ (b : Roomy ℕ). b.room) c.in_ok-buffer.ensures.1 ∙ ap (λ (n : ℕ). 64 * n) c.frames.ensures.value
+play_made-requires-clause-room g c = λ κs lives. ap (λ (b : Roomy ℕ). b.room) c.in_ok-buffer.ensures.1 ∙ ap (λ (n : ℕ). 64 * n) c.frames.ensures.value
 
 pub answer-requires-clause-count : goal.answer-requires-clause-count
 answer-requires-clause-count g c =

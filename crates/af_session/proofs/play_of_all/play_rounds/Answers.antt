@@ -21,21 +21,21 @@ use Rattle.af_session.proofs.Spared.{spares_first, spares_noted}
 use Rattle.af_session.proofs.play_of_all.play_rounds.Goals as goal
 
 pub play_to_end-requires-clause-buffer : goal.play_to_end-requires-clause-buffer
-play_to_end-requires-clause-buffer g c = c.requires.buffer ∙ sym (frames_first c.args.script.now c.args.shared.now c.args.parties.now c.requires.new c.args.files.now)
+play_to_end-requires-clause-buffer g c = λ κs lives. c.requires.buffer ∙ sym (frames_first c.args.script.now c.args.shared.now c.args.parties.now c.requires.new c.args.files.now)
 
 pub play_to_end-requires-clause-room : goal.play_to_end-requires-clause-room
-play_to_end-requires-clause-room g c =
+play_to_end-requires-clause-room g c = λ κs lives.
     let same = frames_first c.args.script.now c.args.shared.now c.args.parties.now c.requires.new c.args.files.now in
     omega (arith, same, c.requires.room)
 
 pub play_to_end-requires-clause-ready : goal.play_to_end-requires-clause-ready
-play_to_end-requires-clause-ready g c =
+play_to_end-requires-clause-ready g c = λ κs lives.
     let links = c.links-links.result in
     subst (λ (x : List TrackSpec). IsReady links (record { tracks = x; files = c.args.files.now }) 0 c.args.parties.now) (sym c.tracks-tracks.ensures.value)
     (ready_first c.args.script.now c.args.shared.now c.args.parties.now c.requires.new c.args.files.now links c.requires.files (c.requires.together links c.links-links.ensures))
 
 pub play_to_end-requires-clause-rounds : goal.play_to_end-requires-clause-rounds
-play_to_end-requires-clause-rounds g c =
+play_to_end-requires-clause-rounds g c = λ κs lives.
     subst (λ (ts : List TrackSpec). c.args.rounds.now ≡ record { tracks = length ts; rounds = [] }) (sym c.tracks-tracks.ensures.value) c.requires.rounds
 
 pub returns-clause-tracks : goal.returns-clause-tracks
@@ -67,13 +67,13 @@ returns-clause-left g c = λ told base set.
     subst (λ (n : ℕ). OnErr c.play_to_end.result (LeavesFront base name (pcm_of n is.fast.log) (g.S.Store.files c.play_to_end.new.store))) same (c.play_to_end.ensures.left told base made)
 
 pub play_to_end-requires-clause-tally : goal.play_to_end-requires-clause-tally
-play_to_end-requires-clause-tally g c = subst (λ (ts : List TrackSpec). IsTally (nothing_shown (length ts)) c.args.tally.now) (sym c.tracks-tracks.ensures.value) c.requires.tally
+play_to_end-requires-clause-tally g c = λ κs lives. subst (λ (ts : List TrackSpec). IsTally (nothing_shown (length ts)) c.args.tally.now) (sym c.tracks-tracks.ensures.value) c.requires.tally
 
 pub play_to_end-requires-clause-new : goal.play_to_end-requires-clause-new
-play_to_end-requires-clause-new g c = (c.args.script.now, c.args.shared.now, c.requires.new)
+play_to_end-requires-clause-new g c = λ κs lives. (c.args.script.now, c.args.shared.now, c.requires.new)
 
 pub play_to_end-requires-clause-cycles : goal.play_to_end-requires-clause-cycles
-play_to_end-requires-clause-cycles g c = c.cycles-cycles.ensures.value ∙ sym (ap (λ (m : MixerState). m.cycles) c.requires.new.fast)
+play_to_end-requires-clause-cycles g c = λ κs lives. c.cycles-cycles.ensures.value ∙ sym (ap (λ (m : MixerState). m.cycles) c.requires.new.fast)
 
 pub returns-clause-few : goal.returns-clause-few
 returns-clause-few g c =

@@ -107,11 +107,11 @@ loop-alloc-smaller g c =
     let few = few_so_far (length rounds.rounds) now inv.ready.together.fast.0.room.entries.0 goes inv.going in
     omega (arith, longer, few, inv.sizes.1, c.requires.cycles)
 
-pub goes_on-requires-clause-cycles : goal.goes_on-requires-clause-cycles
-goes_on-requires-clause-cycles g c = c.requires.cycles ∙ sym c.loop-alloc.invariant.sizes.1
+pub goes_on-requires : goal.goes_on-requires
+goes_on-requires g c = record { cycles = c.requires.cycles ∙ sym c.loop-alloc.invariant.sizes.1 }
 
 pub noted_round_of_all-requires-clause-ready : goal.noted_round_of_all-requires-clause-ready
-noted_round_of_all-requires-clause-ready g c =
+noted_round_of_all-requires-clause-ready g c = λ κs lives.
     let inv = c.loop-alloc.invariant in
     let rounds : RoundsNoted = c.loop-alloc.rounds in
     let now : SessionState = c.loop-alloc.self in
@@ -121,10 +121,10 @@ noted_round_of_all-requires-clause-ready g c =
     (length rounds.rounds, omega (arith, few, order.sized.2), inv.ready)
 
 pub noted_round_of_all-requires-clause-count : goal.noted_round_of_all-requires-clause-count
-noted_round_of_all-requires-clause-count g c = c.loop-alloc.invariant.noted.count
+noted_round_of_all-requires-clause-count g c = λ κs lives. c.loop-alloc.invariant.noted.count
 
 pub noted_round_of_all-requires-clause-places : goal.noted_round_of_all-requires-clause-places
-noted_round_of_all-requires-clause-places g c =
+noted_round_of_all-requires-clause-places g c = λ κs lives.
     let inv = c.loop-alloc.invariant in
     let rounds : RoundsNoted = c.loop-alloc.rounds in
     let now : SessionState = c.loop-alloc.self in
