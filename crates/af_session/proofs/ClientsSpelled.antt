@@ -1,22 +1,15 @@
 -- The lists of each client are spelled by just the calls that the journal tells of it.
-use Rattle.std.proofs.Common.{◌≡◌, ◌⊎◌, ℕ, zero, suc, ◌<◌, Bool, true, false, not, if◌then◌else◌, is_some, fold, List, [], ◌∷◌, ◌++◌, length, map, slice_get, Option, Some, None, inl, inr, refl, sym, ap, subst, ◌∙◌, append-nil, append_assoc, arith}
-use Rattle.std.specs.List.{AllZip}
-use Rattle.std.specs.Prelude.{slice_index_or}
-use Rattle.std.proofs.lemmas.List.Concat.{flat_map-cons}
-use Rattle.std.proofs.lemmas.Option.{slice_get_within}
+use Rattle.std.proofs.Common.{◌≡◌, ℕ, Bool, true, false, not, if◌then◌else◌, is_some, fold, List, [], ◌∷◌, ◌++◌, refl, sym, ap, subst, ◌∙◌, append-nil, append_assoc}
 use Rattle.af_base.specs.declared.event.ClientCall.{ClientCall}
 use Rattle.af_base.specs.declared.event.ClientCall.TheVariants as call
 use Rattle.af_base.specs.declared.event.ClientEvent.{ClientEvent}
 use Rattle.af_base.specs.declared.event.ClientEvent.TheVariants as client
-use Rattle.af_client.specs.Order.{ClientState}
 use Rattle.af_journal.specs.ClientTurns.{Side, Track, after_call, after_calls, called, is_of_commands, released_by}
 use Rattle.af_model.specs.ClientCalls.{ClientKept, client_begins, client_call_events, client_kept}
-use Rattle.af_model.specs.Journals.{RoundNoted}
 use Rattle.af_model.specs.Spelled.{Kind, stream, commands, is_on, ClientStep, met_server, client_spells, client_step_events}
 use Rattle.af_model.specs.Spelled as step
 use Rattle.af_model.proofs.Spelled.{client_spells-append}
-use Rattle.af_session.specs.Parties.{PartyState}
-use Rattle.af_session.specs.Spelled.{BothSpell, IsSpelled, Spells, calls_among}
+use Rattle.af_session.specs.Spelled.{IsSpelled, calls_among}
 
 -- ## One list
 

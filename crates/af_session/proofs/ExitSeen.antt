@@ -1,5 +1,5 @@
 -- Once the fast mixer has exited, the next turn of the normal mixer ends.
-use Rattle.std.proofs.Common.{◌≡◌, ℕ, zero, suc, ◌≤◌, ◌==◌, ◌||◌, Bool, true, false, if◌then◌else◌, sym, refl, ap, subst, ◌∙◌, List, [], ◌∷◌, ◌++◌, length, map, append_assoc, Option, Some, eqb-true, arith}
+use Rattle.std.proofs.Common.{◌≡◌, ℕ, zero, suc, ◌≤◌, ◌==◌, ◌||◌, Bool, true, false, if◌then◌else◌, sym, refl, ap, subst, ◌∙◌, List, [], ◌∷◌, ◌++◌, length, map, append_assoc, Some, eqb-true, arith}
 use Rattle.std.specs.Bool.{MatchBool}
 use Rattle.std.proofs.lemmas.Bool.{MatchBool-at_true, MatchBool-at_false}
 use Rattle.af_base.specs.declared.frame.Frame.{Frame}
@@ -7,7 +7,7 @@ use Rattle.af_base.specs.declared.log.Cycle.{Cycle}
 use Rattle.af_base.specs.declared.log.CycleEntry.{CycleEntry}
 use Rattle.af_base.specs.declared.state.FastState.{FastState}
 use Rattle.af_base.specs.Turn.{Turn, turn_of}
-use Rattle.af_model.specs.Cycles.{state_of, cycle_of, cold_done, has_exit, is_mixed, is_exit as answers_exit}
+use Rattle.af_model.specs.Cycles.{state_of, cold_done, has_exit, is_mixed, is_exit as answers_exit}
 use Rattle.af_model.specs.StateQueue.{HasHistory}
 use Rattle.af_model.specs.declared.plain_calls.Poll.{Poll}
 use Rattle.af_model.specs.declared.plain_calls.Poll.TheVariants.{Nothing, Same, New}
@@ -18,12 +18,12 @@ use Rattle.af_model.specs.declared.states.ObserverEvent.TheVariants as observer
 use Rattle.af_model.specs.Journals.{RoundNoted}
 use Rattle.af_model.proofs.UsedStates.{has_exit-push}
 use Rattle.af_fast.specs.Mixer.{MixerState, adopted_states, is_over}
-use Rattle.af_fast.specs.Mixing.{AddsCycle, Adopts, MixesOnce}
+use Rattle.af_fast.specs.Mixing.{AddsCycle, MixesOnce}
 use Rattle.af_life.specs.Edits.{is_exit}
 use Rattle.af_life.specs.Heard.{learnt}
 use Rattle.af_life.specs.Kept.{NormalKept, Outside}
-use Rattle.af_life.specs.TurnEvents.{mutator_list, number_seen, going, push_list}
-use Rattle.af_life.specs.Turn.{after_edits, turn_after}
+use Rattle.af_life.specs.TurnEvents.{number_seen, going, push_list}
+use Rattle.af_life.specs.Turn.{after_edits}
 use Rattle.af_link.specs.declared.names.StreamNames.{StreamNames}
 use Rattle.af_normal.specs.LegalTurned.{IsLegal}
 use Rattle.af_normal.specs.State.{NormalState, setup_of, kept_of}
@@ -34,7 +34,7 @@ use Rattle.af_stateq.specs.Observes.{AreTold, Observes}
 use Rattle.af_stateq.specs.Shelved.{no_state}
 use Rattle.af_stateq.proofs.Told.{told_learn, told_look, told_new}
 use Rattle.af_session.specs.Alone.{CyclesOn, CyclesOnce, FastTurned, most_cycles}
-use Rattle.af_session.specs.Met.{EndsMet, Met}
+use Rattle.af_session.specs.Met.{EndsMet}
 use Rattle.af_session.specs.SideBySide.{IsRoundOfAll, NormalPlayed}
 use Rattle.af_session.specs.Rounds.{Given, end_party, with_ends}
 use Rattle.af_session.specs.Together.{SessionState}

@@ -8,7 +8,7 @@ use Rattle.af_base.specs.declared.frame.Frame.{Frame}
 use Rattle.af_base.specs.declared.log.Cycle.{Cycle}
 use Rattle.af_base.specs.declared.log.CycleEntry.{CycleEntry}
 use Rattle.af_base.specs.declared.state.FastState.{FastState}
-use Rattle.af_base.specs.Log.{Logged, slots, entry_at, no_entry, takes_of}
+use Rattle.af_base.specs.Log.{slots, entry_at, no_entry, takes_of}
 use Rattle.af_base.specs.Mix.{Take, mix}
 use Rattle.af_base.specs.Turn.{Turn}
 use Rattle.af_journal.specs.Logged.{LieWithin}

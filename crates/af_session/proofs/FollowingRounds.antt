@@ -1,12 +1,12 @@
 -- How what a run shows follows the rounds.
-use Rattle.std.proofs.Common.{◌≡◌, ◌≢◌, ℕ, zero, suc, ◌+◌, ◌-◌, ◌<◌, ◌≤◌, ◌⊎◌, inl, inr, Bool, true, false, if◌then◌else◌, List, [], ◌∷◌, ◌++◌, length, length-set, map, option_map, replicate, slice_get, slice_set, Option, Some, None, refl, sym, ap, subst, ◌∙◌, ⊎_elim, append-nil, arith}
+use Rattle.std.proofs.Common.{◌≡◌, ◌≢◌, ℕ, zero, suc, ◌+◌, ◌-◌, ◌<◌, ◌≤◌, Bool, true, false, if◌then◌else◌, List, [], ◌∷◌, ◌++◌, length, length-set, map, option_map, replicate, slice_get, slice_set, Option, Some, None, refl, sym, ap, subst, ◌∙◌, ⊎_elim, append-nil, arith}
 use Rattle.std.specs.Prelude.{slice_index_or}
 use Rattle.std.specs.List.{range_with_len}
 use Rattle.std.proofs.lemmas.Bool.{cases_eq}
 use Rattle.std.proofs.lemmas.List.{get_or-set_same, get_or-set_other, length-map, length-replicate, map-append}
 use Rattle.std.proofs.lemmas.List.Concat.{flat_map-append, flat_map-cons}
 use Rattle.std.proofs.lemmas.List.FromFn.{fill_by_all, get_or-map-range_with_len, length-map-range_with_len}
-use Rattle.std.proofs.lemmas.Option.{none-some, slice_get-map, slice_get_cases}
+use Rattle.std.proofs.lemmas.Option.{slice_get-map, slice_get_cases}
 use Rattle.af_base.specs.declared.event.ClientCall.{ClientCall}
 use Rattle.af_base.specs.declared.frame.Frame.{Frame}
 use Rattle.af_base.specs.declared.log.CycleEntry.{CycleEntry}
@@ -21,11 +21,11 @@ use Rattle.af_normal.specs.State.{NormalState}
 use Rattle.af_normal.proofs.LegalLists.{get_set_same}
 use Rattle.af_script.specs.declared.op.TurnSpec.{TurnSpec}
 use Rattle.af_script.specs.declared.op.TurnSpec.TheVariants as spec
-use Rattle.af_session.specs.Met.{Met, proxies_of, spot_of}
+use Rattle.af_session.specs.Met.{Met}
 use Rattle.af_session.specs.Parties.{PartyState}
 use Rattle.af_session.specs.Rounds.{calls_in, client_round, end_party, fast_round, normal_round, round_told, still_round, with_ends}
 use Rattle.af_session.specs.Shown.{Follows, FollowsRound, HasPlaces, calls_over, shown_at, shows, turn_in, turns_over}
-use Rattle.af_session.specs.Summaries.{Shown, calls_of, with_calls, with_turn}
+use Rattle.af_session.specs.Summaries.{Shown, with_calls, with_turn}
 use Rattle.af_session.specs.Tallies.{IsTally, Keeps, Tallied}
 use Rattle.af_session.specs.Together.{SessionState}
 use Rattle.af_session.proofs.Following.{shown_met}

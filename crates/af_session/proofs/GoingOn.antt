@@ -1,11 +1,11 @@
 -- When a run of all parties goes on, and how many rounds it can have made by then.
-use Rattle.std.proofs.Common.{◌≡◌, ℕ, zero, suc, ◌+◌, ◌<◌, ◌≤◌, ◌==◌, ◌&&◌, Bool, true, false, true≢false, List, [], ◌∷◌, length, slice_get, Some, refl, sym, ap, ◌∙◌, arith}
+use Rattle.std.proofs.Common.{◌≡◌, ℕ, suc, ◌+◌, ◌<◌, ◌≤◌, ◌&&◌, Bool, true, true≢false, List, [], ◌∷◌, length, slice_get, Some, refl, sym, ap, ◌∙◌, arith}
 use Rattle.std.specs.List.{list_all}
 use Rattle.std.proofs.lemmas.Bool.{eqb-false}
 use Rattle.af_model.specs.Cycles.{has_exit}
 use Rattle.af_model.specs.Journals.{RoundNoted}
 use Rattle.af_session.specs.Parties.{PartyState}
-use Rattle.af_session.specs.PlayedRuns.{GoesOn, all_ended, is_full}
+use Rattle.af_session.specs.PlayedRuns.{GoesOn, all_ended}
 use Rattle.af_session.specs.Rounds.{Given}
 use Rattle.af_session.specs.SideBySide.{IsRoundOfAll}
 use Rattle.af_session.specs.Together.{SessionState}

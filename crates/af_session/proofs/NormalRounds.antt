@@ -1,14 +1,14 @@
 -- The turn of the normal mixer in a session, and of the fast mixer.
 use Rattle.std.proofs.Common.{◌≡◌, ℕ, Bool, List, [], true, false, refl, sym, subst}
 use Rattle.std.specs.Bool.{MatchBool}
-use Rattle.af_base.specs.Turn.{Turn, turn_of}
+use Rattle.af_base.specs.Turn.{turn_of}
 use Rattle.af_life.specs.Kept.{Outside}
 use Rattle.af_model.specs.Journals.{RoundNoted}
 use Rattle.af_normal.specs.LegalTurned.{IsLegal}
 use Rattle.af_normal.specs.State.{NormalState}
 use Rattle.af_script.specs.declared.op.TurnSpec.TheVariants as spec
 use Rattle.af_session.specs.FastTurns.{IsFastTurn}
-use Rattle.af_session.specs.Rounds.{Given, NormalTurned, Turns, fast_round, normal_round, still_round}
+use Rattle.af_session.specs.Rounds.{Given, Turns, fast_round, normal_round, still_round}
 use Rattle.af_session.specs.Together.{SessionState}
 
 of_true : (P Q : Type 0) (b : Bool) → b ≡ true → P → MatchBool b P Q

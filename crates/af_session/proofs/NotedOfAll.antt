@@ -1,13 +1,12 @@
 -- What a journal notes of a round of all parties is the same after the meetings.
-use Rattle.std.proofs.Common.{◌≡◌, ℕ, ◌+◌, ◌-◌, ◌<◌, ◌≤◌, ◌⊎◌, inl, inr, if◌then◌else◌, Bool, true, false, List, [], ◌∷◌, length, map, option_map, get_or, slice_get, Option, Some, None, refl, sym, ap, subst, ◌∙◌, ⊎_elim, arith}
+use Rattle.std.proofs.Common.{◌≡◌, ℕ, ◌-◌, ◌<◌, if◌then◌else◌, Bool, true, false, List, [], ◌∷◌, length, map, option_map, slice_get, Some, None, refl, sym, ap, ◌∙◌, ⊎_elim, arith}
 use Rattle.std.proofs.lemmas.List.{length-map, same_lists}
 use Rattle.std.proofs.lemmas.Option.{get_or_from_slice_get, slice_get_cases, slice_get-map, slice_get_within}
 use Rattle.af_base.specs.declared.event.ClientCall.{ClientCall}
 use Rattle.af_base.specs.Log.{Logged}
-use Rattle.af_base.specs.Turn.{Turn, turn_of}
-use Rattle.af_model.specs.Journals.{RoundNoted}
+use Rattle.af_base.specs.Turn.{turn_of}
 use Rattle.af_normal.specs.State.{NormalState}
-use Rattle.af_session.specs.Met.{Met, proxies_of, spot_of}
+use Rattle.af_session.specs.Met.{Met}
 use Rattle.af_session.specs.Parties.{PartyState}
 use Rattle.af_session.specs.Rounds.{end_party, with_ends}
 use Rattle.af_session.specs.SideBySide.{all_noted}

@@ -4,7 +4,7 @@ use Rattle.std.specs.Prelude.{slice_index_or}
 use Rattle.std.specs.List.{range_with_len}
 use Rattle.std.proofs.lemmas.Bool.{cases_eq}
 use Rattle.std.proofs.lemmas.Option.{get_or_from_slice_get, slice_get-get_or, slice_get-map}
-use Rattle.std.proofs.lemmas.List.{get_or-set_same, get_or-set_other, length-map}
+use Rattle.std.proofs.lemmas.List.{get_or-set_same, get_or-set_other}
 use Rattle.std.proofs.lemmas.List.FromFn.{fill_by_all, get_or-map-range_with_len, length-map-range_with_len}
 use Rattle.af_base.specs.declared.event.ClientCall.{ClientCall}
 use Rattle.af_base.specs.declared.frame.Frame.{Frame}
@@ -17,7 +17,7 @@ use Rattle.af_fast.specs.Mixer.{IsInOrder, MixerState}
 use Rattle.af_session.specs.Met.{Met}
 use Rattle.af_session.specs.Rounds.{with_ends}
 use Rattle.af_session.specs.Parties.{PartyState}
-use Rattle.af_session.specs.Shown.{Follows, FollowsRound, HasPlaces, calls_over, shown_at, shows, turns_over}
+use Rattle.af_session.specs.Shown.{Follows, FollowsRound, HasPlaces, calls_over, shown_at, shows}
 use Rattle.af_session.specs.SideBySide.{all_noted, with_all_calls, with_turn_if}
 use Rattle.af_session.specs.Summaries.{Shown, calls_of, with_calls, with_turn}
 use Rattle.af_session.specs.Tallies.{IsTally, Tallied}

@@ -1,7 +1,6 @@
 -- What a play answers, by what was played.
-use Rattle.std.proofs.Common.{◌≡◌, ◌≤◌, ◌<◌, ℕ, Bool, true, false, List, length, Result, Ok, Err, IfErr, IfOk, IsErrAnd, IsErrOf, refl, sym, ap, subst, ◌∙◌}
+use Rattle.std.proofs.Common.{◌≡◌, ◌≤◌, ℕ, Bool, true, false, List, length, Result, Ok, Err, IfErr, IfOk, IsErrAnd, IsErrOf, refl, sym, ap, subst, ◌∙◌}
 use Rattle.af_base.specs.declared.frame.Frame.{Frame}
-use Rattle.af_base.specs.Log.{Logged}
 use Rattle.af_io.specs.Causes.{HasCause}
 use Rattle.af_io.specs.declared.store.StoreError.{StoreError}
 use Rattle.af_io.specs.declared.store.StoreError.TheVariants as store

@@ -1,10 +1,7 @@
 -- How many rounds of all parties a session makes: each adds an entry to the log until all have ended.
-use Rattle.std.proofs.Common.{◌≡◌, ℕ, zero, suc, ◌+◌, ◌<◌, ◌≤◌, ◌==◌, ◌||◌, Bool, true, false, true≢false, if◌then◌else◌, sym, refl, ap, subst, ◌∙◌, List, [], ◌∷◌, ◌++◌, length, length-append, map, slice_get, Option, Some, is_some, unwrap_or, ne_eqb, arith}
-use Rattle.std.specs.Bool.{MatchBool}
+use Rattle.std.proofs.Common.{◌≡◌, ℕ, zero, suc, ◌+◌, ◌<◌, ◌≤◌, ◌==◌, ◌||◌, Bool, true, false, true≢false, if◌then◌else◌, sym, refl, ap, subst, ◌∙◌, List, [], ◌∷◌, length, length-append, map, slice_get, Option, Some, is_some, unwrap_or, ne_eqb, arith}
 use Rattle.std.proofs.lemmas.Bool.{MatchBool-at_true, MatchBool-at_false}
-use Rattle.af_base.specs.declared.frame.Frame.{Frame}
 use Rattle.af_base.specs.declared.log.Cycle.{Cycle}
-use Rattle.af_base.specs.declared.log.CycleEntry.{CycleEntry}
 use Rattle.af_model.specs.Cycles.{has_exit, is_mixed}
 use Rattle.af_model.specs.Journals.{RoundNoted}
 use Rattle.af_fast.specs.Mixer.{MixerState, is_over}
@@ -12,10 +9,9 @@ use Rattle.af_life.specs.Kept.{Outside}
 use Rattle.af_normal.specs.LegalTurned.{IsLegal}
 use Rattle.af_normal.specs.State.{NormalState}
 use Rattle.af_session.specs.Alone.{CyclesOn, CyclesOnce, FastTurned, most_cycles}
-use Rattle.af_session.specs.Met.{EndsMet}
 use Rattle.af_session.specs.Parties.{PartyState}
 use Rattle.af_session.specs.Rounds.{Given, end_party, with_ends}
-use Rattle.af_session.specs.SideBySide.{IsRoundOfAll, NormalPlayed}
+use Rattle.af_session.specs.SideBySide.{IsRoundOfAll}
 use Rattle.af_session.specs.Together.{SessionState}
 use Rattle.af_session.proofs.ExitSeen.{Knowing, exit_seen, mixers_stay, rests_over}
 

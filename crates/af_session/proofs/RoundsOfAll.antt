@@ -1,11 +1,11 @@
 -- What a journal notes of a round of all parties has its form, and the tally of their run.
-use Rattle.std.proofs.Common.{◌≡◌, ℕ, zero, suc, ◌+◌, ◌-◌, ◌≤◌, ◌<◌, ◌^◌, Bool, true, false, if◌then◌else◌, MatchOption, List, [], ◌∷◌, ◌++◌, length, map, Option, Some, None, refl, sym, ap, subst, ◌∙◌, arith}
+use Rattle.std.proofs.Common.{◌≡◌, ℕ, zero, suc, Bool, true, false, if◌then◌else◌, MatchOption, List, [], ◌∷◌, ◌++◌, length, Some, None, refl, sym, ap, subst, ◌∙◌, arith}
 use Rattle.std.specs.Bool.{MatchBool}
 use Rattle.std.proofs.lemmas.List.{length-map}
 use Rattle.af_base.specs.declared.log.Cycle.{Cycle}
 use Rattle.af_base.specs.declared.state.FastState.{FastState}
 use Rattle.af_base.specs.Log.{Logged}
-use Rattle.af_base.specs.Turn.{Turn, turn_of}
+use Rattle.af_base.specs.Turn.{turn_of}
 use Rattle.af_fast.specs.Mixer.{MixerState}
 use Rattle.af_life.specs.Kept.{Outside}
 use Rattle.af_life.proofs.TurnForms.{turn_form}
@@ -14,10 +14,9 @@ use Rattle.af_model.specs.Cycles.{is_mixed}
 use Rattle.af_model.specs.JournalForm.{IsTurn}
 use Rattle.af_model.specs.Journals.{RoundNoted, RoundsNoted}
 use Rattle.af_normal.specs.LegalTurned.{IsLegal}
-use Rattle.af_normal.specs.State.{NormalState, kept_of, setup_of}
+use Rattle.af_normal.specs.State.{kept_of, setup_of}
 use Rattle.af_script.specs.Data.{ScriptData}
 use Rattle.af_session.specs.Alone.{CyclesOn, CyclesOnce, FastTurned, most_cycles}
-use Rattle.af_session.specs.Met.{EndsMet}
 use Rattle.af_session.specs.NewSession.{IsNewSession}
 use Rattle.af_session.specs.Noted.{HasFrames, NotesFrames}
 use Rattle.af_session.specs.Parties.{PartyState}

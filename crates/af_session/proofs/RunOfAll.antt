@@ -1,15 +1,12 @@
 -- A run of all parties grows by a round at its end, and what it comes to for a session that was made new.
-use Rattle.std.proofs.Common.{◌≡◌, ℕ, List, [], ◌∷◌, ◌++◌, length, true, false, true≢false, refl, sym, ap, subst, ◌∙◌, append-nil, append_assoc}
+use Rattle.std.proofs.Common.{◌≡◌, ℕ, List, [], ◌∷◌, ◌++◌, false, true≢false, refl, sym, ap, subst, ◌∙◌, append-nil, append_assoc}
 use Rattle.af_base.specs.declared.frame.Frame.{Frame}
-use Rattle.af_base.specs.declared.state.FastState.{FastState}
 use Rattle.af_model.specs.Cycles.{has_exit}
-use Rattle.af_model.specs.Draft.{initial}
 use Rattle.af_model.specs.Journals.{RoundNoted}
 use Rattle.af_model.specs.declared.states.MutatorEvent.{MutatorEvent}
 use Rattle.af_fast.specs.Mixer.{MixerState}
-use Rattle.af_life.specs.Edits.{is_exit}
-use Rattle.af_life.specs.Kept.{NormalKept, Setup, new_normal}
-use Rattle.af_normal.specs.State.{NormalState, kept_of}
+use Rattle.af_life.specs.Kept.{Setup, new_normal}
+use Rattle.af_normal.specs.State.{NormalState}
 use Rattle.af_script.specs.Data.{ScriptData}
 use Rattle.af_server.specs.Order.{ServerState}
 use Rattle.af_stateq.specs.Laws.{pushed_states}

@@ -1,14 +1,13 @@
 -- What a run shows at its end, by its journal and by the states pushed.
-use Rattle.std.proofs.Common.{◌≡◌, ℕ, ◌+◌, ◌<◌, ◌≤◌, ◌^◌, All, OnOk, Result, Ok, Err, get_or, if◌then◌else◌, Bool, true, false, List, [], ◌∷◌, ◌++◌, length, map, drop, replicate, take, refl, sym, ap, subst, ◌∙◌, append-nil, arith}
+use Rattle.std.proofs.Common.{◌≡◌, ℕ, ◌<◌, ◌≤◌, ◌^◌, All, OnOk, Result, Ok, Err, get_or, List, [], ◌∷◌, ◌++◌, length, map, drop, replicate, refl, sym, ap, subst, ◌∙◌, append-nil, arith}
 use Rattle.std.specs.List.{range_with_len}
 use Rattle.std.proofs.lemmas.List.{length-replicate}
 use Rattle.std.proofs.lemmas.Option.{slice_get-get_or}
 use Rattle.std.proofs.lemmas.List.FromFn.{fill_by_all}
 use Rattle.af_base.specs.declared.event.ClientCall.{ClientCall}
 use Rattle.af_base.specs.declared.frame.Frame.{Frame}
-use Rattle.af_base.specs.declared.log.CycleEntry.{CycleEntry}
 use Rattle.af_base.specs.declared.state.FastState.{FastState}
-use Rattle.af_base.specs.Log.{Logged, slots}
+use Rattle.af_base.specs.Log.{Logged}
 use Rattle.af_model.specs.declared.states.MutatorEvent.{MutatorEvent}
 use Rattle.af_model.specs.declared.states.ObserverEvent.{ObserverEvent}
 use Rattle.af_model.specs.Cycles.{last_used}
@@ -27,7 +26,7 @@ use Rattle.af_session.specs.NewSession.{IsNewSession}
 use Rattle.af_session.specs.Parties.{PartyState}
 use Rattle.af_session.specs.Ends.{EndsState}
 use Rattle.af_session.specs.Rendered.{Runs}
-use Rattle.af_session.specs.Rounds.{Given, IsReady, IsRound, IsTurnRun, with_ends}
+use Rattle.af_session.specs.Rounds.{Given, IsReady, IsRound, IsTurnRun}
 use Rattle.af_session.specs.Shares.{SharedState}
 use Rattle.af_session.specs.Shown.{HasPlaces, calls_over, released_by, shown_at, shown_by, shown_in, shows, summary_told}
 use Rattle.af_session.specs.declared.summary.Summary.{Summary}

@@ -1,10 +1,8 @@
 -- A round of all parties at once spares the tracks whose clients have not poked.
-use Rattle.std.proofs.Common.{◌≡◌, ℕ, zero, suc, ◌+◌, ◌<◌, Bool, true, false, if◌then◌else◌, MatchBool, List, [], ◌∷◌, ◌++◌, length, map, slice_get, get_or, Option, Some, None, refl, sym, ap, subst, ◌∙◌, arith}
+use Rattle.std.proofs.Common.{◌≡◌, ℕ, zero, suc, ◌+◌, ◌<◌, Bool, true, false, if◌then◌else◌, MatchBool, List, [], ◌∷◌, ◌++◌, length, map, slice_get, get_or, Some, None, refl, sym, ap, subst, ◌∙◌, arith}
 use Rattle.std.specs.Prelude.{slice_index_or}
 use Rattle.std.specs.List.{list_all}
 use Rattle.std.proofs.lemmas.Option.{none-some, same_Some, slice_get-get_or, slice_get_within}
-use Rattle.af_base.specs.declared.event.ClientCall.{ClientCall}
-use Rattle.af_base.specs.declared.frame.Frame.{Frame}
 use Rattle.af_base.specs.Turn.{Turn, turn_of}
 use Rattle.af_journal.specs.ClientTurns.{after_calls}
 use Rattle.af_life.specs.Kept.{Outside}

@@ -1,5 +1,5 @@
 -- A round of all parties at once: each makes its turn, and then all meet.
-use Rattle.std.specs.Prelude.{◌≡◌, ℕ, zero, suc, Bool, slice_index_or, ◌+◌, ◌-◌, ◌<◌, ◌≤◌, ◌^◌, ◌++◌, if◌then◌else◌, MatchBool, false, List, [], ◌∷◌, length, map, Option, Some, None}
+use Rattle.std.specs.Prelude.{◌≡◌, ℕ, zero, suc, Bool, slice_index_or, ◌+◌, ◌-◌, ◌<◌, ◌≤◌, ◌^◌, ◌++◌, if◌then◌else◌, MatchBool, false, List, [], length, map, Option, Some, None}
 use Rattle.std.specs.List.{AllZip}
 use Rattle.af_base.specs.declared.event.ClientCall.{ClientCall}
 use Rattle.af_base.specs.Roomy.{Roomy}

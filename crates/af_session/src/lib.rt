@@ -12,8 +12,6 @@ mod meetings;
 mod noting;
 mod party;
 mod play_of_all;
-#[cfg(test)]
-mod play_tests;
 mod playing;
 mod playing_of_all;
 mod rendering;

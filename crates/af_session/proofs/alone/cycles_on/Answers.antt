@@ -1,7 +1,6 @@
 use Rattle.std.proofs.Common.{◌≡◌, ℕ, ◌++◌, false, true, List, [], length, append-nil, refl, sym, ap, subst, ◌∙◌, arith}
 use Rattle.std.proofs.lemmas.List.{length-append}
 use Rattle.af_base.specs.Roomy.{Roomy}
-use Rattle.af_fast.specs.Mixer.{MixerState}
 use Rattle.af_model.specs.Cycles.{is_mixed}
 use Rattle.af_session.specs.Alone.{CyclesOnce, most_cycles}
 use Rattle.af_session.specs.Sound.{written}

@@ -1,4 +1,4 @@
-use Rattle.std.proofs.Common.{◌≡◌, ◌++◌, Bool, false, List, [], ℕ, sym, subst, ◌∙◌}
+use Rattle.std.proofs.Common.{◌≡◌, Bool, false, List, [], ℕ, sym, subst, ◌∙◌}
 use Rattle.std.specs.Bool.{MatchBool}
 use Rattle.af_fast.specs.Mixer.{MixerState}
 use Rattle.af_session.specs.Alone.{CyclesOn, FastTurned, most_cycles}

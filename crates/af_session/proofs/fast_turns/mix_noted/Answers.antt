@@ -1,4 +1,4 @@
-use Rattle.std.proofs.Common.{◌≤◌, ◌<◌, length, sym, ap, subst, ◌∙◌, arith}
+use Rattle.std.proofs.Common.{◌≤◌, ◌<◌, length, sym, ap, subst, arith}
 use Rattle.af_fast.specs.Mixer.{MixerState}
 use Rattle.af_session.specs.Shown.{Follows}
 use Rattle.af_session.proofs.Following.{follows_added, follows_still}

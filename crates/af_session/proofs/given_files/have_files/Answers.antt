@@ -1,4 +1,4 @@
-use Rattle.std.proofs.Common.{◌≡◌, ◌<◌, ℕ, length, true, false, true≢false, sym, ◌∙◌, arith}
+use Rattle.std.proofs.Common.{◌≡◌, ◌<◌, ℕ, length, true, true≢false, sym, ◌∙◌, arith}
 use Rattle.af_session.specs.Rounds.{Given}
 use Rattle.af_session.proofs.FilesGiven.{files_step, serves_there, served_here}
 use Rattle.af_session.proofs.given_files.have_files.Goals as goal

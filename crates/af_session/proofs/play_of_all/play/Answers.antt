@@ -1,5 +1,4 @@
-use Rattle.std.proofs.Common.{◌≡◌, ◌*◌, ℕ, List, Some, false, true, inl, refl, sym, ap, subst, ◌∙◌, length}
-use Rattle.af_base.specs.Log.{Logged}
+use Rattle.std.proofs.Common.{◌≡◌, ◌*◌, ℕ, List, Some, false, true, inl, refl, sym, ap, subst, ◌∙◌}
 use Rattle.af_base.specs.Roomy.{Roomy}
 use Rattle.af_io.specs.Files.{SetsFile}
 use Rattle.af_model.specs.Journals.{JournalData, RoundsNoted, journal_of}
@@ -7,7 +6,7 @@ use Rattle.af_session.specs.Ends.{EndsState, ends_from}
 use Rattle.af_session.specs.declared.rendering.Played.{Played}
 use Rattle.af_session.specs.PlayedRuns.{HandsBackRun, LeavesRun, all_ended}
 use Rattle.af_session.specs.Spelled.{CallsStandOnce, PushesStandOnce}
-use Rattle.af_session.specs.Sound.{journal_pcm, pcm_of}
+use Rattle.af_session.specs.Sound.{journal_pcm}
 use Rattle.af_session.specs.Together.{SessionState}
 use Rattle.af_session.proofs.JournalSound.{journal_sounds}
 use Rattle.af_session.proofs.NeverOlder.{none_older}

@@ -5,7 +5,7 @@ use Rattle.af_io.specs.Files.{SetsFile, LeavesFront}
 use Rattle.af_base.specs.declared.state.FastState.{FastState}
 use Rattle.af_model.specs.Journals.{RoundNoted, RoundsNoted}
 use Rattle.af_script.specs.declared.track.TrackSpec.{TrackSpec}
-use Rattle.af_session.specs.Hostile.{PokesSpareOthers, SparesSoFar}
+use Rattle.af_session.specs.Hostile.{SparesSoFar}
 use Rattle.af_session.specs.PlayedRuns.{RunsOfAll}
 use Rattle.af_session.specs.Rounds.{Given, IsReady}
 use Rattle.af_session.specs.Shown.{shown_at}

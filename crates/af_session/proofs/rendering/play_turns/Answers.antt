@@ -7,7 +7,7 @@ use Rattle.af_model.specs.Journals.{RoundNoted, RoundsNoted}
 use Rattle.af_script.specs.Form.{IsScript, IsTurn}
 use Rattle.af_script.specs.declared.op.TurnSpec.{TurnSpec}
 use Rattle.af_script.specs.declared.track.TrackSpec.{TrackSpec}
-use Rattle.af_session.specs.Hostile.{PokesSpareOthers, SparesSoFar}
+use Rattle.af_session.specs.Hostile.{SparesSoFar}
 use Rattle.af_session.specs.Rendered.{Runs}
 use Rattle.af_session.specs.Rounds.{Given, IsReady}
 use Rattle.af_session.specs.Shown.{shown_at}

@@ -1,7 +1,6 @@
 use Rattle.std.proofs.Common.{◌≡◌, length, sym, ap, subst, ◌∙◌, arith}
 use Rattle.std.proofs.lemmas.List.{with_items_is}
 use Rattle.af_session.specs.Rounds.{Given, IsReady}
-use Rattle.af_session.specs.Met.{Met}
 use Rattle.af_session.specs.Together.{SessionState}
 use Rattle.af_session.proofs.Ready.{ready_met}
 use Rattle.af_session.proofs.parties.Parties.meet_all.Goals as goal

@@ -1,4 +1,4 @@
-use Rattle.std.proofs.Common.{ℕ, length, map}
+use Rattle.std.proofs.Common.{map}
 use Rattle.af_session.specs.Parties.{PartyState}
 use Rattle.af_session.specs.SideBySide.{with_all_calls}
 use Rattle.af_session.specs.Summaries.{Shown}

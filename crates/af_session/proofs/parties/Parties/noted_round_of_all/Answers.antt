@@ -1,4 +1,4 @@
-use Rattle.std.proofs.Common.{◌≡◌, ◌+◌, ◌++◌, ℕ, List, length, sym, ap, ◌∙◌, arith}
+use Rattle.std.proofs.Common.{◌≡◌, ◌+◌, ◌++◌, ℕ, List, length, ap, ◌∙◌, arith}
 use Rattle.af_base.specs.Log.{Logged}
 use Rattle.af_io.specs.Files.{LeavesFront}
 use Rattle.af_model.specs.Journals.{cycles_of}

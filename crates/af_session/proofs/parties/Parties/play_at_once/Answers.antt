@@ -1,10 +1,8 @@
-use Rattle.std.proofs.Common.{◌≡◌, ◌+◌, ◌*◌, ◌<◌, ◌≤◌, ◌^◌, ◌++◌, ℕ, List, All, length, sym, ap, subst, ◌∙◌, arith}
+use Rattle.std.proofs.Common.{◌≡◌, ◌+◌, ◌*◌, ◌≤◌, ◌++◌, ℕ, length, sym, ap, subst, ◌∙◌, arith}
 use Rattle.std.proofs.lemmas.List.{with_items_is}
-use Rattle.std.specs.Vec.{with_items}
-use Rattle.af_base.specs.Roomy.{Roomy}
 use Rattle.af_session.specs.Rounds.{Given, IsReady}
 use Rattle.af_session.specs.Shown.{HasPlaces}
-use Rattle.af_session.specs.SideBySide.{AllPlayed, CanCycle, CanMixOn, CanTurn, HasNotedOn}
+use Rattle.af_session.specs.SideBySide.{AllPlayed, CanCycle, CanMixOn, HasNotedOn}
 use Rattle.af_session.specs.Sound.{pcm_of}
 use Rattle.af_session.specs.Together.{SessionState}
 use Rattle.af_session.proofs.ReadyOfAll.{all_can, can_cycle, can_mix, few_clients, played_by_all, ready_of_all}

@@ -1,10 +1,9 @@
-use Rattle.std.proofs.Common.{◌≡◌, ◌+◌, ℕ, List, [], true, false, refl, sym, ap, subst, ◌∙◌}
-use Rattle.std.specs.Bool.{MatchBool}
+use Rattle.std.proofs.Common.{[], sym, subst, ◌∙◌}
 use Rattle.af_base.specs.declared.turn.TurnEntry.{TurnEntry}
-use Rattle.af_base.specs.Turn.{Turn, turn_of}
+use Rattle.af_base.specs.Turn.{turn_of}
 use Rattle.af_model.specs.Journals.{RoundNoted}
 use Rattle.af_script.specs.declared.op.TurnSpec.TheVariants as spec
-use Rattle.af_session.specs.Rounds.{Given, IsReady, Turns, NormalTurned, normal_round, round_told, still_round}
+use Rattle.af_session.specs.Rounds.{Given, IsReady, Turns, round_told}
 use Rattle.af_session.specs.Shown.{FollowsRound}
 use Rattle.af_session.specs.Summaries.{Shown, with_turn}
 use Rattle.af_session.specs.Tallies.{IsTally}

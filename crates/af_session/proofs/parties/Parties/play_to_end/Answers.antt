@@ -1,20 +1,20 @@
-use Rattle.std.proofs.Common.{rules, ◌≡◌, ◌+◌, ◌-◌, ◌<◌, ◌≤◌, ◌++◌, ◌∷◌, ℕ, List, [], Some, true, length, refl, sym, ap, subst, ◌∙◌, arith}
+use Rattle.std.proofs.Common.{rules, ◌≡◌, ◌+◌, ◌<◌, ◌++◌, ◌∷◌, ℕ, List, [], Some, length, refl, sym, ap, subst, ◌∙◌, arith}
 use Rattle.std.specs.Prelude.{All}
 use Rattle.std.proofs.lemmas.List.{length-append}
 use Rattle.af_base.specs.Log.{Logged}
 use Rattle.af_base.specs.Sample.{IsFrame}
 use Rattle.af_base.specs.declared.state.FastState.{FastState}
 use Rattle.af_io.specs.Files.{SetsFile, LeavesFront}
-use Rattle.af_model.specs.Journals.{RoundNoted, RoundsNoted}
+use Rattle.af_model.specs.Journals.{RoundsNoted}
 use Rattle.af_session.specs.Hostile.{SparesSoFar}
 use Rattle.af_session.specs.PlayedRuns.{GoesOn, RunsOfAll}
 use Rattle.af_session.specs.Rounds.{Given, IsReady}
 use Rattle.af_session.specs.Shown.{HasPlaces, shown_at}
-use Rattle.af_session.specs.SideBySide.{IsRoundOfAll, all_noted}
+use Rattle.af_session.specs.SideBySide.{all_noted}
 use Rattle.af_session.specs.Sound.{pcm_of}
 use Rattle.af_session.specs.Tallies.{IsTally}
 use Rattle.af_session.specs.Together.{SessionState}
-use Rattle.af_session.proofs.ExitSeen.{Knowing, round_knows}
+use Rattle.af_session.proofs.ExitSeen.{round_knows}
 use Rattle.af_session.proofs.FirstRound.{empty_first}
 use Rattle.af_session.proofs.GoingOn.{few_so_far, goes_further}
 use Rattle.af_session.proofs.JournalSound.{journal_form, journal_whole}

@@ -1,4 +1,4 @@
-use Rattle.std.proofs.Common.{◌≡◌, ◌+◌, ◌<◌, ◌≤◌, ◌++◌, ℕ, Bool, List, length, map, refl, sym, ap, subst, ◌∙◌, arith}
+use Rattle.std.proofs.Common.{◌≡◌, ◌+◌, ◌≤◌, ℕ, Bool, length, map, refl, sym, ap, subst, ◌∙◌, arith}
 use Rattle.af_base.specs.Log.{Logged, slots}
 use Rattle.af_base.specs.Turn.{turn_of}
 use Rattle.af_session.specs.Parties.{PartyState}
