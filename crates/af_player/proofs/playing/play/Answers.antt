@@ -1,4 +1,4 @@
-use Rattle.std.proofs.Common.{◌≡◌, Err, List, Ok, Some, false, rules, subst, true}
+use Rattle.std.proofs.Common.{◌≡◌, Err, List, Ok, Some, ◌∙◌, false, subst, true}
 use Rattle.af_io.specs.Files.{SetsFile}
 use Rattle.af_model.specs.Journals.{JournalData}
 use Rattle.af_session.specs.declared.rendering.SessionFault.{SessionFault}
@@ -9,9 +9,11 @@ use Rattle.af_player.specs.declared.status.Stop.TheVariants.{Limit}
 use Rattle.af_player.specs.Asked.{Loaded, play_job}
 use Rattle.af_player.specs.Ends.{IsCutOff, Makes}
 use Rattle.af_player.specs.Loading.{loaded_view}
+use Rattle.af_player.specs.Requests.{Play}
 use Rattle.af_player.specs.Status.{stop_of}
 use Rattle.af_player.proofs.Played.{Makes-memory}
 use Rattle.af_player.proofs.PlayedRounds.{Makes-cut, Makes-rounds, rounds_behind, some_play_line, text_unwritten}
+use Rattle.af_player.proofs.PlayedFaults.{calm_limit, calm_memory, cut_still, fault_behind, ok_still, stopped, suits_stopped, written_still}
 use Rattle.af_player.proofs.playing.play.Goals as goal
 
 pub returns-in_err-write_journal-in-Ok-clause-made : goal.returns-in_err-write_journal-in-Ok-clause-made
@@ -28,7 +30,7 @@ returns-in_err-write_journal-in-Ok-clause-made g c = λ told.
     (c.in_err-write_journal-in-Ok.ensures.left (c.in-Ok.ensures.tells told)) in
     let cut : Makes (Err (stop_of e)) (Ok (play_job c.args.target.now c.args.journal.now (loaded_view c.args.loaded.now))) old new =
     subst (λ (l : Loaded). Makes (Err (stop_of e)) (Ok (play_job c.args.target.now c.args.journal.now l)) old new) same left in
-    search (rules, cut)
+    stopped (λ x. Makes x (Ok (play_job c.args.target.now c.args.journal.now (loaded_view c.args.loaded.now))) old new) c.from_residual.result e cut c.from_residual.ensures.1
 
 pub returns-in_err-summary_line-in-Ok-clause-made : goal.returns-in_err-summary_line-in-Ok-clause-made
 returns-in_err-summary_line-in-Ok-clause-made g c = λ told.
@@ -78,7 +80,7 @@ returns-in_err-write_journal-in-Err-CycleLimit-clause-made g c = λ told.
     (c.in_err-write_journal-in-Err-CycleLimit.ensures.left (a.ensures.tells told)) in
     let cut : Makes (Err (stop_of e)) (Ok (play_job c.args.target.now c.args.journal.now (loaded_view c.args.loaded.now))) old new =
     subst (λ (l : Loaded). Makes (Err (stop_of e)) (Ok (play_job c.args.target.now c.args.journal.now l)) old new) same left in
-    search (rules, cut)
+    stopped (λ x. Makes x (Ok (play_job c.args.target.now c.args.journal.now (loaded_view c.args.loaded.now))) old new) c.from_residual-in_err-write_journal-in-Err-CycleLimit.result e cut c.from_residual-in_err-write_journal-in-Err-CycleLimit.ensures.1
 
 pub returns-in-Err-CycleLimit-clause-made : goal.returns-in-Err-CycleLimit-clause-made
 returns-in-Err-CycleLimit-clause-made g c = λ told.
@@ -94,3 +96,33 @@ returns-in-Err-CycleLimit-clause-made g c = λ told.
     subst (λ (l : Loaded). Makes (Err (Limit cycles)) (Ok (play_job c.args.target.now c.args.journal.now l)) old new) same
     (Makes-cut here a.cut a.field-0-1 run c.args.target.now c.args.journal.now old mid new sound
     (c.in_ok-write_journal-in-Err-CycleLimit.ensures.written (a.ensures.tells told)) cycles c.cycles-cycles.ensures.value)
+
+pub returns-in_err-write_journal-in-Ok-clause-cause : goal.returns-in_err-write_journal-in-Ok-clause-cause
+returns-in_err-write_journal-in-Ok-clause-cause g c =
+    fault_behind c.from_residual.result c.in_err-write_journal-in-Ok.field-0.0 (g.S.Store.faults c.args.store.now) (g.S.Store.faults c.play.new.store) (g.S.Store.faults c.write_journal.new.store)
+    (ok_still c.in-Ok.played (g.S.Store.faults c.args.store.now) (g.S.Store.faults c.play.new.store) c.in-Ok.ensures.cause) c.in_err-write_journal-in-Ok.ensures.cause c.from_residual.ensures.1
+
+pub returns-in_err-write_journal-in-Ok-clause-words : goal.returns-in_err-write_journal-in-Ok-clause-words
+returns-in_err-write_journal-in-Ok-clause-words g c = λ script. suits_stopped c.from_residual.result c.in_err-write_journal-in-Ok.field-0.0 (Play script c.args.target.now c.args.journal.now) c.from_residual.ensures.1
+
+pub returns-in_err-summary_line-in-Ok-clause-cause : goal.returns-in_err-summary_line-in-Ok-clause-cause
+returns-in_err-summary_line-in-Ok-clause-cause g c =
+    calm_memory c.from_residual-in_err-summary_line-in-Ok.result (g.S.Store.faults c.args.store.now) (g.S.Store.faults c.write_journal.new.store)
+    (written_still c.in_ok-write_journal-in-Ok.field-0 (g.S.Store.faults c.play.new.store) (g.S.Store.faults c.write_journal.new.store) c.in_ok-write_journal-in-Ok.ensures.cause ∙ ok_still c.in-Ok.played (g.S.Store.faults c.args.store.now) (g.S.Store.faults c.play.new.store) c.in-Ok.ensures.cause) c.from_residual-in_err-summary_line-in-Ok.ensures.1
+
+pub returns-in_err-write_journal-in-Err-CycleLimit-clause-cause : goal.returns-in_err-write_journal-in-Err-CycleLimit-clause-cause
+returns-in_err-write_journal-in-Err-CycleLimit-clause-cause g c =
+    fault_behind c.from_residual-in_err-write_journal-in-Err-CycleLimit.result c.in_err-write_journal-in-Err-CycleLimit.field-0.0 (g.S.Store.faults c.args.store.now) (g.S.Store.faults c.play.new.store) (g.S.Store.faults c.write_journal-in-Err-CycleLimit.new.store)
+    (cut_still c.in-Err-CycleLimit.field-0 c.in-Err-CycleLimit.cut c.in-Err-CycleLimit.field-0-1 (g.S.Store.faults c.args.store.now) (g.S.Store.faults c.play.new.store) c.in-Err-CycleLimit.field-0-is c.in-Err-CycleLimit.ensures.cause) c.in_err-write_journal-in-Err-CycleLimit.ensures.cause
+    c.from_residual-in_err-write_journal-in-Err-CycleLimit.ensures.1
+
+pub returns-in_err-write_journal-in-Err-CycleLimit-clause-words : goal.returns-in_err-write_journal-in-Err-CycleLimit-clause-words
+returns-in_err-write_journal-in-Err-CycleLimit-clause-words g c = λ script.
+    suits_stopped c.from_residual-in_err-write_journal-in-Err-CycleLimit.result c.in_err-write_journal-in-Err-CycleLimit.field-0.0 (Play script c.args.target.now c.args.journal.now)
+    c.from_residual-in_err-write_journal-in-Err-CycleLimit.ensures.1
+
+pub returns-in-Err-CycleLimit-clause-cause : goal.returns-in-Err-CycleLimit-clause-cause
+returns-in-Err-CycleLimit-clause-cause g c =
+    calm_limit c.cycles-cycles.result (g.S.Store.faults c.args.store.now) (g.S.Store.faults c.write_journal-in-Err-CycleLimit.new.store)
+    (written_still c.in_ok-write_journal-in-Err-CycleLimit.field-0 (g.S.Store.faults c.play.new.store) (g.S.Store.faults c.write_journal-in-Err-CycleLimit.new.store) c.in_ok-write_journal-in-Err-CycleLimit.ensures.cause
+    ∙ cut_still c.in-Err-CycleLimit.field-0 c.in-Err-CycleLimit.cut c.in-Err-CycleLimit.field-0-1 (g.S.Store.faults c.args.store.now) (g.S.Store.faults c.play.new.store) c.in-Err-CycleLimit.field-0-is c.in-Err-CycleLimit.ensures.cause)
