@@ -1,5 +1,5 @@
 -- One draw after another.
-use Rattle.std.proofs.Common.{◌≡◌, ℕ, zero, suc, ◌+◌, ◌*◌, ◌/◌, ◌%◌, ℤ, List, [], ◌∷◌, ◌++◌, length, refl, sym, ap, ◌∙◌, arith, append_assoc, append-nil, add-one, length-append}
+use Rattle.std.proofs.Common.{◌≡◌, ℕ, zero, suc, ◌+◌, ◌*◌, List, [], ◌++◌, length, refl, sym, ap, ◌∙◌, arith, append_assoc, append-nil, add-one}
 use Rattle.af_base.specs.Sample.{sample_bytes}
 use Rattle.af_player.specs.Generated.{next_draw, drawn, sample_of, drawn_bytes, samples_of, samples_before, generated_file}
 

@@ -1,5 +1,5 @@
 -- The session of the generated script, with the files that were written for it.
-use Rattle.std.proofs.Common.{◌≡◌, ◌≢◌, ◌⊎◌, ℕ, zero, suc, ◌+◌, ◌*◌, ◌/◌, ◌%◌, ◌<◌, ◌≤◌, ◌==◌, nat_le, Bool, true, false, List, [], ◌∷◌, ◌++◌, Option, Some, Result, Ok, Err, length, map, refl, sym, ap, subst, ◌∙◌, inl, inr, arith, String}
+use Rattle.std.proofs.Common.{◌≡◌, ◌≢◌, ◌⊎◌, ℕ, zero, suc, ◌+◌, ◌*◌, ◌/◌, ◌%◌, ◌<◌, ◌≤◌, ◌==◌, nat_le, Bool, true, false, List, [], ◌∷◌, ◌++◌, Some, Result, Ok, Err, length, map, refl, sym, ap, subst, ◌∙◌, inl, inr, arith, String}
 use Rattle.std.specs.List.{range_with_len}
 use Rattle.std.specs.declared.alloc.Global.{Global}
 use Rattle.std.proofs.lemmas.Bool.{le-leb, eqb-true, eq-eqb}
@@ -9,7 +9,6 @@ use Rattle.af_io.specs.Files.{Files, SameFiles}
 use Rattle.af_io.specs.Outputs.{with_files, SetsFiles}
 use Rattle.af_io.specs.Pcm.{frames_from, frame_width}
 use Rattle.af_io.proofs.Fronts.{frames_count}
-use Rattle.af_script.specs.Data.{ScriptData}
 use Rattle.af_script.specs.Generated.{repeated, generated_name, generated_ops, generated_track, generated_tracks, generated_script}
 use Rattle.af_script.specs.declared.op.Op.{Op}
 use Rattle.af_script.specs.declared.op.Op.TheVariants as op
@@ -19,7 +18,7 @@ use Rattle.af_player.specs.declared.status.Refusal.{Refusal}
 use Rattle.af_player.specs.declared.status.Stop.{Stop}
 use Rattle.af_player.specs.declared.status.Stop.TheVariants.{Refused, Limit, Store, Memory}
 use Rattle.af_player.specs.Asked.{◌>>=◌, then_cons, most_file, most_files, track_in, tracks_in, session_of, session_job, generated_job, Loaded, Job}
-use Rattle.af_player.specs.Ends.{IsCutOff, Makes}
+use Rattle.af_player.specs.Ends.{Makes}
 use Rattle.af_player.specs.Generated.{samples_of, samples_before, generated_file, generated_files, generated_frames}
 use Rattle.af_player.specs.Loading.{loaded_view}
 use Rattle.af_player.specs.Requests.{is_drawn}

@@ -1,5 +1,5 @@
 -- A play that was cut off at its limit: both of its files are whole, and its line is printed or not.
-use Rattle.std.proofs.Common.{◌≡◌, ◌≤◌, ℕ, List, Option, Some, Result, Ok, Err, false, ap, arith, inl, inr, length, refl, subst, sym}
+use Rattle.std.proofs.Common.{◌≡◌, ℕ, List, Option, Some, Result, Ok, Err, false, ap, arith, inl, inr, length, refl, subst, sym}
 use Rattle.std.proofs.lemmas.List.{take_all}
 use Rattle.af_io.specs.Files.{Files, SetsFile, LeavesFront}
 use Rattle.af_io.specs.Outputs.{with_files}
@@ -8,7 +8,7 @@ use Rattle.af_player.specs.declared.status.Status.TheVariants as status
 use Rattle.af_player.specs.declared.status.Stop.{Stop}
 use Rattle.af_player.specs.declared.status.Stop.TheVariants.{Limit}
 use Rattle.af_player.specs.Asked.{Job, Work, Exact, Session, Rounds}
-use Rattle.af_player.specs.Ends.{AsksPlay, EndsAsAsked, IsCutOff, IsLimited, IsOver, LeavesWork, LimitsWork, Printed, Prints, PrintsFront, PrintsSomeLine, Renders, limit_of, work_limit}
+use Rattle.af_player.specs.Ends.{AsksPlay, EndsAsAsked, IsCutOff, IsLimited, IsOver, LeavesWork, LimitsWork, Printed, Prints, PrintsFront, PrintsSomeLine, Renders, work_limit}
 use Rattle.af_player.specs.Line.{limit_text}
 use Rattle.af_player.specs.Requests.{Request}
 

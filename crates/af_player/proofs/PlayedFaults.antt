@@ -1,7 +1,7 @@
 -- How a play is told that the outside stopped it behind its session.
-use Rattle.std.proofs.Common.{◌≡◌, ℕ, ◌<◌, ◌≤◌, Ok, Err, Result, String, IsErrAnd, IsErrOf, arith, refl, sym, ap, subst, ◌∙◌}
+use Rattle.std.proofs.Common.{◌≡◌, ℕ, ◌<◌, ◌≤◌, Ok, Err, Result, String, IsErrAnd, IsErrOf, arith, refl, sym, subst}
 use Rattle.std.specs.declared.alloc.Global.{Global}
-use Rattle.af_io.specs.Causes.{HasCause, Rose}
+use Rattle.af_io.specs.Causes.{HasCause}
 use Rattle.af_io.specs.declared.store.StoreError.{StoreError}
 use Rattle.af_io.specs.declared.store.StoreError.TheVariants as outside
 use Rattle.af_model.specs.Journals.{JournalData}

@@ -1,6 +1,5 @@
 -- What the rounds of all parties come to, with the frames of the tracks' files: the sound, the text of the journal and the line; and what a play leaves where it stops.
-use Rattle.std.specs.Prelude.{◌≡◌, ◌⊎◌, ℕ, Bool, true, false, List, [], ◌∷◌, ◌++◌, codes}
-use Rattle.std.specs.Fmt.{decimal}
+use Rattle.std.specs.Prelude.{◌≡◌, ◌⊎◌, ℕ, Bool, true, false, List, [], ◌∷◌}
 use Rattle.af_base.specs.declared.frame.Frame.{Frame}
 use Rattle.af_io.specs.Files.{Files, LeavesFront}
 use Rattle.af_io.specs.Outputs.{SetsFiles, with_file}

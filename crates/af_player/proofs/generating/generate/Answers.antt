@@ -1,7 +1,6 @@
-use Rattle.std.proofs.Common.{◌≡◌, ◌∙◌, Err, Ok, Result, ap, subst, sym, rules}
+use Rattle.std.proofs.Common.{◌≡◌, ◌∙◌, Err, Ok, ap, subst, sym, rules}
 use Rattle.af_script.specs.Data.{ScriptData}
 use Rattle.af_script.specs.Generated.{generated_script}
-use Rattle.af_player.specs.declared.status.Refusal.{Refusal}
 use Rattle.af_player.specs.Asked.{Loaded, session_of}
 use Rattle.af_player.specs.Loading.{loaded_view}
 use Rattle.af_player.specs.Status.{Meets}

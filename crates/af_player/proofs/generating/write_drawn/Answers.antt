@@ -1,8 +1,8 @@
 use Rattle.std.proofs.Common.{◌≡◌, ◌∙◌, ◌≤◌, ◌<◌, ℕ, List, Some, sym, ap, subst, arith, rules}
 use Rattle.af_io.specs.Files.{SetsFile, LeavesFront}
-use Rattle.af_io.specs.Outputs.{NamedFile, with_files, LeavesFronts}
+use Rattle.af_io.specs.Outputs.{NamedFile, with_files}
 use Rattle.af_script.specs.Generated.{generated_name}
-use Rattle.af_player.specs.Generated.{drawn_files, generated_file}
+use Rattle.af_player.specs.Generated.{generated_file}
 use Rattle.af_player.proofs.Draws.{drawn_none, file_is, state_is}
 use Rattle.af_player.proofs.Generated.{count_stays, drawn_before, drawn_files-none, drawn_more, drawn_up_to}
 use Rattle.af_player.proofs.generating.write_drawn.Goals as goal

@@ -1,4 +1,4 @@
-use Rattle.std.proofs.Common.{◌≡◌, Some, subst, rules}
+use Rattle.std.proofs.Common.{Some, subst, rules}
 use Rattle.af_io.specs.Files.{SetsFile, LeavesFront}
 use Rattle.af_script.specs.Data.{ScriptData}
 use Rattle.af_script.specs.Printing.{printed_script}

@@ -1,4 +1,4 @@
-use Rattle.std.proofs.Common.{◌≡◌, Err, List, Ok, Some, ◌∙◌, false, subst, true}
+use Rattle.std.proofs.Common.{◌≡◌, Err, Ok, Some, ◌∙◌, false, subst, true}
 use Rattle.af_io.specs.Files.{SetsFile}
 use Rattle.af_model.specs.Journals.{JournalData}
 use Rattle.af_session.specs.declared.rendering.SessionFault.{SessionFault}

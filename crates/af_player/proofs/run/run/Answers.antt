@@ -1,4 +1,4 @@
-use Rattle.std.proofs.Common.{◌≡◌, ◌∙◌, ℕ, List, ◌++◌, Err, ap, inr, map, string_bytes, subst, take}
+use Rattle.std.proofs.Common.{◌∙◌, ℕ, List, ◌++◌, Err, ap, inr, map, string_bytes, subst, take}
 use Rattle.af_io.specs.Files.{Appends}
 use Rattle.af_io.specs.declared.store.StoreError.{StoreError}
 use Rattle.af_player.specs.Asked.{asked_of}
