@@ -1,4 +1,6 @@
 //! Random scripts of both versions, printed and read again.
+ghost use Rattle.std.specs.Prelude.{◌≤◌};
+
 use af_script::{Op, Script, TrackSpec, print, read};
 use std::alloc::Global;
 use std::process::Abort;
@@ -15,7 +17,9 @@ struct Source {
 
 impl Source {
     /// The next number below a bound.
-    fn draw(&mut self, bound: u32) -> u32 {
+    fn draw(&mut self, bound: u32) -> u32
+        ensures { result ≤ bound }
+    {
         self.seed = self
             .seed
             .wrapping_mul(1_664_525)
@@ -142,11 +146,11 @@ fn is_same(one: &Script, other: &Script) -> bool {
 
 /// How many pokes a script has.
 fn pokes_in(script: &Script) -> usize {
-    let mut pokes = 0;
+    let mut pokes: usize = 0;
     for track in script.tracks() {
         for op in track.ops.as_slice() {
             if let Op::Poke { .. } = op {
-                pokes += 1;
+                pokes = pokes.saturating_add(1);
             }
         }
     }
@@ -158,7 +162,7 @@ fn pokes_in(script: &Script) -> usize {
 fn random_scripts_printed(rt: HostRuntime) -> Result<(), Fail> {
     let alloc = rt.alloc();
     let mut source = Source { seed: 2026 };
-    let mut pokes = 0;
+    let mut pokes: usize = 0;
     for number in 0..300 {
         let text = source.script(alloc)?;
         let script = read(alloc, text.as_bytes()).ok().ok_or("not read")?;
@@ -166,7 +170,7 @@ fn random_scripts_printed(rt: HostRuntime) -> Result<(), Fail> {
         print(alloc, &script, &mut bytes).ok().ok_or("not printed")?;
         let again = read(alloc, bytes.as_slice()).ok().ok_or("not read again")?;
         assert!(rt; is_same(&script, &again), "script {number}");
-        pokes += pokes_in(&again);
+        pokes = pokes.saturating_add(pokes_in(&again));
     }
     assert!(rt; pokes > 100);
     Ok(())
