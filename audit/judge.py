@@ -56,18 +56,18 @@ def judge_rounds(script, files, rounds):
 
 
 def judge(script, files, pcm, journal, as_verify=False):
-    """The status and the line."""
+    """The status, the line, and the run where the text has a reading."""
     try:
         rounds = text.read(journal, len(script.tracks))
     except text.BadLine as bad:
-        return REFUSED, f"refused: line {bad.number}"
+        return REFUSED, f"refused: line {bad.number}", None
     verdict = judge_rounds(script, files, rounds)
     if verdict.fault and (as_verify or not verdict.cut):
-        return REFUSED, "refused: round {} party {}".format(*verdict.fault)
+        return REFUSED, "refused: round {} party {}".format(*verdict.fault), verdict.run
     other = first_difference(verdict.run.pcm(), pcm)
     if other is not None:
-        return REFUSED, f"refused: pcm {other}"
-    return (CUT, "cut") if verdict.cut else (LEGAL, "legal")
+        return REFUSED, f"refused: pcm {other}", verdict.run
+    return (CUT, "cut", verdict.run) if verdict.cut else (LEGAL, "legal", verdict.run)
 
 
 def work(words):
@@ -83,7 +83,7 @@ def work(words):
         journal = model.load(names[2], MOST_TEXT, "journal")
     except model.Refused as refused:
         return refused.status, refused.line
-    return judge(script, files, pcm, journal, as_verify)
+    return judge(script, files, pcm, journal, as_verify)[:2]
 
 
 def main():
