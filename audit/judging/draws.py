@@ -16,9 +16,13 @@ def some_ops(draw, frames):
     ops = ["open", "start"]
     for _ in range(draw.randint(0, 12)):
         ops += draw.choice((
-            [write(3 * frames)], [write(9)], [f"gain {draw.randint(0, 5000)} {draw.randint(0, 65535)}"], ["yield"] * draw.choice((1, 1, 2, draw.randint(1, 60))),
+            [write(3 * frames)], [write(9)], [f"gain {draw.randint(0, 5000)} {draw.randint(0, 65535)}"], ["yield"] * draw.choice((1, 1, 2, draw.randint(1, 9))),
             ["pause", "yield", "start"], ["pause", "flush", "start"], ["pause", "write 1", "flush", "start"], ["stop", "start"], ["stop", "drain", "start"],
             ["stop", "flush", "start"], ["pause", "yield", "yield", "flush", "write 1", "start"]))
+    if draw.random() < 0.1:      # silence until the track is disabled, and a write that finds it so
+        ops += ["yield"] * draw.randint(49, 60) + [write(9)] * 2
+    if draw.random() < 0.1:      # more than one turn has calls for
+        ops += [f"gain {draw.randint(0, 4096)} 0" for _ in range(draw.randint(58, 70))] + ["yield"] * draw.randint(0, 2) + [write(5)]
     return ops + draw.choice((["stop", "drain"], ["stop", "drain", "remove"], [], ["stop"]))
 
 
@@ -33,7 +37,7 @@ def some_play(draw):
             asked = sum(int(op.split()[1]) for op in track["ops"] if op.startswith("write"))
             files[track["file"]] = draw.randbytes(asked * 2 * track["channels"])
     data["turns"] = []
-    data["cycles"] = draw.choice((draw.randint(1, 60), 400, 1500))
+    data["cycles"] = draw.choice((draw.randint(1, 60), 400, 1500, 3000))
     return data, files
 
 
