@@ -3,7 +3,8 @@ import struct
 
 from .blocks import Block, shape_of
 from .clients import Client
-from .mixers import Fast, Normal, Track, word_of
+from .fast import Fast
+from .normal import Normal, Track, word_of
 from .shared import Pipe, Queue
 from .text import MIXED
 
