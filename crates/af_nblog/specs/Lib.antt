@@ -1,3 +1,4 @@
 pub mod Notes
 pub mod NoteFronts
 pub mod NoteEnds
+pub mod LogText
