@@ -18,10 +18,10 @@ use Rattle.af_nblog.specs.NoteFronts.{takes_note, read_in, SeesRead}
 pub both_take : (xs ys : List ServerEvent) → list_all takes_note xs ≡ true → list_all takes_note ys ≡ true → list_all takes_note (xs ++ ys) ≡ true
 both_take xs ys a b = list_all-append takes_note xs ys ∙ ap (λ (t : Bool). t && list_all takes_note ys) a ∙ b
 
-is_eight : (count : ℕ) → takes_note (server.Take count) ≡ true → count ≡ 8
+pub is_eight : (count : ℕ) → takes_note (server.Take count) ≡ true → count ≡ 8
 is_eight count is = eqb-true count 8 is
 
-read_in-append : (xs ys : List ServerEvent) → read_in (xs ++ ys) ≡ read_in xs + read_in ys
+pub read_in-append : (xs ys : List ServerEvent) → read_in (xs ++ ys) ≡ read_in xs + read_in ys
 read_in-append [] ys = let e : read_in ys ≡ 0 + read_in ys = omega arith in e
 read_in-append (server.Take count ∷ xs) ys = let e = read_in-append xs ys in omega arith
 read_in-append (server.SawGain word ∷ xs) ys = read_in-append xs ys

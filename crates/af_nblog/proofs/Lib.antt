@@ -3,3 +3,7 @@ mod Releases
 pub mod Noting
 pub mod Fronts
 pub mod NotesRead
+pub mod Rears
+pub mod Turns
+pub mod Rounds
+pub mod Refusals

@@ -4,11 +4,13 @@
 mod ends;
 mod entries;
 mod reading;
+mod text;
 mod words;
 mod writing;
 
 pub use ends::{NoteReader, NoteWriter, meet_notes, ring};
 pub use entries::{Note, note_of};
+pub use text::write;
 pub use writing::Noted;
 
 #[cfg(test)]

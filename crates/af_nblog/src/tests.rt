@@ -1,8 +1,8 @@
-//! A log with room for two notes, both ends on one thread.
+//! A log with room for two notes, both ends on one thread, the note of an entry, and the texts of logs.
 ghost use Rattle.std.specs.Prelude.{◌≡◌, ◌<◌, false};
 ghost use Rattle.af_model.specs.JournalForm.{is_spent};
 
-use crate::{Note, Noted, meet_notes, note_of, ring};
+use crate::{Note, Noted, meet_notes, note_of, ring, write};
 use af_base::{Cycle, CycleEntry, Memory, SLOTS, Seen, SlotEntry, Steps};
 use std::alloc::Global;
 use std::marker::Brand;
@@ -96,4 +96,58 @@ fn a_note_counts_the_slots_but_the_first(rt: HostRuntime) {
         empties: 1,
     };
     assert!(rt; note_of(9, &entry, 4) == want);
+}
+
+const NOTES: [Note; 2] = [
+    Note {
+        place: 0,
+        state: 0,
+        kind: 1,
+        fulls: 0,
+        partials: 0,
+        empties: 0,
+    },
+    Note {
+        place: 18446744073709551615,
+        state: 7,
+        kind: 3,
+        fulls: 31,
+        partials: 4294967295,
+        empties: 5,
+    },
+];
+
+// How many of the notes were accepted, how many refused, and the text.
+const TEXTS: [(usize, u64, &str); 3] = [
+    (0, 0, "refused 0\n"),
+    (
+        1,
+        18446744073709551615,
+        "0 0 1 0 0 0\nrefused 18446744073709551615\n",
+    ),
+    (
+        2,
+        10,
+        "0 0 1 0 0 0\n18446744073709551615 7 3 31 4294967295 5\nrefused 10\n",
+    ),
+];
+
+// Each text stands behind what was there before.
+fn texts_are_written(alloc: Global) -> Result<bool, Memory> {
+    for (count, refused, text) in TEXTS {
+        let mut out = Vec::new(alloc);
+        out.extend_from_slice(b"before\n")?;
+        write(alloc, &NOTES[..count.min(2)], refused, &mut out)?;
+        let want = format!(in alloc; "before\n{text}")?;
+        if out.as_slice() != want.as_str().as_bytes() {
+            return Ok(false);
+        }
+    }
+    Ok(true)
+}
+
+#[test]
+fn a_log_has_its_text(rt: HostRuntime) {
+    let written = texts_are_written(rt.alloc());
+    assert!(rt; written == Ok(true));
 }

@@ -5,6 +5,7 @@ use Rattle.af_nblog.specs.Notes.{notes_in}
 use Rattle.af_nblog.proofs.Spelling.{none_spelled}
 use Rattle.af_nblog.proofs.Noting.{new_noting}
 use Rattle.af_nblog.proofs.NotesRead.{new_reading}
+use Rattle.af_nblog.proofs.Rounds.{new_between}
 use Rattle.af_nblog.proofs.ends.ring.Goals as goal
 
 pub invariant_of-writer : goal.invariant_of-writer
@@ -24,3 +25,8 @@ returns-clause-empty c =
       refl,
       ap (λ (s : ServerPart). notes_in s.frames) made.ensures.takes.0 ∙ none_spelled,
     )
+
+pub returns-clause-between : goal.returns-clause-between
+returns-clause-between c =
+    let made = c.in_ok-block in
+    new_between c.args.room made.puts.pass made.takes.pass 0 made.block.shape made.ensures.puts.0 made.ensures.takes.0
