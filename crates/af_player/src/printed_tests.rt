@@ -108,7 +108,7 @@ impl Source {
             "version = {version}\nframes = {}\nnormal = {}\ncycles = {}\nturns = [{}]\n",
             1 + self.draw(1024),
             1 + self.draw(16),
-            1000 + self.draw(9000),
+            1000 + self.draw(1000),
             self.turns(alloc, tracks)?
         )?;
         for number in 0..tracks {
