@@ -15,8 +15,10 @@ use Rattle.af_model.specs.Journals.{EntrySeen, RoundSeen, entries_of, frames_of,
 use Rattle.af_model.specs.JournalForm.{AreEntries, IsEntry, IsMixed}
 use Rattle.af_journal.specs.Lines.{Written, numbers}
 use Rattle.af_journal.specs.declared.line.Line.TheVariants as line
-use Rattle.af_journal.specs.Texts.{entry_lines, fast_lines, is_shown, slot_lines, slots_lines, words_after}
-use Rattle.af_journal.specs.Logged.{LieWithin, logged_entry, logged_fast, logged_slot, logged_slots}
+use Rattle.af_journal.specs.Texts.{entry_lines, fast_lines, slot_lines, slots_lines, words_after}
+use Rattle.af_runs.specs.Fronts.{is_shown}
+use Rattle.af_journal.specs.Logged.{logged_entry, logged_fast, logged_slot, logged_slots}
+use Rattle.af_runs.specs.Pcm.{LieWithin}
 use Rattle.af_journal.proofs.Texts.{range-more}
 
 -- ## What a round's entries are

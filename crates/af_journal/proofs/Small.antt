@@ -1,16 +1,15 @@
 -- The form of a small journal: two tracks, two rounds, one idle cycle.
-use Rattle.std.proofs.Common.{◌≡◌, List, [], ◌∷◌, All, None, Some, refl, sym, true≢false}
+use Rattle.std.proofs.Common.{List, [], ◌∷◌, None, Some, refl, sym, true≢false}
 use Rattle.std.proofs.lemmas.List.Elements.{All-nil, All-cons}
 use mathlib.Core.Logic.{inl}
 use Rattle.af_base.specs.declared.event.ClientCall.{ClientCall}
 use Rattle.af_base.specs.declared.log.Cycle.TheVariants.{Idle}
-use Rattle.af_base.specs.declared.log.CycleEntry.{CycleEntry}
 use Rattle.af_base.specs.Log.{Logged}
 use Rattle.af_base.specs.Sample.{IsFrame}
 use Rattle.af_base.specs.Turn.{ended_turn}
 use Rattle.af_model.specs.Cycles.{still_entry}
-use Rattle.af_model.specs.Journals.{EntrySeen, RoundNoted, RoundsNoted, RoundSeen, JournalData, journal_of, taken_by}
-use Rattle.af_model.specs.JournalForm.{IsEntry, IsJournal, IsRound}
+use Rattle.af_model.specs.Journals.{RoundsNoted, RoundSeen, journal_of, taken_by}
+use Rattle.af_model.specs.JournalForm.{IsJournal, IsRound}
 
 abbrev pub two_rounds : List ClientCall → RoundsNoted
 two_rounds calls = record { tracks = 2; rounds = record { calls = calls ∷ [] ∷ []; turn = None; cycles = 0 } ∷ record { calls = [] ∷ [] ∷ []; turn = Some ended_turn; cycles = 1 } ∷ [] }

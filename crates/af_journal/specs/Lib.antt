@@ -1,6 +1,10 @@
-pub mod Clients
-pub mod ClientTurns
-pub mod Kept
 pub mod Lines
 pub mod Texts
 pub mod Logged
+pub mod Digits
+pub mod Ranges
+pub mod LineReading
+pub mod Stages
+pub mod Readings
+pub mod Mixes
+pub mod Taken

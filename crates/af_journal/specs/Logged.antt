@@ -1,15 +1,16 @@
 -- The lines of entries as their log has them: each slot names the place of its frames in the log.
-use Rattle.std.specs.Prelude.{ℕ, ◌+◌, ◌<◌, ◌≤◌, ◌≡◌, ◌==◌, true, if◌then◌else◌, List, [], ◌∷◌, map, flat_map, length, slice_index_or}
+use Rattle.std.specs.Prelude.{ℕ, ◌==◌, if◌then◌else◌, List, [], ◌∷◌, map, flat_map, slice_index_or}
 use Rattle.std.specs.Int.{bit_at}
 use Rattle.std.specs.List.{range_with_len}
 use Rattle.af_base.specs.declared.frame.Frame.{Frame}
 use Rattle.af_base.specs.declared.log.CycleEntry.{CycleEntry}
-use Rattle.af_base.specs.Log.{count_seen, entry_slot, frames_taken, kind_of, slots}
+use Rattle.af_base.specs.Log.{entry_slot, frames_taken, kind_of, slots}
 use Rattle.af_base.specs.Sample.{packed_word}
 use Rattle.af_model.specs.Cycles.{is_mixed}
 use Rattle.af_journal.specs.declared.line.Line.TheVariants as line
 use Rattle.af_journal.specs.Lines.{Written, numbers}
-use Rattle.af_journal.specs.Texts.{is_shown, words_after}
+use Rattle.af_journal.specs.Texts.{words_after}
+use Rattle.af_runs.specs.Fronts.{is_shown}
 
 -- a slot that shows something
 abbrev pub logged_shown : List Frame → CycleEntry → ℕ → List Written
@@ -33,7 +34,3 @@ logged_entry frames entry = numbers (line.Entry entry.state (kind_of entry.cycle
 abbrev pub logged_fast : List Frame → List CycleEntry → List Written
 logged_fast frames [] = []
 logged_fast frames (entry ∷ entries) = numbers line.Fast ∷ flat_map (logged_entry frames) (entry ∷ entries)
-
--- the frames that each slot of a mix names lie in the log
-abbrev pub LieWithin : List Frame → CycleEntry → Type 0
-LieWithin frames entry = is_mixed entry.cycle ≡ true → (i : ℕ) → i < slots → (entry_slot entry i).first + count_seen (entry_slot entry i).seen ≤ length frames

@@ -1,17 +1,16 @@
 -- The lines of a journal, and its text.
-use Rattle.std.specs.Prelude.{◌≡◌, ℕ, ◌+◌, ◌==◌, Bool, true, false, if◌then◌else◌, List, [], ◌∷◌, ◌++◌, map, flat_map, Option, Some, None, slice_index_or}
+use Rattle.std.specs.Prelude.{◌≡◌, ℕ, ◌+◌, ◌==◌, Bool, if◌then◌else◌, List, [], ◌∷◌, ◌++◌, map, flat_map, Option, Some, None, slice_index_or}
 use Rattle.std.specs.Int.{bit_at}
 use Rattle.std.specs.List.{range_with_len}
 use Rattle.af_base.specs.declared.event.ClientCall.{ClientCall}
 use Rattle.af_base.specs.declared.turn.CommandLook.{CommandLook}
-use Rattle.af_base.specs.declared.seen.Seen.{Seen}
-use Rattle.af_base.specs.declared.seen.Seen.TheVariants.{Absent}
 use Rattle.af_base.specs.Log.{count_seen, entry_slot, kind_of, slots}
 use Rattle.af_base.specs.Sample.{packed_word}
 use Rattle.af_model.specs.Cycles.{is_mixed}
 use Rattle.af_journal.specs.declared.line.Line.TheVariants as line
 use Rattle.af_model.specs.Journals.{EntrySeen, JournalData, RoundSeen, slot_frames}
 use Rattle.af_base.specs.Turn.{TakeSeen, TrackSeen, Turn}
+use Rattle.af_runs.specs.Fronts.{is_shown}
 use Rattle.af_journal.specs.Lines.{Written, numbers, words, spelled, with_lf}
 
 -- ## The lines of a journal
@@ -65,11 +64,6 @@ abbrev pub turn_lines : Turn → List Written
 turn_lines e =
     if e.ended then numbers line.Ended ∷ []
     else numbers (line.Turn e.room e.ack e.cycle) ∷ each_from track_lines 0 e.tracks ++ numbers (line.Pushed e.push) ∷ flat_map take_lines e.mixes
-
--- a slot shows something
-abbrev pub is_shown : Seen → Bool
-is_shown Absent = false
-is_shown _ = true
 
 -- a slot of the mask, with the frames taken
 abbrev pub slot_lines : EntrySeen → ℕ → List Written

@@ -1,6 +1,6 @@
 //! A client from its first op to its last, and one whose block is dead.
-use crate::{Client, ClientCommand, Want};
 use af_base::ClientCall;
+use af_runs::{Client, ClientCommand, Want};
 use af_script::Op;
 use std::test::Fail;
 

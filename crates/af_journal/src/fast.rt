@@ -2,8 +2,10 @@
 ghost use Rattle.std.specs.Prelude.{◌≡◌, ◌+◌, ◌<◌, ◌≤◌, true, take, drop, flat_map, length, string_bytes, IfOk, All};
 ghost use Rattle.af_base.specs.Log.{count_seen, entry_slot, slots};
 ghost use Rattle.af_model.specs.Cycles.{is_mixed};
-ghost use Rattle.af_journal.specs.Texts.{GoesOn, is_shown};
-ghost use Rattle.af_journal.specs.Logged.{LieWithin, logged_entry, logged_fast, logged_shown, logged_slot, logged_slots};
+ghost use Rattle.af_journal.specs.Texts.{GoesOn};
+ghost use Rattle.af_runs.specs.Fronts.{is_shown};
+ghost use Rattle.af_journal.specs.Logged.{logged_entry, logged_fast, logged_shown, logged_slot, logged_slots};
+ghost use Rattle.af_runs.specs.Pcm.{LieWithin};
 
 use crate::line::Line;
 use crate::turn::{add, add_frames};

@@ -1,19 +1,29 @@
-//! Runs as anyone can audit them: what a client does by its ops, and the text of a journal.
+//! The text of a journal.
 #![tactic(auto)]
 
-mod client;
+mod building;
+mod digits;
 mod fast;
+mod fast_reading;
+mod left;
 mod line;
+mod line_reading;
+mod reading;
+mod stage;
 mod turn;
-mod want;
+mod turn_reading;
 mod writing;
 
-pub use client::Client;
+pub use building::{JournalFault, read};
 pub use line::Line;
-pub use want::{ClientCommand, Due, Mode, Want};
+pub use reading::first_bad_line;
 pub use writing::write;
 
 #[cfg(test)]
+mod building_tests;
+#[cfg(test)]
 mod client_tests;
+#[cfg(test)]
+mod reading_tests;
 #[cfg(test)]
 mod tests;

@@ -2,7 +2,7 @@
 use Rattle.std.proofs.Common.{◌≡◌, List, [], ◌∷◌, ◌++◌, Result, Ok, Err, refl, ap, sym, append_assoc}
 use Rattle.af_player.specs.declared.status.Refusal.{Refusal}
 use Rattle.af_player.specs.declared.status.Stop.{Stop}
-use Rattle.af_player.specs.declared.status.Stop.TheVariants.{Refused, Limit, Store, Memory}
+use Rattle.af_player.specs.declared.status.Stop.TheVariants.{Refused, Over, Store, Memory}
 use Rattle.af_player.specs.Asked.{◌>>=◌, then_cons}
 use Rattle.af_player.specs.Status.{Meets}
 
@@ -22,6 +22,6 @@ behind-none (Err refusal) = refl
 -- a step that stopped, and what would have followed
 pub Meets-stopped : {X Y Z W : Type 0} (view : X → Y) (other : W → Z) (e : Stop) (told : Result Y Refusal) (next : Y → Result Z Refusal) → Meets view (Err e) told → Meets other (Err e) (told >>= next)
 Meets-stopped {X} {Y} view other (Refused refusal) told next is = ap (λ (r : Result Y Refusal). r >>= next) is
-Meets-stopped view other (Limit cycles) told next is = absurd is
+Meets-stopped view other (Over over) told next is = absurd is
 Meets-stopped view other Store told next is = tt
 Meets-stopped view other Memory told next is = tt

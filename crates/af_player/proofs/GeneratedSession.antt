@@ -16,7 +16,8 @@ use Rattle.af_script.specs.declared.track.TrackSpec.{TrackSpec}
 use Rattle.af_session.specs.Works.{frames_to_come}
 use Rattle.af_player.specs.declared.status.Refusal.{Refusal}
 use Rattle.af_player.specs.declared.status.Stop.{Stop}
-use Rattle.af_player.specs.declared.status.Stop.TheVariants.{Refused, Limit, Store, Memory}
+use Rattle.af_player.specs.declared.status.Stop.TheVariants.{Refused, Over, Store, Memory}
+use Rattle.af_player.specs.declared.status.Ending.TheVariants.{Limit, Judged}
 use Rattle.af_player.specs.Asked.{◌>>=◌, then_cons, most_file, most_files, track_in, tracks_in, session_of, session_job, generated_job, Loaded, Job}
 use Rattle.af_player.specs.Ends.{Makes}
 use Rattle.af_player.specs.Generated.{samples_of, samples_before, generated_file, generated_files, generated_frames}
@@ -129,7 +130,7 @@ module _ (old : Files) (number : ℕ) (script target : List ℕ) (free : is_draw
   -- the files were made, and the work stopped where they were read again
   pub Makes-unloaded : (e : Stop) (new : Files) → Meets loaded_view (Err e) (session_of mid generated_script) → SameFiles mid new → Makes (Err e) (Ok (generated_job number script target)) old new
   Makes-unloaded (Refused refusal) new told same = let clash : ◌≡◌ {A = Result Loaded Refusal} (Ok loaded) (Err refusal) = sym told_here ∙ told in cc
-  Makes-unloaded (Limit cycles) new told same = absurd told
+  Makes-unloaded (Over over) new told same = absurd told
   Makes-unloaded Store new told same = inl (inr (inl (λ name. same name ∙ written name)))
   Makes-unloaded Memory new told same = inl (inr (inl (λ name. same name ∙ written name)))
 
@@ -137,7 +138,8 @@ module _ (old : Files) (number : ℕ) (script target : List ℕ) (free : is_draw
   behind : (r : Result (String Global) Stop) (new : Files) → Makes r (Ok (session_job target loaded)) whole new → Makes r (Ok (generated_job number script target)) old new
   behind (Ok line) new made = made
   behind (Err (Refused refusal)) new made = let clash : ◌≡◌ {A = Result Job Refusal} (Ok (session_job target loaded)) (Err refusal) = made.0 in cc
-  behind (Err (Limit cycles)) new made = absurd made
+  behind (Err (Over (Limit cycles))) new made = absurd made
+  behind (Err (Over (Judged refusal))) new made = absurd made
   behind (Err Store) new (inl (inl same)) = inl (inr (inl same))
   behind (Err Store) new (inl (inr left)) = inl (inr left)
   behind (Err Store) new (inr made) = inr made

@@ -11,7 +11,7 @@ use Rattle.af_session.specs.declared.rendering.SessionFault.TheVariants as sessi
 use Rattle.af_player.specs.declared.deliver.Output.{Output}
 use Rattle.af_player.specs.declared.status.Refusal.{Refusal}
 use Rattle.af_player.specs.declared.status.Stop.{Stop}
-use Rattle.af_player.specs.declared.status.Stop.TheVariants.{Refused, Limit, Store, Memory}
+use Rattle.af_player.specs.declared.status.Stop.TheVariants.{Refused, Over, Store, Memory}
 use Rattle.af_player.specs.Asked.{◌>>=◌, Job}
 use Rattle.af_player.specs.Asking.{output_job}
 use Rattle.af_player.specs.Ends.{LeavesWork, IsOver, IsCutOff, Makes, Renders, PrintsFront, PrintsWhole, PrintsCut}
@@ -30,14 +30,14 @@ IsCutOff-same (Err refusal) old new same = same
 -- nothing was done
 pub Makes-stopped : {X : Type 0} (view : X → Job) (e : Stop) (asked : Result Job Refusal) (old new : Files) → Meets view (Err e) asked → SameFiles old new → Makes (Err e) asked old new
 Makes-stopped view (Refused refusal) asked old new told same = (told, same)
-Makes-stopped view (Limit cycles) asked old new told same = absurd told
+Makes-stopped view (Over over) asked old new told same = absurd told
 Makes-stopped view Store asked old new told same = IsCutOff-same asked old new same
 Makes-stopped view Memory asked old new told same = IsCutOff-same asked old new same
 
 -- the same where more would have followed
 pub Makes-stopped_before : {X Y : Type 0} (view : X → Y) (e : Stop) (told : Result Y Refusal) (next : Y → Result Job Refusal) (old new : Files) → Meets view (Err e) told → SameFiles old new → Makes (Err e) (told >>= next) old new
 Makes-stopped_before {X} {Y} view (Refused refusal) told next old new is same = (ap (λ (r : Result Y Refusal). r >>= next) is, same)
-Makes-stopped_before view (Limit cycles) told next old new is same = absurd is
+Makes-stopped_before view (Over over) told next old new is same = absurd is
 Makes-stopped_before view Store told next old new is same = IsCutOff-same (told >>= next) old new same
 Makes-stopped_before view Memory told next old new is same = IsCutOff-same (told >>= next) old new same
 

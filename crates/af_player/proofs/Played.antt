@@ -7,7 +7,7 @@ use Rattle.af_session.specs.declared.summary.Summary.{Summary}
 use Rattle.af_session.specs.Ends.{EndsState}
 use Rattle.af_session.specs.Rendered.{HandsBack}
 use Rattle.af_session.specs.Shown.{summary_told}
-use Rattle.af_session.specs.Sound.{journal_pcm}
+use Rattle.af_runs.specs.Pcm.{journal_pcm}
 use Rattle.af_player.specs.declared.status.Refusal.{Refusal}
 use Rattle.af_player.specs.declared.status.Stop.{Stop}
 use Rattle.af_player.specs.declared.status.Stop.TheVariants.{Memory}

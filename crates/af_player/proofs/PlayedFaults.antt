@@ -10,7 +10,9 @@ use Rattle.af_session.specs.declared.rendering.SessionFault.{SessionFault}
 use Rattle.af_session.specs.declared.rendering.SessionFault.TheVariants as session
 use Rattle.af_session.specs.Rendered.{HasStoreCause}
 use Rattle.af_player.specs.declared.status.Stop.{Stop}
-use Rattle.af_player.specs.declared.status.Stop.TheVariants.{Limit, Store, Memory}
+use Rattle.af_player.specs.declared.status.Stop.TheVariants.{Over, Store, Memory}
+use Rattle.af_player.specs.declared.status.Ending.{Ending}
+use Rattle.af_player.specs.declared.status.Ending.TheVariants.{Limit}
 use Rattle.af_player.specs.Requests.{Request}
 use Rattle.af_player.specs.Status.{HasFault, SuitsRequest, stop_of}
 
@@ -63,8 +65,8 @@ written_still {T} x before now cause = same_count before now cause.later (λ lt.
 no_store : IsErrOf {T = String Global} {E = Stop} (Err Memory) Store → ⊥
 no_store h = let e : ⊥ = cc in e
 
-no_limit : (cycles : ℕ) → IsErrOf {T = String Global} {E = Stop} (Err (Limit cycles)) Store → ⊥
-no_limit cycles h = let e : ⊥ = cc in e
+no_over : (ending : Ending) → IsErrOf {T = String Global} {E = Stop} (Err (Over ending)) Store → ⊥
+no_over ending h = let e : ⊥ = cc in e
 
 no_failed : {T : Type 0} → IsErrOf {T = T} {E = StoreError} (Err outside.Memory) outside.Failed → ⊥
 no_failed {T} h = let e : ⊥ = cc in e
@@ -84,5 +86,5 @@ calm s before now other same = record { later = omega (arith, same); fault = (λ
 pub calm_memory : (r : Result (String Global) Stop) (before now : ℕ) → now ≡ before → IsErrAnd r (λ s. s ≡ Memory) → HasFault before now r
 calm_memory r before now same is = stopped (HasFault before now) r outside.Memory (calm Memory before now no_store same) is
 
-pub calm_limit : (cycles before now : ℕ) → now ≡ before → HasFault {X = String Global} before now (Err (Limit cycles))
-calm_limit cycles before now same = calm (Limit cycles) before now (no_limit cycles) same
+pub calm_limit : (cycles before now : ℕ) → now ≡ before → HasFault {X = String Global} before now (Err (Over (Limit cycles)))
+calm_limit cycles before now same = calm (Over (Limit cycles)) before now (no_over (Limit cycles)) same

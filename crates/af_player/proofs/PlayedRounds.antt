@@ -9,9 +9,10 @@ use Rattle.af_session.specs.declared.summary.Summary.{Summary}
 use Rattle.af_session.specs.Ends.{EndsState}
 use Rattle.af_session.specs.PlayedRuns.{HandsBackRun}
 use Rattle.af_session.specs.Shown.{summary_told}
-use Rattle.af_session.specs.Sound.{journal_pcm}
+use Rattle.af_runs.specs.Pcm.{journal_pcm}
 use Rattle.af_io.specs.declared.store.StoreError.{StoreError}
-use Rattle.af_player.specs.declared.status.Stop.TheVariants.{Limit}
+use Rattle.af_player.specs.declared.status.Stop.TheVariants.{Over}
+use Rattle.af_player.specs.declared.status.Ending.TheVariants.{Limit}
 use Rattle.af_player.specs.Asked.{Loaded, play_job}
 use Rattle.af_player.specs.Ends.{IsCutOff, Makes}
 use Rattle.af_player.specs.Line.{limit_text}
@@ -73,6 +74,6 @@ module _ (l : Loaded) (journal : JournalData) (ends : EndsState) (back : HandsBa
 
 pub Makes-cut : (l : Loaded) (journal : JournalData) (ends : EndsState) → HandsBackRun false l.script l.files journal ends → (target name : List ℕ) (old mid new : Files)
     → SetsFile old target (Some (journal_pcm l.script.frames journal)) mid → SetsFile mid name (Some (text_of journal)) new
-    → (cycles : ℕ) → cycles ≡ l.script.cycles → Makes (Err (Limit cycles)) (Ok (play_job target name l)) old new
+    → (cycles : ℕ) → cycles ≡ l.script.cycles → Makes (Err (Over (Limit cycles))) (Ok (play_job target name l)) old new
 Makes-cut l journal ends back target name old mid new set text cycles is =
     (is, played false l journal ends back target name old mid set (limit_text cycles) new (ap limit_text is) text)

@@ -18,7 +18,7 @@ use Rattle.af_player.specs.declared.status.Role.TheVariants as role
 use Rattle.af_player.specs.declared.status.Why.TheVariants.{Missing, Long, Ragged, Short, Total}
 use Rattle.af_player.specs.declared.request.Sizes.{Sizes}
 use Rattle.af_player.specs.declared.request.Turns.{Turns}
-use Rattle.af_player.specs.Requests.{Request, Render, Record, Loop, Generate, Play, request_of}
+use Rattle.af_player.specs.Requests.{Request, Render, Record, Loop, Generate, Play, Verify, request_of}
 use Rattle.af_player.specs.Recorded.{heard, recorded, counts_of}
 use Rattle.af_player.specs.Looped.{most_buffer, looped, rolls_of}
 use Rattle.af_player.specs.Generated.{generated_files, generated_frames}
@@ -34,11 +34,12 @@ Err refusal >>= next = Err refusal
 abbrev pub then_cons : {X : Type 0} → X → Result (List X) Refusal → Result (List X) Refusal
 then_cons x rest = rest >>= (λ xs. Ok (x ∷ xs))
 
--- what is to be made: these bytes and this line, or what the turns of a script come to with the frames of its tracks' files, or what its parties come to in rounds, with the journal in a file of this name
+-- what is to be made: these bytes and this line, or what the turns of a script come to with the frames of its tracks' files, or what its parties come to in rounds, with the journal in a file of this name; or a sound and the text of its journal are judged by a script and the frames of its tracks' files, and nothing is made
 pub data Work : Type 0 where
   Exact : List ℕ → List ℕ → Work
   Session : ScriptData → List (List Frame) → Work
   Rounds : ScriptData → List (List Frame) → List ℕ → Work
+  Judge : ScriptData → List (List Frame) → List ℕ → List ℕ → Work
 
 -- the files that are made first, the output's name, and what is to be made
 pub record Job : Type 0 where
@@ -57,6 +58,10 @@ most_file = 2 ^ 23
 
 abbrev pub most_files : ℕ
 most_files = 2 ^ 24
+
+-- the limit of a journal
+abbrev pub most_journal : ℕ
+most_journal = 2 ^ 30
 
 -- a file of at most so many bytes
 abbrev pub loaded : Role → ℕ → Option (List ℕ) → Result (List ℕ) Refusal
@@ -116,6 +121,16 @@ session_job target l = record { first = []; target = target; work = Session l.sc
 abbrev pub play_job : List ℕ → List ℕ → Loaded → Job
 play_job target journal l = record { first = []; target = target; work = Rounds l.script l.files journal }
 
+-- a sound and the text of its journal, with the script and the files that they are judged by
+pub record Case : Type 0 where
+  pub loaded : Loaded
+  pub pcm : List ℕ
+  pub text : List ℕ
+
+-- they are judged
+abbrev pub verify_job : List ℕ → Case → Job
+verify_job sound c = record { first = []; target = sound; work = Judge c.loaded.script c.loaded.files c.pcm c.text }
+
 -- ## Recordings and loops
 
 -- the frames of a file that is recorded
@@ -159,6 +174,15 @@ render_asked files script target = loaded_of files script >>= (λ l. Ok (session
 abbrev pub play_asked : Files → List ℕ → List ℕ → List ℕ → Result Job Refusal
 play_asked files script target journal = loaded_of files script >>= (λ l. Ok (play_job target journal l))
 
+-- what is judged: a sound and a journal in files of these names, behind the script and its tracks' files
+abbrev pub case_of : Files → List ℕ → List ℕ → List ℕ → Result Case Refusal
+case_of files script sound journal =
+    loaded_of files script >>= (λ l. loaded role.Pcm most_file (files sound) >>= (λ pcm. loaded role.Journal most_journal (files journal) >>= (λ text.
+    Ok (record { loaded = l; pcm = pcm; text = text }))))
+
+abbrev pub verify_asked : Files → List ℕ → List ℕ → List ℕ → Result Job Refusal
+verify_asked files script sound journal = case_of files script sound journal >>= (λ c. Ok (verify_job sound c))
+
 -- what is made of a file that is recorded
 abbrev pub record_asked : Files → List ℕ → List ℕ → Sizes → Result Job Refusal
 record_asked files input target sizes = recorded_from files input >>= (λ frames. Ok (record_job target sizes frames))
@@ -174,6 +198,7 @@ job_of files (Record input target sizes) = record_asked files input target sizes
 job_of files (Loop input target turns) = loop_asked files input target turns
 job_of files (Generate number script target) = Ok (generated_job number script target)
 job_of files (Play script target journal) = play_asked files script target journal
+job_of files (Verify script sound journal) = verify_asked files script sound journal
 
 -- what the words ask for
 abbrev pub asked_of : Files → List (List ℕ) → Result Job Refusal

@@ -14,6 +14,7 @@ request_view (words.Record input target sizes) = asked.Record input.now target.n
 request_view (words.Loop input target turns) = asked.Loop input.now target.now turns
 request_view (words.Generate number script target) = asked.Generate number script.now target.now
 request_view (words.Play script target journal) = asked.Play script.now target.now journal.now
+request_view (words.Verify script sound journal) = asked.Verify script.now sound.now journal.now
 
 -- what is made, for an output of this name
 abbrev pub output_job : List ℕ → Output → Job
@@ -26,3 +27,4 @@ IsSound (words.Record input target sizes) = AreSizes sizes
 IsSound (words.Loop input target turns) = AreTurns turns
 IsSound (words.Generate number script target) = (number < 2 ^ 31) × (asked.is_drawn script.now ≡ false)
 IsSound (words.Play script target journal) = Unit {0}
+IsSound (words.Verify script sound journal) = Unit {0}

@@ -9,7 +9,7 @@ use Rattle.af_script.specs.Data.{ScriptData}
 use Rattle.af_session.specs.PlayedRuns.{HandsBackRun, LeavesRun}
 use Rattle.af_session.specs.Ends.{EndsState}
 use Rattle.af_session.specs.Shown.{summary_told}
-use Rattle.af_session.specs.Sound.{journal_pcm}
+use Rattle.af_runs.specs.Pcm.{journal_pcm}
 use Rattle.af_player.specs.Line.{limit_text}
 use Rattle.af_player.specs.Sessions.{summary_line}
 

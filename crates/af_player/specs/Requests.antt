@@ -8,13 +8,14 @@ use Rattle.af_player.specs.declared.request.Sizes.{Sizes}
 use Rattle.af_player.specs.declared.request.Turns.{Turns}
 use Rattle.af_player.specs.Dash.{begins_dash}
 
--- a script and an output to render it to; a file to record, an output, and the sizes of the recording; a file to loop, an output, and the turns of the loop; the number of a session, a file for its script, and an output; a script, an output to play it to, and a file for its journal
+-- a script and an output to render it to; a file to record, an output, and the sizes of the recording; a file to loop, an output, and the turns of the loop; the number of a session, a file for its script, and an output; a script, an output to play it to, and a file for its journal; a script, and the files of a sound and of a journal to be judged
 pub data Request : Type 0 where
   Render : List ℕ → List ℕ → Request
   Record : List ℕ → List ℕ → Sizes → Request
   Loop : List ℕ → List ℕ → Turns → Request
   Generate : ℕ → List ℕ → List ℕ → Request
   Play : List ℕ → List ℕ → List ℕ → Request
+  Verify : List ℕ → List ℕ → List ℕ → Request
 
 -- two names of files that differ
 abbrev pub two_names : List ℕ → List ℕ → Option (List ℕ × List ℕ)
@@ -75,6 +76,11 @@ abbrev pub play_request : List (List ℕ) → Option Request
 play_request (script ∷ target ∷ journal ∷ []) = if are_three_names script target journal then Some (Play script target journal) else None
 play_request words = None
 
+-- `verify SCRIPT OUT JOURNAL`
+abbrev pub verify_request : List (List ℕ) → Option Request
+verify_request (script ∷ sound ∷ journal ∷ []) = if are_three_names script sound journal then Some (Verify script sound journal) else None
+verify_request words = None
+
 -- the command and its words
 abbrev pub command_request : List (List ℕ) → Option Request
 command_request [] = None
@@ -84,6 +90,7 @@ command_request (command ∷ words) =
     else if bytes_eq command (codes "loop") then loop_request words
     else if bytes_eq command (codes "generate") then generate_request words
     else if bytes_eq command (codes "play") then play_request words
+    else if bytes_eq command (codes "verify") then verify_request words
     else None
 
 -- the request of words none of which begins with `-`

@@ -13,7 +13,7 @@ ghost use Rattle.af_player.specs.Status.{HasFault, SuitsRequest};
 use crate::deliver::write_file;
 use crate::load::{Loaded, load_script};
 use crate::render::summary_line;
-use crate::status::Stop;
+use crate::status::{Ending, Stop};
 use af_base::Memory;
 use af_io::{Gate, Store, StoreError};
 use af_model::Journal;
@@ -77,7 +77,7 @@ fn play<R: Threads + Sync, S: Store, G: Gate>(
         Err(SessionFault::CycleLimit { journal: cut, .. }) => {
             write_journal(alloc, store, journal, &cut)?;
             let cycles = loaded.script.cycles();
-            Err(Stop::Limit { cycles })
+            Err(Stop::Over(Ending::Limit { cycles }))
         }
         Err(SessionFault::Store) => Err(Stop::Store),
         Err(SessionFault::Memory) => Err(Stop::Memory),

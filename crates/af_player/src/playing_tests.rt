@@ -8,7 +8,7 @@ use std::test::Fail;
 use std::thread::Threads;
 
 /// One track that plays two frames to their end, with more cycles than it can take.
-const WHOLE: &str =
+pub(crate) const WHOLE: &str =
     "version = 1\nframes = 2\nnormal = 1\ncycles = 2000\n[[track]]\nkind = \"fast\"\nframes = 8\nchannels = 2\nfile = \"in.pcm\"\nops = [\"open\", \"start\", \"write 2\", \"stop\", \"drain\", \"remove\"]\n";
 
 /// One cycle, in which nothing can be mixed and not all parties can end.

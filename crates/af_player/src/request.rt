@@ -50,4 +50,10 @@ pub enum Request<'a> {
         target: &'a str,
         journal: &'a str,
     },
+    /// A script, the sound and the journal that are judged by it.
+    Verify {
+        script: &'a str,
+        sound: &'a str,
+        journal: &'a str,
+    },
 }

@@ -8,7 +8,7 @@ ghost use Rattle.af_player.specs.Captured.{AreSizes};
 ghost use Rattle.af_player.specs.Dash.{begins_dash};
 ghost use Rattle.af_player.specs.Looped.{AreTurns};
 ghost use Rattle.af_player.specs.Requests.{is_drawn, are_three_names, free_names, number_of, request_of, sizes_of, turns_of, two_names};
-ghost use Rattle.af_player.specs.Words.{needed, with_rules, bare_words, render_words, record_words, loop_words, generate_words, play_words, player_words, render_met, record_met, loop_met, generate_met, play_met, matched_request};
+ghost use Rattle.af_player.specs.Words.{needed, with_rules, bare_words, render_words, record_words, loop_words, generate_words, play_words, verify_words, player_words, render_met, record_met, loop_met, generate_met, play_met, verify_met, matched_request};
 
 use crate::request::{Request, Sizes, Turns};
 use af_script::{GENERATED_TRACKS, generated_name, is_name, number_within};
@@ -110,6 +110,16 @@ fn play_command<'a>(alloc: Global) -> Result<Command<'a>, AllocError>
     with_needed(alloc, command, "journal")
 }
 
+/// The subcommand `verify SCRIPT OUT JOURNAL`.
+fn verify_command<'a>(alloc: Global) -> Result<Command<'a>, AllocError>
+    ensures shape { IfOk result (λ command. shape_of command ≡ verify_words) }
+    ensures local { IfOk result (λ command. (out-Command command).has_globals ≡ false) }
+{
+    let command = with_needed(alloc, Command::new(alloc, "verify"), "script")?;
+    let command = with_needed(alloc, command, "out")?;
+    with_needed(alloc, command, "journal")
+}
+
 /// The command before its subcommands, without help.
 fn bare_command<'a>(alloc: Global) -> Command<'a>
     ensures { app_of result ≡ bare_words }
@@ -137,7 +147,8 @@ fn player_command<'a>(alloc: Global) -> Result<Command<'a>, AllocError>
     let command = with_sub(command, record_command(alloc)?)?;
     let command = with_sub(command, loop_command(alloc)?)?;
     let command = with_sub(command, generate_command(alloc)?)?;
-    with_sub(command, play_command(alloc)?)
+    let command = with_sub(command, play_command(alloc)?)?;
+    with_sub(command, verify_command(alloc)?)
 }
 
 /// Two names of files that differ.
@@ -328,6 +339,25 @@ fn play_met<'a>(matches: &ArgMatches<'a>) -> Option<Request<'a>>
     }
 }
 
+/// The request among the matches of `verify`.
+fn verify_met<'a>(matches: &ArgMatches<'a>) -> Option<Request<'a>>
+    ensures value { option_map request_view result ≡ verify_met (rows_of (found_of matches.now)) }
+    ensures sound { IfSome result IsSound }
+{
+    let script = value_of(matches, "script")?;
+    let sound = value_of(matches, "out")?;
+    let journal = value_of(matches, "journal")?;
+    if are_three_names(script, sound, journal) {
+        Some(Request::Verify {
+            script,
+            sound,
+            journal,
+        })
+    } else {
+        None
+    }
+}
+
 /// The request among the matches of a subcommand.
 fn matched_request<'a>(matches: &ArgMatches<'a>) -> Option<Request<'a>>
     ensures value { option_map request_view result ≡ matched_request (subcommand_rows_of matches.now) }
@@ -344,6 +374,8 @@ fn matched_request<'a>(matches: &ArgMatches<'a>) -> Option<Request<'a>>
         generate_met(inner)
     } else if name == "play" {
         play_met(inner)
+    } else if name == "verify" {
+        verify_met(inner)
     } else {
         None
     }

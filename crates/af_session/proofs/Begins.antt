@@ -22,8 +22,9 @@ use Rattle.af_normal.specs.State.{NormalState, setup_of, kept_of}
 use Rattle.af_script.specs.Data.{ScriptData}
 use Rattle.af_script.specs.Form.{IsTrack}
 use Rattle.af_script.specs.declared.track.TrackSpec.{TrackSpec}
-use Rattle.af_session.specs.NewSession.{EndStates, AreNewEnds, IsNewSession, ends_of, script_setup, tracks_of}
-use Rattle.af_session.specs.NewTracks.{AreNewTracks, spec_setting}
+use Rattle.af_session.specs.NewSession.{EndStates, AreNewEnds, IsNewSession, ends_of, tracks_of}
+use Rattle.af_session.specs.NewTracks.{AreNewTracks}
+use Rattle.af_runs.specs.Sessions.{script_setup, spec_setting}
 use Rattle.af_session.specs.Parties.{PartyState}
 use Rattle.af_session.specs.Shares.{SharedState, AreLinksOf}
 use Rattle.af_session.specs.Together.{SessionState, AreTogether}

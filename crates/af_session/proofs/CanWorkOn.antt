@@ -8,10 +8,10 @@ use Rattle.af_cblk.specs.Shape.{most_flushes}
 use Rattle.af_normal.specs.Meeting.{client_knows}
 use Rattle.af_server.specs.Order.{ServerState}
 use Rattle.af_script.specs.declared.op.Op.{Op}
-use Rattle.af_journal.specs.declared.want.Want.{Want}
-use Rattle.af_journal.specs.declared.want.Want.TheVariants as want
-use Rattle.af_journal.specs.Clients.{Client, asked_first, new_client, next_want, rest_of}
-use Rattle.af_journal.specs.Kept.{client_of}
+use Rattle.af_runs.specs.declared.want.Want.{Want}
+use Rattle.af_runs.specs.declared.want.Want.TheVariants as want
+use Rattle.af_runs.specs.Clients.{Client, asked_first, new_client, next_want, rest_of}
+use Rattle.af_runs.specs.Kept.{client_of}
 use Rattle.af_session.specs.Asking.{CanMake, CanSend}
 use Rattle.af_session.specs.Parties.{PartyState}
 use Rattle.af_session.specs.Works.{CanWork, IsFitting, IsFittingOp, flushes_due, flushes_to_come, frames_due, frames_to_come}

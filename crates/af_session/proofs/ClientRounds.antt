@@ -3,7 +3,7 @@ use Rattle.std.proofs.Common.{◌≡◌, ℕ, ◌+◌, ◌<◌, ◌≤◌, ◌^�
 use Rattle.std.proofs.lemmas.List.{get_or_default}
 use Rattle.std.proofs.lemmas.Option.{slice_get_read}
 use Rattle.af_base.specs.declared.frame.Frame.{Frame}
-use Rattle.af_journal.specs.ClientTurns.{LegalClientTurn, after_calls}
+use Rattle.af_runs.specs.ClientTurns.{LegalClientTurn, after_calls}
 use Rattle.af_link.specs.declared.links.Links.{Links}
 use Rattle.af_model.specs.Journals.{RoundNoted}
 use Rattle.af_normal.specs.Meeting.{AreClientsOf}

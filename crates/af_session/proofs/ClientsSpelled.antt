@@ -4,7 +4,7 @@ use Rattle.af_base.specs.declared.event.ClientCall.{ClientCall}
 use Rattle.af_base.specs.declared.event.ClientCall.TheVariants as call
 use Rattle.af_base.specs.declared.event.ClientEvent.{ClientEvent}
 use Rattle.af_base.specs.declared.event.ClientEvent.TheVariants as client
-use Rattle.af_journal.specs.ClientTurns.{Side, Track, after_call, after_calls, called, is_of_commands, released_by}
+use Rattle.af_runs.specs.ClientTurns.{Side, Track, after_call, after_calls, called, is_of_commands, released_by}
 use Rattle.af_model.specs.ClientCalls.{ClientKept, client_begins, client_call_events, client_kept}
 use Rattle.af_model.specs.Spelled.{Kind, stream, commands, is_on, ClientStep, met_server, client_spells, client_step_events}
 use Rattle.af_model.specs.Spelled as step

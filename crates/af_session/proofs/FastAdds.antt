@@ -13,13 +13,13 @@ use Rattle.af_base.specs.Log.{slots, Logged, count_seen, entry_slot, takes_of}
 use Rattle.af_base.specs.Mix.{mix}
 use Rattle.af_base.specs.Roomy.{Roomy}
 use Rattle.af_base.specs.Sample.{pcm_bytes}
-use Rattle.af_journal.specs.Logged.{LieWithin}
+use Rattle.af_runs.specs.Pcm.{LieWithin, entries_pcm, entry_pcm, written}
 use Rattle.af_model.specs.Cycles.{cold_done, cycle_of, is_mixed, state_of, taken_before}
 use Rattle.af_fast.specs.Mixer.{MixerState, adopted_states, is_over}
 use Rattle.af_fast.specs.Mixing.{AddsCycle, Adopts, MixesOnce, Writes}
 use Rattle.af_session.specs.FastTurns.{IsCycle, IsFastTurn, TurnAdds, Turned, WritesCycle}
 use Rattle.af_session.specs.Met.{Met}
-use Rattle.af_session.specs.Sound.{Grows, IsMixed, IsWhole, entry_pcm, entries_pcm, pcm_of, written}
+use Rattle.af_session.specs.Sound.{Grows, IsMixed, IsWhole, pcm_of}
 use Rattle.af_session.specs.Together.{SessionState}
 use Rattle.af_session.proofs.Sounding.{log_grows, grows_not, grows_on, same_if}
 

@@ -9,7 +9,7 @@ use Rattle.af_base.specs.Roomy.{Roomy}
 use Rattle.af_base.specs.Sample.{frame_bytes, pcm_bytes}
 use Rattle.af_model.specs.Cycles.{is_mixed}
 use Rattle.af_session.specs.FastTurns.{IsFastTurn, WritesCycle}
-use Rattle.af_session.specs.Sound.{written}
+use Rattle.af_runs.specs.Pcm.{written}
 use Rattle.af_session.specs.Together.{SessionState}
 
 -- After i cycles that wrote `front` the parties are `now`: what the other cycles do from there on completes the turn

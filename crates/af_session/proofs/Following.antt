@@ -11,7 +11,7 @@ use Rattle.af_base.specs.declared.state.FastState.{FastState}
 use Rattle.af_base.specs.Log.{slots, entry_at, no_entry, takes_of}
 use Rattle.af_base.specs.Mix.{Take, mix}
 use Rattle.af_base.specs.Turn.{Turn}
-use Rattle.af_journal.specs.Logged.{LieWithin}
+use Rattle.af_runs.specs.Pcm.{LieWithin}
 use Rattle.af_model.specs.declared.plain_calls.Poll.{Poll}
 use Rattle.af_model.specs.declared.plain_calls.Poll.TheVariants.{Nothing, Same, New}
 use Rattle.af_model.specs.declared.states.ObserverEvent.{ObserverEvent}

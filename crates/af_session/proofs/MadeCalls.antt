@@ -8,9 +8,9 @@ use Rattle.af_base.specs.declared.frame.Frame.{Frame}
 use Rattle.af_base.specs.Sample.{packed_word}
 use Rattle.af_cblk.specs.Sides.{Made}
 use Rattle.af_client.specs.Order.{ClientState, IsClientOf}
-use Rattle.af_journal.specs.declared.want.Want.{Want}
-use Rattle.af_journal.specs.Clients.{Client}
-use Rattle.af_journal.specs.ClientTurns.{AnswersOn, IsWanted, Side, Track, asked_by, called, is_of_commands, is_write, released_by, with_call}
+use Rattle.af_runs.specs.declared.want.Want.{Want}
+use Rattle.af_runs.specs.Clients.{Client}
+use Rattle.af_runs.specs.ClientTurns.{AnswersOn, IsWanted, Side, Track, asked_by, called, is_of_commands, is_write, released_by, with_call}
 use Rattle.af_session.specs.Asking.{Asked, HasBlocks, Makes, flushed_by, grown_by, track_with, written_by}
 use Rattle.af_session.specs.Parties.{PartyState, side_of_proxy}
 use Rattle.af_session.specs.Turning.{IsMadeBy}

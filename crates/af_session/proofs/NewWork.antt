@@ -11,16 +11,17 @@ use Rattle.af_cblk.specs.declared.view.ClientPart.{ClientPart}
 use Rattle.af_cblk.proofs.Flushes.{most-many}
 use Rattle.af_cblk.proofs.Sized.{wrapped_by}
 use Rattle.af_model.specs.declared.shape.Shape.{Shape}
-use Rattle.af_journal.specs.Clients.{Client, new_client as new_wants}
-use Rattle.af_journal.specs.ClientTurns.{Side}
-use Rattle.af_journal.specs.Kept.{client_of}
-use Rattle.af_journal.specs.declared.want.Want.{Want}
+use Rattle.af_runs.specs.Clients.{Client, new_client as new_wants}
+use Rattle.af_runs.specs.ClientTurns.{Side, new_side}
+use Rattle.af_runs.specs.Kept.{client_of}
+use Rattle.af_runs.specs.declared.want.Want.{Want}
 use Rattle.af_script.specs.Form.{HasOpNumbers, IsTrack}
 use Rattle.af_script.specs.Ops.{cells_of}
 use Rattle.af_script.specs.declared.op.Op.{Op}
 use Rattle.af_script.specs.declared.op.Op.TheVariants as op
 use Rattle.af_script.specs.declared.track.TrackSpec.{TrackSpec}
-use Rattle.af_session.specs.NewTracks.{IsNewClient, IsNewParty, stream_shape, command_shape, new_side, first_track}
+use Rattle.af_session.specs.NewTracks.{IsNewClient, IsNewParty, first_track}
+use Rattle.af_runs.specs.Sessions.{stream_shape, command_shape}
 use Rattle.af_session.specs.Parties.{PartyState, side_of_proxy, track_of}
 use Rattle.af_session.specs.Works.{CanWork, IsFitting, IsFittingOp, frames_due, frames_to_come, flushes_due, flushes_to_come}
 

@@ -9,8 +9,8 @@ use Rattle.af_model.specs.ClientCalls.{ClientAnswers, ClientKept, client_call_ev
 use Rattle.af_model.specs.History.{is_lawful}
 use Rattle.af_model.specs.Point.{wrapped}
 use Rattle.af_client.proofs.Kept.{IsPoke, kept-more, lawful_call}
-use Rattle.af_journal.specs.ClientTurns.{AnswersOn, AreCalls, IsMade, LegalClientTurn, Side, Track, after_call, after_calls, asked_by, called, is_of_commands, most_calls, released_by, with_call}
-use Rattle.af_journal.specs.declared.want.Want.{Want}
+use Rattle.af_runs.specs.ClientTurns.{AnswersOn, AreCalls, IsMade, LegalClientTurn, Side, Track, after_call, after_calls, asked_by, called, is_of_commands, most_calls, released_by, with_call}
+use Rattle.af_runs.specs.declared.want.Want.{Want}
 use Rattle.af_session.specs.Hostile.{is_corrupt, none_corrupt}
 use Rattle.af_session.specs.Summaries.{has_no_poke, is_poke}
 

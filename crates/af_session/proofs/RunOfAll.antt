@@ -10,7 +10,8 @@ use Rattle.af_normal.specs.State.{NormalState}
 use Rattle.af_script.specs.Data.{ScriptData}
 use Rattle.af_server.specs.Order.{ServerState}
 use Rattle.af_stateq.specs.Laws.{pushed_states}
-use Rattle.af_session.specs.NewSession.{IsNewSession, script_setup}
+use Rattle.af_session.specs.NewSession.{IsNewSession}
+use Rattle.af_runs.specs.Sessions.{script_setup}
 use Rattle.af_session.specs.PlayedRuns.{GoesOn, IsRunOfAll, Plays, RunsOfAll}
 use Rattle.af_session.specs.Rounds.{Given}
 use Rattle.af_session.specs.Shares.{SharedState}

@@ -5,7 +5,7 @@ use Rattle.af_model.specs.declared.shape.Shape.{Shape}
 use Rattle.af_script.specs.Ops.{cells_of}
 use Rattle.af_script.specs.declared.track.TrackSpec.{TrackSpec}
 use Rattle.af_script.proofs.Cells.{cells_of-next}
-use Rattle.af_session.specs.NewTracks.{stream_shape, command_shape}
+use Rattle.af_runs.specs.Sessions.{stream_shape, command_shape}
 
 -- sizes that are the same one by one
 same_shape : (k l : Shape) → k.frames ≡ l.frames → k.cells ≡ l.cells → k.base ≡ l.base → k.wrap ≡ l.wrap → k ≡ l

@@ -11,10 +11,10 @@ use Rattle.af_base.specs.declared.log.CycleEntry.{CycleEntry}
 use Rattle.af_base.specs.Log.{slots, Logged, entry_slot, slot_take, takes_of}
 use Rattle.af_base.specs.Mix.{Take, mix}
 use Rattle.af_base.specs.Sample.{pcm_bytes}
-use Rattle.af_journal.specs.Logged.{LieWithin}
+use Rattle.af_runs.specs.Pcm.{LieWithin, entries_pcm, entry_pcm}
 use Rattle.af_model.specs.Cycles.{is_mixed}
 use Rattle.af_model.proofs.EntrySlots.{taken_stay}
-use Rattle.af_session.specs.Sound.{entry_pcm, entries_pcm, pcm_of, IsWhole, Grows}
+use Rattle.af_session.specs.Sound.{pcm_of, IsWhole, Grows}
 
 -- two functions that agree below n give one list
 pub map_same : {X : Type 0} (f g : ℕ → X) (n : ℕ) (d : X) → ((i : ℕ) → i < n → f i ≡ g i) → map f (range_with_len 0 n) ≡ map g (range_with_len 0 n)

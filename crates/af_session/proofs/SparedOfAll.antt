@@ -4,7 +4,7 @@ use Rattle.std.specs.Prelude.{slice_index_or}
 use Rattle.std.specs.List.{list_all}
 use Rattle.std.proofs.lemmas.Option.{none-some, same_Some, slice_get-get_or, slice_get_within}
 use Rattle.af_base.specs.Turn.{Turn, turn_of}
-use Rattle.af_journal.specs.ClientTurns.{after_calls}
+use Rattle.af_runs.specs.ClientTurns.{after_calls}
 use Rattle.af_life.specs.Kept.{Outside}
 use Rattle.af_link.specs.declared.links.Links.{Links}
 use Rattle.af_model.proofs.Logic.{both_are}

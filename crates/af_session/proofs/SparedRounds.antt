@@ -12,7 +12,7 @@ use Rattle.af_base.specs.declared.log.Cycle.{Cycle}
 use Rattle.af_base.specs.Turn.{Turn}
 use Rattle.af_cblk.specs.Sides.{client_made}
 use Rattle.af_client.specs.Order.{ClientState, IsInOrder as IsClientInOrder, client_kept_of}
-use Rattle.af_journal.specs.ClientTurns.{after_calls}
+use Rattle.af_runs.specs.ClientTurns.{after_calls}
 use Rattle.af_life.specs.declared.kept.TrackKept.{TrackKept}
 use Rattle.af_life.specs.Kept.{is_home, track_at}
 use Rattle.af_link.specs.declared.links.Links.{Links}

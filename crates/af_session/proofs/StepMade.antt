@@ -6,10 +6,10 @@ use Rattle.af_base.specs.Roomy.{Roomy}
 use Rattle.af_cblk.specs.Sides.{Made, client_made}
 use Rattle.af_client.specs.Order.{ClientState}
 use Rattle.af_script.specs.declared.op.Op.{Op}
-use Rattle.af_journal.specs.declared.want.Want.{Want}
-use Rattle.af_journal.specs.Clients.{Client, after_answer, at_next_turn, begun, rest_of}
-use Rattle.af_journal.specs.ClientTurns.{IsMade, Track, with_call}
-use Rattle.af_journal.specs.Kept.{ClientKept, client_of}
+use Rattle.af_runs.specs.declared.want.Want.{Want}
+use Rattle.af_runs.specs.Clients.{Client, after_answer, at_next_turn, begun, rest_of}
+use Rattle.af_runs.specs.ClientTurns.{IsMade, Track, with_call}
+use Rattle.af_runs.specs.Kept.{ClientKept, client_of}
 use Rattle.af_session.specs.Asking.{HasBlocks, Makes, flushed_by, track_with, written_by}
 use Rattle.af_session.specs.Parties.{PartyState, track_of}
 use Rattle.af_session.specs.Turning.{Calls, IsMadeBy, Rests, WantsNext}

@@ -5,9 +5,9 @@ use Rattle.af_base.specs.declared.event.ClientCall.{ClientCall}
 use Rattle.af_base.specs.declared.frame.Frame.{Frame}
 use Rattle.af_base.specs.Roomy.{Roomy}
 use Rattle.af_script.specs.declared.op.Op.{Op}
-use Rattle.af_journal.specs.Clients.{at_next_turn}
-use Rattle.af_journal.specs.ClientTurns.{LegalClientTurn, Track, after_call, after_calls, most_calls, wanted_of}
-use Rattle.af_journal.specs.Kept.{client_of}
+use Rattle.af_runs.specs.Clients.{at_next_turn}
+use Rattle.af_runs.specs.ClientTurns.{LegalClientTurn, Track, after_call, after_calls, most_calls, wanted_of}
+use Rattle.af_runs.specs.Kept.{client_of}
 use Rattle.af_session.specs.Parties.{PartyState, track_of}
 use Rattle.af_session.specs.Turning.{Calls, IsTurned, Rests}
 use Rattle.af_session.proofs.Legal.{AreMade, legal_turn, made_calls, made_fold, made_more}

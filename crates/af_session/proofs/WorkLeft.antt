@@ -6,13 +6,13 @@ use Rattle.af_base.specs.declared.event.ClientCall.{ClientCall}
 use Rattle.af_base.specs.declared.event.ClientCall.TheVariants as call
 use Rattle.af_script.specs.declared.op.Op.{Op}
 use Rattle.af_script.specs.declared.op.Op.TheVariants as op
-use Rattle.af_journal.specs.declared.want.ClientCommand.{ClientCommand}
-use Rattle.af_journal.specs.declared.want.ClientCommand.TheVariants as command
-use Rattle.af_journal.specs.declared.want.Mode.{Mode}
-use Rattle.af_journal.specs.declared.want.Want.{Want}
-use Rattle.af_journal.specs.declared.want.Want.TheVariants as want
-use Rattle.af_journal.specs.Clients.{Client, after_answer, at_next_turn, begins, begun, is_active, is_stoppable, is_stopped, more, only, rested, settled_in, state_in, wants_of}
-use Rattle.af_journal.specs.ClientTurns.{asked_by}
+use Rattle.af_runs.specs.declared.want.ClientCommand.{ClientCommand}
+use Rattle.af_runs.specs.declared.want.ClientCommand.TheVariants as command
+use Rattle.af_runs.specs.declared.want.Mode.{Mode}
+use Rattle.af_runs.specs.declared.want.Want.{Want}
+use Rattle.af_runs.specs.declared.want.Want.TheVariants as want
+use Rattle.af_runs.specs.Clients.{Client, after_answer, at_next_turn, begins, begun, is_active, is_stoppable, is_stopped, more, only, rested, settled_in, state_in, wants_of}
+use Rattle.af_runs.specs.ClientTurns.{asked_by}
 use Rattle.af_session.specs.Asking.{flushed_by, written_by}
 use Rattle.af_session.specs.Works.{IsFitting, IsFittingOp, flushes_due, flushes_to_come, frames_due, frames_to_come}
 

@@ -5,7 +5,7 @@ use Rattle.af_base.specs.declared.log.Cycle.{Cycle}
 use Rattle.af_model.specs.Cycles.{is_mixed}
 use Rattle.af_fast.specs.Mixer.{MixerState}
 use Rattle.af_fast.specs.Mixing.{Adopts, MixesOnce}
-use Rattle.af_session.specs.Sound.{written}
+use Rattle.af_runs.specs.Pcm.{written}
 
 -- One cycle: a poll and a mix into some buffer that has the frames of a cycle, and the bytes of what was mixed
 pub record CyclesOnce (m : MixerState) (answer : Cycle) (bytes : List ℕ) (m' : MixerState) : Type 0 where

@@ -7,10 +7,10 @@ use Rattle.af_base.specs.Sample.{packed_word}
 use Rattle.af_cblk.specs.Shape.{most_flushes}
 use Rattle.af_cblk.specs.Sides.{Made}
 use Rattle.af_client.specs.Order.{ClientState, IsClientOf}
-use Rattle.af_journal.specs.declared.want.Want.{Want}
-use Rattle.af_journal.specs.declared.want.Want.TheVariants as want
-use Rattle.af_journal.specs.Clients.{Client}
-use Rattle.af_journal.specs.ClientTurns.{AnswersOn, Track, called, is_of_commands, with_call}
+use Rattle.af_runs.specs.declared.want.Want.{Want}
+use Rattle.af_runs.specs.declared.want.Want.TheVariants as want
+use Rattle.af_runs.specs.Clients.{Client}
+use Rattle.af_runs.specs.ClientTurns.{AnswersOn, Track, called, is_of_commands, with_call}
 use Rattle.af_session.specs.Parties.{PartyState, side_of_proxy}
 
 -- how many frames of the file a call wrote, how many words it released on its block, and how many flushes it asked for

@@ -10,11 +10,12 @@ use Rattle.af_link.specs.Reports.{ReaderSide, WriterSide}
 use Rattle.af_link.specs.declared.names.StreamNames.{StreamNames}
 use Rattle.af_fast.specs.Fits.{stream_fits}
 use Rattle.af_fast.specs.Mixer.{made_of}
-use Rattle.af_life.specs.Kept.{Setup, new_normal}
+use Rattle.af_life.specs.Kept.{new_normal}
 use Rattle.af_normal.specs.Making.{TrackList, IsMade}
 use Rattle.af_normal.specs.State.{NormalState, setup_of, kept_of}
 use Rattle.af_script.specs.Data.{ScriptData}
-use Rattle.af_session.specs.NewTracks.{spec_setting, AreNewTracks}
+use Rattle.af_session.specs.NewTracks.{AreNewTracks}
+use Rattle.af_runs.specs.Sessions.{script_setup, spec_setting}
 use Rattle.af_session.specs.Shares.{SharedState}
 use Rattle.af_session.specs.Together.{SessionState}
 
@@ -52,10 +53,6 @@ ends_of s = record { mutator = s.normal.mutator; reader = s.normal.reader; from 
 -- what the script's tracks are, and the proxies that the normal mixer has
 abbrev pub tracks_of : ScriptData → NormalState → TrackList
 tracks_of script m = record { settings = map spec_setting script.tracks; streams = m.streams; commands = m.commands }
-
--- what the normal mixer is made of
-abbrev pub script_setup : ScriptData → Setup
-script_setup script = record { frames = script.frames; normal = script.normal; settings = map spec_setting script.tracks }
 
 -- A session of a script before its first turn, over these shared objects
 pub record IsNewSession (script : ScriptData) (shared : SharedState) (s : SessionState) : Type 0 where

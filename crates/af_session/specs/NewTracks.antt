@@ -1,5 +1,5 @@
 -- What the parts of a track are before anything was done on them.
-use Rattle.std.specs.Prelude.{◌≡◌, ℕ, ◌*◌, ◌<◌, ◌≤◌, ◌==◌, if◌then◌else◌, true, List, [], length, map, slice_get, Some, None}
+use Rattle.std.specs.Prelude.{◌≡◌, ℕ, ◌<◌, ◌≤◌, true, List, [], length, map, slice_get, Some, None}
 use Rattle.af_base.specs.declared.frame.Frame.{Frame}
 use Rattle.af_base.specs.Sample.{packed_word}
 use Rattle.af_cblk.specs.Rule.{new_client, new_server}
@@ -8,34 +8,17 @@ use Rattle.af_cblk.specs.Sides.{Made}
 use Rattle.af_client.specs.Order.{ClientState, IsClientOf}
 use Rattle.af_server.specs.Order.{ServerState, IsServerOf}
 use Rattle.af_model.specs.declared.shape.Shape.{Shape}
-use Rattle.af_journal.specs.Clients.{new_client as new_wants}
-use Rattle.af_journal.specs.ClientTurns.{Side, Track}
-use Rattle.af_journal.specs.Kept.{client_of}
-use Rattle.af_life.specs.declared.kept.Setting.{Setting}
+use Rattle.af_runs.specs.Clients.{new_client as new_wants}
+use Rattle.af_runs.specs.ClientTurns.{Track, new_side}
+use Rattle.af_runs.specs.Kept.{client_of}
+use Rattle.af_runs.specs.Sessions.{command_shape, spec_setting, stream_shape}
 use Rattle.af_normal.specs.Making.{TrackList, setting_of}
 use Rattle.af_normal.specs.Mixing.{stream_at}
 use Rattle.af_normal.specs.declared.make.TrackSetup.{TrackSetup}
-use Rattle.af_script.specs.Ops.{cells_of}
 use Rattle.af_script.specs.declared.op.Op.{Op}
 use Rattle.af_script.specs.declared.track.TrackSpec.{TrackSpec}
 use Rattle.af_session.specs.Parties.{PartyState, track_of}
 use Rattle.af_session.specs.Works.{CanWork, frames_to_come}
-
--- the sizes of the stream's block of a track: from version 2 on its flushes carry their positions
-abbrev pub stream_shape : ℕ → TrackSpec → Shape
-stream_shape version spec = record { frames = spec.frames; cells = cells_of spec.frames; base = spec.base; wrap = if version == 2 then cells_of spec.frames * 4 else 0 }
-
--- the sizes of each command block
-abbrev pub command_shape : Shape
-command_shape = record { frames = 128; cells = 128; base = 0; wrap = 0 }
-
--- how a track is mixed
-abbrev pub spec_setting : TrackSpec → Setting
-spec_setting spec = record { fast = spec.fast; mono = spec.mono; scale = spec.scale }
-
--- a client's side of a block of these sizes on which it has done nothing
-abbrev pub new_side : Shape → Side
-new_side shape = record { shape = shape; events = []; released = [] }
 
 -- the track of a client that has done nothing, with the file of these frames
 abbrev pub first_track : ℕ → TrackSpec → List Frame → Track

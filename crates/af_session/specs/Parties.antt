@@ -5,8 +5,8 @@ use Rattle.af_base.specs.declared.frame.Frame.{Frame}
 use Rattle.af_base.specs.Roomy.{Roomy}
 use Rattle.af_base.specs.Sample.{packed_word}
 use Rattle.af_client.specs.Order.{ClientState}
-use Rattle.af_journal.specs.ClientTurns.{Side, Track}
-use Rattle.af_journal.specs.Kept.{ClientKept, client_of}
+use Rattle.af_runs.specs.ClientTurns.{Side, Track}
+use Rattle.af_runs.specs.Kept.{ClientKept, client_of}
 use Rattle.af_script.specs.declared.op.Op.{Op}
 
 -- the number of its track, what it wants, its proxies of the stream's block and of the command block, and the calls of its last turn

@@ -3,7 +3,7 @@ use Rattle.std.specs.Prelude.{◌≡◌, ℕ, ◌*◌, ◌-◌, ◌≤◌, ◌++
 use Rattle.af_base.specs.declared.event.ClientCall.{ClientCall}
 use Rattle.af_base.specs.declared.frame.Frame.{Frame}
 use Rattle.af_base.specs.Turn.{Turn, turn_of}
-use Rattle.af_journal.specs.ClientTurns.{LegalClientTurn, after_calls}
+use Rattle.af_runs.specs.ClientTurns.{LegalClientTurn, after_calls}
 use Rattle.af_life.specs.Kept.{Outside}
 use Rattle.af_model.specs.Journals.{RoundNoted}
 use Rattle.af_normal.specs.LegalTurned.{IsLegal}

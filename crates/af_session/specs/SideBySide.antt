@@ -5,7 +5,7 @@ use Rattle.af_base.specs.declared.event.ClientCall.{ClientCall}
 use Rattle.af_base.specs.Roomy.{Roomy}
 use Rattle.af_base.specs.Turn.{Turn, turn_of}
 use Rattle.af_fast.specs.Mixer.{IsInOrder as IsFastInOrder, IsLinked, MixerState}
-use Rattle.af_journal.specs.ClientTurns.{LegalClientTurn, after_calls}
+use Rattle.af_runs.specs.ClientTurns.{LegalClientTurn, after_calls}
 use Rattle.af_life.specs.Kept.{Outside}
 use Rattle.af_link.specs.declared.links.Links.{Links}
 use Rattle.af_model.specs.Journals.{RoundNoted}

@@ -2,9 +2,9 @@
 use Rattle.std.specs.Prelude.{◌≡◌, Bool, true, false, List, [], ◌∷◌, ◌++◌, Option, Some, None}
 use Rattle.af_base.specs.declared.event.ClientCall.{ClientCall}
 use Rattle.af_base.specs.declared.frame.Frame.{Frame}
-use Rattle.af_journal.specs.declared.want.Want.{Want}
-use Rattle.af_journal.specs.Clients.{Client, at_next_turn, begun, next_want}
-use Rattle.af_journal.specs.ClientTurns.{IsMade, LegalClientTurn, after_call, after_calls, wanted_of}
+use Rattle.af_runs.specs.declared.want.Want.{Want}
+use Rattle.af_runs.specs.Clients.{Client, at_next_turn, begun, next_want}
+use Rattle.af_runs.specs.ClientTurns.{IsMade, LegalClientTurn, after_call, after_calls, wanted_of}
 use Rattle.af_script.specs.declared.op.Op.{Op}
 use Rattle.af_session.specs.Asking.{track_with}
 use Rattle.af_session.specs.Parties.{PartyState, track_of}

@@ -1,8 +1,8 @@
 -- When a client can do the work that its ops ask for: its file has the frames that it is still to write, its block takes the flushes that are still to come, and each word that it pokes is one of its block.
 use Rattle.std.specs.Prelude.{◌≡◌, ℕ, ◌+◌, ◌<◌, ◌≤◌, true, false, List, [], ◌∷◌, drop, All}
 use Rattle.af_cblk.specs.Shape.{most_flushes}
-use Rattle.af_journal.specs.declared.want.Want.{Want}
-use Rattle.af_journal.specs.declared.want.Want.TheVariants as want
+use Rattle.af_runs.specs.declared.want.Want.{Want}
+use Rattle.af_runs.specs.declared.want.Want.TheVariants as want
 use Rattle.af_script.specs.declared.op.Op.{Op}
 use Rattle.af_script.specs.declared.op.Op.TheVariants as op
 use Rattle.af_session.specs.Parties.{PartyState}

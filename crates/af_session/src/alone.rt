@@ -3,7 +3,7 @@ ghost use Rattle.std.specs.Prelude.{◌≡◌, ◌+◌, ◌*◌, ◌≤◌, ◌+
 ghost use Rattle.af_session.specs.Alone.{CyclesOn, CyclesOnce, most_cycles};
 ghost use Rattle.af_session.specs.SideBySide.{CanCycle, HasCycledOn, HasNotedOn};
 ghost use Rattle.af_session.specs.Shown.{Follows, HasPlaces};
-ghost use Rattle.af_session.specs.Sound.{written};
+ghost use Rattle.af_runs.specs.Pcm.{written};
 
 use crate::fast_turns::{is_mixed, mix_noted, push_written};
 use crate::tally::Tally;

@@ -5,7 +5,7 @@ ghost use Rattle.af_cblk.specs.Shape.{most_flushes};
 ghost use Rattle.af_client.specs.Calls.{wrote_call};
 ghost use Rattle.af_client.specs.Order.{IsClientOf};
 ghost use Rattle.af_client.specs.Sends.{sent_call};
-ghost use Rattle.af_journal.specs.ClientTurns.{Track, is_clear, is_flush, is_send, is_status, is_write, released_by};
+ghost use Rattle.af_runs.specs.ClientTurns.{Track, is_clear, is_flush, is_send, is_status, is_write, released_by};
 ghost use Rattle.af_session.specs.Asking.{Asked, words_sent, written_by};
 
 use af_base::{ClientCall, Frame, Steps};

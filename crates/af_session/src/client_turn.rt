@@ -2,11 +2,11 @@
 ghost use Rattle.std.specs.Prelude.{◌≡◌, ◌+◌, ◌/◌, ◌^◌, ◌<◌, ◌≤◌, true, List, [], ◌∷◌, ◌++◌, length};
 ghost use Rattle.af_base.specs.declared.frame.Frame.{Frame as FrameSeen};
 ghost use Rattle.af_client.specs.Order.{IsClientOf, IsInOrder};
-ghost use Rattle.af_journal.specs.Clients.{Client as ClientSeen, after_answer, at_next_turn};
-ghost use Rattle.af_journal.specs.ClientTurns.{LegalClientTurn, after_calls, argument_of};
-ghost use Rattle.af_journal.specs.Kept.{client_of};
-ghost use Rattle.af_journal.specs.declared.want.Want.{Want as WantSeen};
-ghost use Rattle.af_journal.specs.declared.want.Want.TheVariants as want_seen;
+ghost use Rattle.af_runs.specs.Clients.{Client as ClientSeen, after_answer, at_next_turn};
+ghost use Rattle.af_runs.specs.ClientTurns.{LegalClientTurn, after_calls, argument_of};
+ghost use Rattle.af_runs.specs.Kept.{client_of};
+ghost use Rattle.af_runs.specs.declared.want.Want.{Want as WantSeen};
+ghost use Rattle.af_runs.specs.declared.want.Want.TheVariants as want_seen;
 ghost use Rattle.af_normal.specs.Meeting.{AreClientsOf};
 ghost use Rattle.af_session.specs.Asking.{CanMake, CanSend, HasBlocks, Makes, track_with};
 ghost use Rattle.af_session.specs.Parties.{track_of};
@@ -17,8 +17,8 @@ use crate::asking::{ask_clear, ask_flush, ask_gains, ask_poke, ask_send, ask_sta
 use crate::party::Party;
 use af_base::{ClientCall, Frame, Steps};
 use af_cblk::Block;
-use af_journal::{ClientCommand, Want};
 use af_link::Links;
+use af_runs::{ClientCommand, Want};
 use af_script::Op;
 use std::sync::ledger::Ledger;
 

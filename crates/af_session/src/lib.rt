@@ -25,7 +25,7 @@ pub use given_files::have_files;
 pub use party::Party;
 pub use play_of_all::play;
 pub use rendering::{Ends, Played, SessionFault, render};
-pub use sound::{pcm, push_pcm};
+pub use sound::push_pcm;
 
 mod making;
 mod parties;

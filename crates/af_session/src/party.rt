@@ -3,7 +3,7 @@ ghost use Rattle.std.specs.Prelude.{◌≡◌};
 
 use af_base::{ClientCall, Items};
 use af_client::Client as Proxy;
-use af_journal::Client;
+use af_runs::Client;
 use std::marker::Model;
 
 /// A client of a session: the number of its track, what it wants by its ops, its proxies of the stream's block and of the command block, and the calls of its last turn.

@@ -13,7 +13,8 @@ ghost use Rattle.af_session.specs.PlayedRuns.{AtFault, AtLimit, HandedBack, Hand
 ghost use Rattle.af_session.specs.Rendered.{HasStoreCause, HaveFiles};
 ghost use Rattle.af_session.specs.Shares.{AreLinksOf};
 ghost use Rattle.af_session.specs.Shown.{released_by, shown_by, shown_in, summary_told};
-ghost use Rattle.af_session.specs.Sound.{journal_pcm, pcm_of};
+ghost use Rattle.af_session.specs.Sound.{pcm_of};
+ghost use Rattle.af_runs.specs.Pcm.{journal_pcm};
 ghost use Rattle.af_session.specs.Spelled.{CallsStandOnce, NoneOlder, PushesStandOnce};
 ghost use Rattle.af_session.specs.Summaries.{Shown, nothing_shown, summary_of};
 ghost use Rattle.af_session.specs.Tallies.{IsTally};

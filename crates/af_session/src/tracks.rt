@@ -4,14 +4,15 @@ ghost use Rattle.af_cblk.specs.Rule.{new_client, new_server};
 ghost use Rattle.af_cblk.specs.Shape.{IsShape};
 ghost use Rattle.af_cblk.specs.Sides.{client_made, server_made};
 ghost use Rattle.af_script.specs.Form.{IsTrack};
-ghost use Rattle.af_session.specs.NewTracks.{AreNewTracks, IsNewLine, IsNewTrack, command_shape, stream_shape};
+ghost use Rattle.af_session.specs.NewTracks.{AreNewTracks, IsNewLine, IsNewTrack};
+ghost use Rattle.af_runs.specs.Sessions.{command_shape, stream_shape};
 
 use crate::party::Party;
 use af_base::{Items, Memory};
 use af_cblk::{Block, ClientPass, ServerPass};
 use af_client::Client as Proxy;
-use af_journal::Client;
 use af_normal::{TrackSetup, Tracks};
+use af_runs::Client;
 use af_script::TrackSpec;
 use af_server::Server;
 use std::alloc::Global;

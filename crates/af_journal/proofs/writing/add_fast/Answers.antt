@@ -5,7 +5,8 @@ use Rattle.af_base.specs.declared.log.CycleEntry.{CycleEntry}
 use Rattle.af_model.specs.Journals.{entries_of, frames_of, round_at}
 use Rattle.af_journal.specs.Lines.{Written}
 use Rattle.af_journal.specs.Texts.{GoesOn, fast_lines}
-use Rattle.af_journal.specs.Logged.{LieWithin, logged_fast}
+use Rattle.af_journal.specs.Logged.{logged_fast}
+use Rattle.af_runs.specs.Pcm.{LieWithin}
 use Rattle.af_journal.proofs.Entries.{AreAllLogged, all-logged, all-within, round-ends, round-same}
 use Rattle.af_journal.proofs.writing.add_fast.Goals as goal
 

@@ -4,8 +4,9 @@ use Rattle.af_model.specs.Journals.{JournalData}
 use Rattle.af_session.specs.declared.rendering.SessionFault.{SessionFault}
 use Rattle.af_session.specs.Ends.{EndsState}
 use Rattle.af_session.specs.PlayedRuns.{AtLimit, HandsBackRun}
-use Rattle.af_session.specs.Sound.{journal_pcm}
-use Rattle.af_player.specs.declared.status.Stop.TheVariants.{Limit}
+use Rattle.af_runs.specs.Pcm.{journal_pcm}
+use Rattle.af_player.specs.declared.status.Stop.TheVariants.{Over}
+use Rattle.af_player.specs.declared.status.Ending.TheVariants.{Limit}
 use Rattle.af_player.specs.Asked.{Loaded, play_job}
 use Rattle.af_player.specs.Ends.{IsCutOff, Makes}
 use Rattle.af_player.specs.Loading.{loaded_view}
@@ -93,7 +94,7 @@ returns-in-Err-CycleLimit-clause-made g c = λ told.
     let cycles = c.cycles-cycles.result in
     let here : Loaded = record { script = c.args.loaded.now.script; files = c.deref.result.now } in
     let same : here ≡ loaded_view c.args.loaded.now = λ k. record { script = c.args.loaded.now.script; files = c.deref.ensures.value k } in
-    subst (λ (l : Loaded). Makes (Err (Limit cycles)) (Ok (play_job c.args.target.now c.args.journal.now l)) old new) same
+    subst (λ (l : Loaded). Makes (Err (Over (Limit cycles))) (Ok (play_job c.args.target.now c.args.journal.now l)) old new) same
     (Makes-cut here a.cut a.field-0-1 run c.args.target.now c.args.journal.now old mid new sound
     (c.in_ok-write_journal-in-Err-CycleLimit.ensures.written (a.ensures.tells told)) cycles c.cycles-cycles.ensures.value)
 

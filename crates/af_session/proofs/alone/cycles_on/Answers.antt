@@ -3,7 +3,7 @@ use Rattle.std.proofs.lemmas.List.{length-append}
 use Rattle.af_base.specs.Roomy.{Roomy}
 use Rattle.af_model.specs.Cycles.{is_mixed}
 use Rattle.af_session.specs.Alone.{CyclesOnce, most_cycles}
-use Rattle.af_session.specs.Sound.{written}
+use Rattle.af_runs.specs.Pcm.{written}
 use Rattle.af_session.proofs.AloneTurns.{ComesTo, comes_first, comes_on, comes_over, comes_whole}
 use Rattle.af_session.proofs.FastChains.{long_written, put_behind}
 use Rattle.af_session.proofs.alone.cycles_on.Goals as goal

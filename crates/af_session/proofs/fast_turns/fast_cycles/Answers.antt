@@ -3,7 +3,7 @@ use Rattle.std.proofs.lemmas.List.{length-append}
 use Rattle.af_base.specs.Roomy.{Roomy}
 use Rattle.af_model.specs.Cycles.{is_mixed}
 use Rattle.af_session.specs.FastTurns.{WritesCycle}
-use Rattle.af_session.specs.Sound.{written}
+use Rattle.af_runs.specs.Pcm.{written}
 use Rattle.af_session.specs.Together.{SessionState}
 use Rattle.af_session.proofs.FastAdds.{cycle_sizes, cycle_whole, turned_by}
 use Rattle.af_session.proofs.FastChains.{GoesTo, goes_first, goes_on, goes_over, goes_whole, long_written, put_behind}

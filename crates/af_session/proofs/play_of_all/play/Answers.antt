@@ -6,7 +6,7 @@ use Rattle.af_session.specs.Ends.{EndsState, ends_from}
 use Rattle.af_session.specs.declared.rendering.Played.{Played}
 use Rattle.af_session.specs.PlayedRuns.{HandsBackRun, LeavesRun, all_ended}
 use Rattle.af_session.specs.Spelled.{CallsStandOnce, PushesStandOnce}
-use Rattle.af_session.specs.Sound.{journal_pcm}
+use Rattle.af_runs.specs.Pcm.{journal_pcm}
 use Rattle.af_session.specs.Together.{SessionState}
 use Rattle.af_session.proofs.JournalSound.{journal_sounds}
 use Rattle.af_session.proofs.NeverOlder.{none_older}

@@ -1,4 +1,4 @@
-use Rattle.af_session.specs.NewTracks.{command_shape}
+use Rattle.af_runs.specs.Sessions.{command_shape}
 use Rattle.af_session.proofs.NewLines.{new_line}
 use Rattle.af_session.proofs.Sizes.{command_shape_is}
 use Rattle.af_session.proofs.tracks.command_line.Goals as goal

@@ -2,7 +2,7 @@ use Rattle.std.proofs.Common.{◌≡◌, ◌*◌}
 use Rattle.std.proofs.lemmas.Result.{IfOk-weaker}
 use Rattle.af_cblk.specs.Shape.{IsShape}
 use Rattle.af_cblk.specs.Sides.{Made, ClientSide, ServerSide}
-use Rattle.af_session.specs.NewTracks.{stream_shape}
+use Rattle.af_runs.specs.Sessions.{stream_shape}
 use Rattle.af_session.proofs.Sizes.{positional_shape, flat_shape}
 use Rattle.af_session.proofs.tracks.stream_block.Goals as goal
 

@@ -1,4 +1,4 @@
-use Rattle.af_session.specs.NewTracks.{stream_shape}
+use Rattle.af_runs.specs.Sessions.{stream_shape}
 use Rattle.af_session.proofs.NewLines.{new_line}
 use Rattle.af_session.proofs.tracks.stream_line.Goals as goal
 

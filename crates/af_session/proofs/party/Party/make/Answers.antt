@@ -1,6 +1,6 @@
 use Rattle.std.proofs.Common.{inl, inr, sym, subst}
-use Rattle.af_journal.specs.declared.want.Want.{Want}
-use Rattle.af_journal.specs.declared.want.Want.TheVariants as want
+use Rattle.af_runs.specs.declared.want.Want.{Want}
+use Rattle.af_runs.specs.declared.want.Want.TheVariants as want
 use Rattle.af_session.specs.Turning.{IsMadeBy}
 use Rattle.af_session.proofs.MadeCalls.{blocks_command, blocks_stream}
 use Rattle.af_session.proofs.party.Party.make.Goals as goal

@@ -1,6 +1,6 @@
 use Rattle.std.proofs.Common.{◌≡◌, ◌/◌, ◌∷◌, ℕ, ap, ◌∙◌, subst}
-use Rattle.af_journal.specs.Clients.{after_answer}
-use Rattle.af_journal.specs.Kept.{client_of}
+use Rattle.af_runs.specs.Clients.{after_answer}
+use Rattle.af_runs.specs.Kept.{client_of}
 use Rattle.af_session.specs.Parties.{PartyState}
 use Rattle.af_session.proofs.party.Party.note.Goals as goal
 

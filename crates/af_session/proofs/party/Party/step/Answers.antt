@@ -1,7 +1,7 @@
 use Rattle.std.proofs.Common.{◌∙◌, Option, Some, None, false, length, ap, subst}
-use Rattle.af_journal.specs.declared.want.Want.{Want}
-use Rattle.af_journal.specs.Clients.{next_want}
-use Rattle.af_journal.specs.Kept.{client_of}
+use Rattle.af_runs.specs.declared.want.Want.{Want}
+use Rattle.af_runs.specs.Clients.{next_want}
+use Rattle.af_runs.specs.Kept.{client_of}
 use Rattle.af_session.specs.Turning.{WantsNext}
 use Rattle.af_session.proofs.CanWorkOn.{can_next}
 use Rattle.af_session.proofs.StepMade.{client_twice, step_calls, work_begun, work_called, work_ended}

@@ -1,5 +1,5 @@
 use Rattle.std.proofs.Common.{sym, ◌∙◌, refl, subst, None}
-use Rattle.af_journal.specs.Kept.{client_of}
+use Rattle.af_runs.specs.Kept.{client_of}
 use Rattle.af_session.specs.Parties.{PartyState}
 use Rattle.af_session.specs.Turning.{WantsNext}
 use Rattle.af_session.proofs.Legal.{halted_none, wants_next}

@@ -1,0 +1,84 @@
+-- The verdict is Legal exactly for a legal run and its PCM.
+use Rattle.std.specs.Prelude.{◌≡◌, ℕ, ◌+◌, ◌<◌, ◌≤◌, ◌==◌, nat_lt, Bool, true, false, MatchBool, List, [], ◌∷◌, refl}
+use Rattle.std.proofs.Common.{arith, subst}
+use Rattle.std.proofs.lemmas.Bool.Decides.{nat_tests}
+use Rattle.af_base.specs.declared.frame.Frame.{Frame}
+use Rattle.af_model.specs.Journals.{RoundSeen, JournalData}
+use Rattle.af_script.specs.Data.{ScriptData}
+use Rattle.af_runs.specs.Blocks.{Marks}
+use Rattle.af_runs.specs.LegalRuns.{marks_of, session_of, run_from, LegalRounds}
+use Rattle.af_runs.specs.Rounds.{LegalRound, after_round}
+use Rattle.af_audit.specs.RunLaws.{LegalExactly}
+use Rattle.af_runs.specs.Runs.{Run, new_run, normal_party, fast_party, all_ended}
+use Rattle.af_runs.specs.Sessions.{Session, track_count}
+use Rattle.af_audit.specs.Verdicts.{ClientIsClear, NormalIsClear, FastIsClear, IsClear, AreClear, AllClear}
+
+where_true : {A : Type 0} (B : Type 0) (b : Bool) → b ≡ true → MatchBool b A B → A
+where_true {A} B b e h = subst (λ (x : Bool). MatchBool x A B) e h
+
+where_false : (A : Type 0) {B : Type 0} (b : Bool) → b ≡ false → MatchBool b A B → B
+where_false A {B} b e h = subst (λ (x : Bool). MatchBool x A B) e h
+
+either : {A B : Type 0} (b : Bool) → (b ≡ true → A) → (b ≡ false → B) → MatchBool b A B
+either {A} {B} b one other = elim b as (λ x. (x ≡ true → A) → (x ≡ false → B) → MatchBool x A B) [ true ↦ λ f g. f refl | false ↦ λ f g. g refl ] one other
+
+below : (m n : ℕ) → m < n → nat_lt m n ≡ true
+below m n h = grind (arith, nat_tests, h)
+
+not_below : (m n : ℕ) → n ≤ m → nat_lt m n ≡ false
+not_below m n h = grind (arith, nat_tests, h)
+
+is_below : (m n : ℕ) → nat_lt m n ≡ true → m < n
+is_below m n h = grind (arith, nat_tests, h)
+
+same : (n : ℕ) → (n == n) ≡ true
+same n = grind (arith, nat_tests)
+
+one_more : (n : ℕ) → (n + 1 == n) ≡ false
+one_more n = grind (arith, nat_tests)
+
+-- the parts of a round by parties
+pub client_part : (s : Session) (marks : Marks) (run : Run) (round : RoundSeen) (track : ℕ) → track < track_count s → IsClear s marks run round track → ClientIsClear s run round track
+client_part s marks run round track h clear = where_true _ (nat_lt track (normal_party s)) (below track (track_count s) h) clear
+
+pub normal_part : (s : Session) (marks : Marks) (run : Run) (round : RoundSeen) → IsClear s marks run round (normal_party s) → NormalIsClear s marks run round
+normal_part s marks run round clear = where_true _ (normal_party s == normal_party s) (same (normal_party s)) (where_false _ (nat_lt (normal_party s) (normal_party s)) (not_below (normal_party s) (normal_party s) (omega arith)) clear)
+
+pub fast_part : (s : Session) (marks : Marks) (run : Run) (round : RoundSeen) → IsClear s marks run round (fast_party s) → FastIsClear s marks run round
+fast_part s marks run round clear = where_false _ (fast_party s == normal_party s) (one_more (normal_party s)) (where_false _ (nat_lt (fast_party s) (normal_party s)) (not_below (fast_party s) (normal_party s) (omega arith)) clear)
+
+-- a round in which every party is clear is legal
+pub round_legal : (s : Session) (marks : Marks) (run : Run) (round : RoundSeen) → 0 < track_count s → AreClear s marks run round → LegalRound false s marks run round
+round_legal s marks run round some clear =
+    let first = client_part s marks run round 0 some (clear 0 (omega arith)) in
+    let normal = normal_part s marks run round (clear (normal_party s) (omega arith)) in
+    let fast = fast_part s marks run round (clear (fast_party s) (omega arith)) in
+    record {
+      follows = record { going = first.going refl; room = fast.room; within = fast.within };
+      turns = record { clients = λ track h. (client_part s marks run round track h (clear track (omega (arith, h)))).turn; normal = normal.turn; fast = fast.turn };
+      histories = record { blocks = λ track h. (client_part s marks run round track h (clear track (omega (arith, h)))).histories; shared = normal.histories };
+    }
+
+-- in a legal round every party is clear
+pub round_clear : (s : Session) (marks : Marks) (run : Run) (round : RoundSeen) → LegalRound false s marks run round → (party : ℕ) → IsClear s marks run round party
+round_clear s marks run round legal party =
+    either (nat_lt party (normal_party s))
+    (λ e. record { going = λ first. legal.follows.going; turn = legal.turns.clients party (is_below party (track_count s) e); histories = legal.histories.blocks party (is_below party (track_count s) e) })
+    (λ e. either (party == normal_party s) (λ e. record { turn = legal.turns.normal; histories = legal.histories.shared }) (λ e. record { turn = legal.turns.fast; within = legal.follows.within; room = legal.follows.room }))
+
+rounds_legal : (s : Session) (marks : Marks) (run : Run) (rounds : List RoundSeen) → 0 < track_count s → AllClear s marks run rounds → LegalRounds false s marks run rounds × (all_ended s (run_from s run rounds) ≡ true)
+rounds_legal s marks run [] some clear = (tt, clear)
+rounds_legal s marks run (round ∷ rounds) some clear =
+    let rest = rounds_legal s marks (after_round s run round) rounds some clear.1 in
+    ((round_legal s marks run round some clear.0, rest.0), rest.1)
+
+rounds_clear : (s : Session) (marks : Marks) (run : Run) (rounds : List RoundSeen) → LegalRounds false s marks run rounds → all_ended s (run_from s run rounds) ≡ true → AllClear s marks run rounds
+rounds_clear s marks run [] legal ends = ends
+rounds_clear s marks run (round ∷ rounds) legal ends = ((λ party h. round_clear s marks run round legal.0 party), rounds_clear s marks (after_round s run round) rounds legal.1 ends)
+
+pub legal_exactly : (script : ScriptData) (files : List (List Frame)) (j : JournalData) (pcm : List ℕ) → LegalExactly script files j pcm
+legal_exactly script files j pcm may =
+    let s = session_of script files in (
+      (λ verdict. let legal = rounds_legal s (marks_of j.rounds) (new_run s) j.rounds may.some verdict.0 in (record { rounds = record { tracks = may.tracks; form = may.form; rounds = legal.0 }; ends = legal.1 }, verdict.1)),
+      (λ run. (rounds_clear s (marks_of j.rounds) (new_run s) j.rounds run.0.rounds.rounds run.0.ends, run.1)),
+    )

@@ -1,0 +1,4 @@
+mod JudgedExactly
+mod RunEnds
+mod OneVerdict
+mod RoundParts

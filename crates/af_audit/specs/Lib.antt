@@ -1,0 +1,4 @@
+pub mod Verdicts
+pub mod RunLaws
+pub mod Judged
+pub mod RunJudged

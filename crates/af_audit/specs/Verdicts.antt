@@ -1,0 +1,84 @@
+-- The verdict on a journal and its PCM: the first round, and in it the least party, whose turn or history isn't legal; then the first byte that isn't that of the mix.
+use Rattle.std.specs.Prelude.{◌≡◌, ◌≢◌, ℕ, zero, suc, ◌+◌, ◌<◌, ◌≤◌, ◌==◌, nat_lt, true, false, MatchBool, List, [], ◌∷◌, length, take, slice_get}
+use Rattle.af_base.specs.declared.frame.Frame.{Frame}
+use Rattle.af_model.specs.Journals.{RoundSeen, JournalData}
+use Rattle.af_script.specs.Data.{ScriptData}
+use Rattle.af_audit.specs.declared.verdict.Verdict.{Verdict}
+use Rattle.af_audit.specs.declared.verdict.Verdict.TheVariants.{Legal, Refused}
+use Rattle.af_audit.specs.declared.verdict.Refusal.TheVariants as refused
+use Rattle.af_runs.specs.Blocks.{Marks}
+use Rattle.af_runs.specs.ClientTurns.{LegalClientTurn}
+use Rattle.af_runs.specs.LegalRuns.{marks_of, session_of}
+use Rattle.af_runs.specs.Pcm.{journal_pcm}
+use Rattle.af_runs.specs.Rounds.{LegalNormalTurn, LegalFastTurn, TrackHistories, SharedHistories, met_after, after_round}
+use Rattle.af_runs.specs.Runs.{Run, new_run, told_at, sides_of, calls_in, normal_party, fast_party, has_ended, all_ended}
+use Rattle.af_runs.specs.Sessions.{Session}
+
+-- ## A party in a round: the clients by their tracks, then the normal mixer, then the fast mixer
+
+-- A client answers for its turn and for the histories of its two blocks. Client 0 answers for a round after the end of all parties
+pub record ClientIsClear (s : Session) (run : Run) (round : RoundSeen) (track : ℕ) : Type 0 where
+  pub going : track ≡ 0 → all_ended s run ≡ false
+  pub turn : LegalClientTurn (sides_of (told_at run track)) (calls_in round track)
+  pub histories : TrackHistories s (met_after s run round) track
+
+-- the normal mixer answers for its turn and for the histories of the queue, the report and the pipe
+pub record NormalIsClear (s : Session) (marks : Marks) (run : Run) (round : RoundSeen) : Type 0 where
+  pub turn : LegalNormalTurn s marks run round
+  pub histories : SharedHistories s (met_after s run round)
+
+-- the fast mixer answers for its turn, for an entry beyond those that the script allows, and for a round after a full log
+pub record FastIsClear (s : Session) (marks : Marks) (run : Run) (round : RoundSeen) : Type 0 where
+  pub turn : LegalFastTurn false s marks run round
+  pub within : length run.entries + length round.entries ≤ s.script.cycles
+  pub room : length run.entries < s.script.cycles
+
+-- no fault of a party
+abbrev pub IsClear : Session → Marks → Run → RoundSeen → ℕ → Type 0
+IsClear s marks run round party = MatchBool (nat_lt party (normal_party s)) (ClientIsClear s run round party) (MatchBool (party == normal_party s) (NormalIsClear s marks run round) (FastIsClear s marks run round))
+
+-- no fault of any
+abbrev pub AreClear : Session → Marks → Run → RoundSeen → Type 0
+AreClear s marks run round = (party : ℕ) → party ≤ fast_party s → IsClear s marks run round party
+
+-- ## The first fault
+
+-- of all numbers up to the last one the least of which this doesn't hold
+pub record IsLeastWithout (Holds : ℕ → Type 0) (last party : ℕ) : Type 0 where
+  pub is_party : party ≤ last
+  pub fails : Holds party → ⊥
+  pub least : (before : ℕ) → before < party → Holds before
+
+-- no party has a fault in any round, and after the last round all have ended
+abbrev pub AllClear : Session → Marks → Run → List RoundSeen → Type 0
+AllClear s marks run [] = all_ended s run ≡ true
+AllClear s marks run (round ∷ rounds) = AreClear s marks run round × AllClear s marks (after_round s run round) rounds
+
+-- The first fault is in the round of this number, from 0, and there it is that of this party. After the last round it is that of the least party that hasn't ended
+abbrev pub IsFirstFault : Session → Marks → Run → List RoundSeen → ℕ → ℕ → Type 0
+IsFirstFault s marks run [] number party = (number ≡ 0) × IsLeastWithout (λ p. has_ended s run p ≡ true) (fast_party s) party
+IsFirstFault s marks run (round ∷ rounds) zero party = IsLeastWithout (IsClear s marks run round) (fast_party s) party
+IsFirstFault s marks run (round ∷ rounds) (suc number) party = AreClear s marks run round × IsFirstFault s marks (after_round s run round) rounds number party
+
+-- two lists of bytes are the same up to this place, and not there: the bytes differ, or one list ends
+pub record FirstDiffer (a b : List ℕ) (at : ℕ) : Type 0 where
+  pub same : take at a ≡ take at b
+  pub inside : (at ≤ length a) × (at ≤ length b)
+  pub differ : slice_get a at ≢ slice_get b at
+
+-- ## The verdict
+
+-- no party of the journal has a fault
+abbrev pub HasNoFault : ScriptData → List (List Frame) → JournalData → Type 0
+HasNoFault script files j = let s = session_of script files in AllClear s (marks_of j.rounds) (new_run s) j.rounds
+
+-- the first fault of a journal is that of this party in this round
+abbrev pub HasFirstFault : ScriptData → List (List Frame) → JournalData → ℕ → ℕ → Type 0
+HasFirstFault script files j round party = let s = session_of script files in IsFirstFault s (marks_of j.rounds) (new_run s) j.rounds round party
+
+-- the verdict is right. It is never about a text
+abbrev pub IsVerdict : ScriptData → List (List Frame) → JournalData → List ℕ → Verdict → Type 0
+IsVerdict script files j pcm Legal = HasNoFault script files j × (pcm ≡ journal_pcm script.frames j)
+IsVerdict script files j pcm (Refused (refused.Text line)) = ⊥
+IsVerdict script files j pcm (Refused (refused.Round round party)) = HasFirstFault script files j round party
+IsVerdict script files j pcm (Refused (refused.Pcm at)) = HasNoFault script files j × FirstDiffer (journal_pcm script.frames j) pcm at

@@ -1,0 +1,81 @@
+//! The verdict on a journal and its PCM.
+ghost use Rattle.std.specs.Prelude.{◌≡◌, ◌+◌, ◌≤◌, IfOk, IfSome, length};
+ghost use Rattle.af_audit.specs.Judged.{IsJudgement};
+ghost use Rattle.af_audit.specs.RunJudged.{IsReady};
+
+use crate::differ::first_differ;
+use crate::run_judge::{RunJudge, new_tracks};
+use crate::sound::sound_of;
+use crate::verdict::{Refusal, Verdict};
+use af_base::Memory;
+use af_io::Pcm;
+use af_judge::TrackJudge;
+use af_model::Journal;
+use af_script::{Script, TrackSpec};
+use std::alloc::Global;
+
+// The first round that isn't clear, with its least party; after the last round the least party that hasn't ended.
+fn judge_rounds(
+    run: &mut RunJudge,
+    tracks: &mut [TrackJudge],
+    specs: &[TrackSpec],
+    files: &[Pcm],
+    journal: &Journal,
+) -> Result<Option<(u64, u32)>, Memory>
+    requires ready { IsReady run.old (length tracks.old) }
+    requires specs { length specs.now ≡ length tracks.old }
+    requires files { length files.now ≡ length tracks.old }
+    requires tracks { journal.now.tracks ≡ length tracks.old }
+    ensures { IfOk result (λ found. IfSome found (λ at. (at.0 ≤ length journal.now.rounds) × (at.1 ≤ length tracks.old + 1))) }
+{
+    let rounds = journal.rounds();
+    for round in 0..rounds {
+        if let Some(party) = run.round(tracks, specs, files, journal, round)? {
+            return Ok(Some((round as u64, party)));
+        }
+    }
+    match run.going_party(tracks) {
+        None => Ok(None),
+        Some(party) => Ok(Some((rounds as u64, party))),
+    }
+}
+
+// The first fault of a journal: its round and its party.
+fn first_fault(
+    alloc: Global,
+    script: &Script,
+    files: &[Pcm],
+    journal: &Journal,
+) -> Result<Option<(u64, u32)>, Memory>
+    requires tracks { journal.now.tracks ≡ length script.now.tracks }
+    requires files { length files.now ≡ length script.now.tracks }
+    ensures { IfOk result (λ found. IfSome found (λ at. (at.0 ≤ length journal.now.rounds) × (at.1 ≤ length script.now.tracks + 1))) }
+{
+    let mut run = RunJudge::new(alloc, script)?;
+    let mut tracks = new_tracks(alloc, script, journal)?;
+    judge_rounds(&mut run, &mut tracks, script.tracks(), files, journal)
+}
+
+/// The verdict on a journal and its PCM: legal, or the first round and in it the least party at fault, or the first byte that isn't that of the mix.
+///
+/// The journal has as many tracks as the script, and the files are those that `play` may be given. It never answers Text. Memory is its only error.
+pub fn verify(
+    alloc: Global,
+    script: &Script,
+    files: &[Pcm],
+    journal: &Journal,
+    pcm: &[u8],
+) -> Result<Verdict, Memory>
+    requires tracks { journal.now.tracks ≡ length script.now.tracks }
+    requires files { length files.now ≡ length script.now.tracks }
+    ensures { IfOk result (IsJudgement script.now files.now journal.now pcm.now) }
+{
+    if let Some((round, party)) = first_fault(alloc, script, files, journal)? {
+        return Ok(Verdict::Refused(Refusal::Round { round, party }));
+    }
+    let sound = sound_of(alloc, journal, script.frames() as usize)?;
+    Ok(match first_differ(&sound, pcm) {
+        None => Verdict::Legal,
+        Some(at) => Verdict::Refused(Refusal::Pcm { at: at as u64 }),
+    })
+}

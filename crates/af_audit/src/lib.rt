@@ -1,0 +1,12 @@
+//! The verdict on a journal and its PCM: whether they are those of a legal run.
+#![tactic(auto)]
+
+mod differ;
+mod judgement;
+mod run_judge;
+mod sound;
+mod verdict;
+
+pub use judgement::verify;
+pub use sound::pcm;
+pub use verdict::{Refusal, Verdict};

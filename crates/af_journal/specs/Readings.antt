@@ -1,0 +1,103 @@
+-- A text has a reading where it is that of a journal, and else a first bad line.
+use Rattle.std.specs.Prelude.{◌≡◌, ℕ, ◌+◌, ◌<◌, ◌≤◌, ◌==◌, Bool, true, false, if◌then◌else◌, List, [], ◌∷◌, ◌++◌, take, length, flat_map, Option, Some, None}
+use Rattle.std.specs.List.{AllByRecursion, slice_split}
+use Rattle.af_model.specs.Journals.{JournalData}
+use Rattle.af_model.specs.JournalForm.{IsJournal}
+use Rattle.af_journal.specs.declared.building.JournalFault.{JournalFault}
+use Rattle.af_journal.specs.declared.building.JournalFault.TheVariants as fault
+use Rattle.af_journal.specs.declared.stage.Stage.{Stage}
+use Rattle.af_journal.specs.declared.stage.Stage.TheVariants.{Nothing}
+use Rattle.af_journal.specs.Lines.{Written, with_lf}
+use Rattle.af_journal.specs.LineReading.{◌>>=◌, written_at}
+use Rattle.af_journal.specs.Ranges.{IsWritten}
+use Rattle.af_journal.specs.Stages.{after_written, may_end}
+use Rattle.af_journal.specs.Texts.{lines_of, text_of, text_of_lines}
+
+-- a journal of so many tracks whose numbers fit their types
+pub record CanBeWritten (tracks : ℕ) (j : JournalData) : Type 0 where
+  pub tracks_are : j.tracks ≡ tracks
+  pub form : IsJournal j
+  pub numbers_fit : AllByRecursion IsWritten (lines_of j)
+
+-- the text has this reading
+abbrev pub Reads : ℕ → List ℕ → JournalData → Type 0
+Reads tracks text j = CanBeWritten tracks j × (text ≡ text_of j)
+
+-- the text has a reading
+abbrev pub HasReading : ℕ → List ℕ → Type 0
+HasReading tracks text = (j : JournalData) × Reads tracks text j
+
+-- ## The lines of a text
+
+-- the stage after some lines, one after the other
+abbrev pub after_all : ℕ → Stage → List Written → Option Stage
+after_all tracks at [] = Some at
+after_all tracks at (w ∷ ws) = after_written tracks at w >>= λ next. after_all tracks next ws
+
+-- lines whose numbers fit, each of which may follow those before it, and of which the last may be the last
+pub record AreInOrder (tracks : ℕ) (ws : List Written) : Type 0 where
+  pub numbers_fit : AllByRecursion IsWritten ws
+  pub last : Stage
+  pub follow : after_all tracks Nothing ws ≡ Some last
+  pub ends : may_end last ≡ true
+
+-- the text is that of lines in order
+abbrev pub IsInOrder : ℕ → List ℕ → Type 0
+IsInOrder tracks text = (ws : List Written) × AreInOrder tracks ws × (text ≡ text_of_lines ws)
+
+-- ## The first bad line
+
+-- what stands between the LFs
+abbrev pub parts_of : List ℕ → List (List ℕ)
+parts_of text = slice_split (λ byte. byte == 10) text
+
+-- the first lines, each with its LF
+abbrev pub first_lines : ℕ → List ℕ → List ℕ
+first_lines n text = flat_map with_lf (take n (parts_of text))
+
+-- some right text begins so
+abbrev pub BeginsOne : (List ℕ → Type 0) → List ℕ → Type 0
+BeginsOne IsRight front = (rest : List ℕ) × IsRight (front ++ rest)
+
+-- The text isn't right. A right text begins with all lines before that number, counted from 1, and none with the line of that number too. It may be the last line, without its LF; or, where a further line is due, the number after the last
+pub record IsFirstBad (IsRight : List ℕ → Type 0) (text : List ℕ) (number : ℕ) : Type 0 where
+  pub none : IsRight text → ⊥
+  pub above : (n : ℕ) → n < number → BeginsOne IsRight (first_lines n text)
+  pub here : number < length (parts_of text) → BeginsOne IsRight (first_lines number text) → ⊥
+  pub inside : (1 ≤ number) × (number ≤ length (parts_of text))
+
+-- why a text isn't read: its first bad line where it has no reading, and else want of memory
+abbrev pub IsFaultOf : ℕ → List ℕ → JournalFault → Type 0
+IsFaultOf tracks text (fault.Line number) = IsFirstBad (HasReading tracks) text number
+IsFaultOf tracks text fault.Memory = HasReading tracks text
+
+-- ## Line by line
+
+-- what stands before the first LF, and what after it
+abbrev pub cut : List ℕ → Option (List ℕ × List ℕ)
+cut [] = None
+cut (c ∷ cs) = if c == 10 then Some ([], cs) else (cut cs >>= λ r. Some (c ∷ r.0, r.1))
+
+-- the same where some bytes stand in front
+abbrev pub with_front : List ℕ → Option (List ℕ × List ℕ) → Option (List ℕ × List ℕ)
+with_front front r = r >>= λ r. Some (front ++ r.0, r.1)
+
+-- the stage after a line of bytes
+unfoldable pub stage_after : ℕ → Stage → List ℕ → Option Stage
+stage_after tracks at part = written_at part >>= after_written tracks at
+
+-- a text may end here: nothing stands after the last LF
+abbrev pub ends : Stage → List ℕ → Bool
+ends at [] = may_end at
+ends at (c ∷ cs) = false
+
+-- this line may not come, or what f finds
+abbrev pub refused_or : ℕ → Option Stage → (Stage → Option ℕ) → Option ℕ
+refused_or number None f = Some number
+refused_or number (Some at) f = f at
+
+-- the number of the first line that may not come after those before it
+abbrev pub first_refused : ℕ → Stage → ℕ → List (List ℕ) → Option ℕ
+first_refused tracks at number [] = Some number
+first_refused tracks at number (part ∷ []) = if ends at part then None else Some number
+first_refused tracks at number (part ∷ next ∷ parts) = refused_or number (stage_after tracks at part) (λ at. first_refused tracks at (number + 1) (next ∷ parts))

@@ -1,0 +1,133 @@
+//! The lines of a text that are left to be read, one after the other.
+ghost use Rattle.std.specs.Prelude.{◌≡◌, ◌++◌, ◌∷◌, [], ◌<◌, ◌≤◌, length, map, flat_map, All, IfOk, IfSome};
+ghost use Rattle.af_base.specs.Sample.{IsFrame, packed_word};
+ghost use Rattle.af_journal.specs.Lines.{hex_word, numbers, words};
+ghost use Rattle.af_journal.specs.Ranges.{AreWords, IsLine};
+ghost use Rattle.af_journal.specs.Taken.{Leaves};
+ghost use Rattle.af_journal.specs.Texts.{words_after};
+
+use crate::line::Line;
+use crate::line_reading::line_of;
+use crate::reading::{cut_line, packed_of};
+use af_base::{Frame, FrameList, Memory};
+use std::alloc::{AllocError, AllocFailed, Global};
+
+/// Why no journal was put together.
+#[derive(Clone, Copy, Debug, PartialEq, Eq)]
+pub(crate) enum Stop {
+    /// A line stands where it may not. No text without a bad line has one.
+    Order,
+    /// Memory was wanting.
+    Memory,
+}
+
+impl From<Memory> for Stop {
+    fn from(_: Memory) -> Self {
+        Stop::Memory
+    }
+}
+
+impl From<AllocError> for Stop {
+    fn from(_: AllocError) -> Self {
+        Stop::Memory
+    }
+}
+
+impl<T: Drop> From<AllocFailed<T>> for Stop {
+    fn from(_: AllocFailed<T>) -> Self {
+        Stop::Memory
+    }
+}
+
+/// What is left of a text.
+#[derive(Clone, Copy)]
+pub(crate) struct Left<'a> {
+    pub rest: &'a [u8],
+}
+
+/// The line of numbers that stands first, and what follows it; None where none does.
+pub(crate) fn next_line(bytes: &[u8]) -> Option<(Line, &[u8])>
+    ensures line { IfSome result (λ r. Leaves bytes.now (numbers r.0 ∷ []) r.1.now) }
+    ensures fits { IfSome result (λ r. IsLine r.0) }
+    ensures shorter { IfSome result (λ r. length r.1.now < length bytes.now) }
+{
+    let (part, after) = cut_line(bytes)?;
+    let line = line_of(part)?;
+    Some((line, after))
+}
+
+// The words that digits spell, which are all of words.
+fn words_of(alloc: Global, digits: &[u8]) -> Result<Vec<u32>, Stop>
+    ensures digits { IfOk result (λ words. digits.now ≡ flat_map hex_word words.items) }
+    ensures fits { IfOk result (λ words. AreWords words.items) }
+{
+    let mut words = Vec::new(alloc);
+    let mut rest = digits;
+    'words: while let [a, b, c, d, e, f, g, h, after @ ..] = rest {
+        let Some(word) = packed_of(*a, *b, *c, *d, *e, *f, *g, *h) else {
+            return Err(Stop::Order);
+        };
+        words.push(word)?;
+        rest = after;
+    }
+    if rest.is_empty() {
+        Ok(words)
+    } else {
+        Err(Stop::Order)
+    }
+}
+
+// The digits of a line of words, which follow its mark and a space.
+fn digits_of(part: &[u8]) -> Option<&[u8]>
+    ensures { IfSome result (λ digits. part.now ≡ 104 ∷ 32 ∷ digits.now) }
+{
+    match part {
+        [b'h', b' ', digits @ ..] => Some(digits),
+        _ => None,
+    }
+}
+
+/// The packed words of the line that stands first, so many.
+pub(crate) fn read_words(alloc: Global, left: &mut Left<'_>, count: u32) -> Result<Vec<u32>, Stop>
+    requires some { 1 ≤ count }
+    ensures line { IfOk result (λ list. Leaves left.old.rest.now (words list.items ∷ []) left.new.rest.now) }
+    ensures count { IfOk result (λ list. length list.items ≡ count) }
+{
+    let Some((part, after)) = cut_line(left.rest) else {
+        return Err(Stop::Order);
+    };
+    let Some(digits) = digits_of(part) else {
+        return Err(Stop::Order);
+    };
+    let words = words_of(alloc, digits)?;
+    if words.len() != count as usize {
+        return Err(Stop::Order);
+    }
+    left.rest = after;
+    Ok(words)
+}
+
+// The frames that words pack.
+fn frames_of(alloc: Global, words: &[u32]) -> Result<FrameList, Memory>
+    ensures words { IfOk result (λ frames. map packed_word frames.items ≡ words.now) }
+    ensures samples { IfOk result (λ frames. All IsFrame frames.items) }
+{
+    let mut frames = FrameList::with_room(alloc, words.len())?;
+    for word in words {
+        frames.push(Frame::unpack(*word));
+    }
+    Ok(frames)
+}
+
+/// The frames of a line of their own, so many; where none were taken there is no line.
+pub(crate) fn read_frames(alloc: Global, left: &mut Left<'_>, count: u32) -> Result<FrameList, Stop>
+    ensures lines { IfOk result (λ frames. Leaves left.old.rest.now (words_after (map packed_word frames.items)) left.new.rest.now) }
+    ensures count { IfOk result (λ frames. length frames.items ≡ count) }
+    ensures samples { IfOk result (λ frames. All IsFrame frames.items) }
+{
+    if count == 0 {
+        return Ok(FrameList::with_room(alloc, 0)?);
+    }
+    let words = read_words(alloc, left, count)?;
+    Ok(frames_of(alloc, words.as_slice())?)
+}

@@ -1,0 +1,99 @@
+-- Whether looks are due, by those that were gone over.
+use Rattle.std.proofs.Common.{◌≡◌, ℕ, suc, ◌+◌, ◌-◌, ◌<◌, ◌≤◌, ◌==◌, Bool, true, false, true≢false, if◌then◌else◌, ◌&&◌, sym, refl, ap, ◌∙◌, subst, List, [], ◌∷◌, ◌++◌, append-nil, length, take, drop, get_or, Option, zero, arith, length-take-le, drop-cons}
+use Rattle.std.proofs.lemmas.List.{take-append-drop, take_more, take_all, length-drop}
+use Rattle.std.proofs.lemmas.Bool.Decides.{nat_tests}
+use Rattle.af_base.specs.declared.turn.CommandLook.{CommandLook}
+use Rattle.af_life.specs.declared.kept.TrackKept.{TrackKept}
+use Rattle.af_life.specs.Obeys.{shows_command, is_shut, ended, must_wait, obeyed, after_look, goes_on, are_due, all_go_on}
+use Rattle.af_life.proofs.LooksSoFar.{after_all, are_due-go}
+
+first : (b d : Bool) → (b && d) ≡ true → (b ≡ true) × (d ≡ true)
+first true d e = (refl, e)
+first false d e = absurd (true≢false (sym e))
+
+last : (made n left : ℕ) → made < n → left ≡ n - suc made → (left == 0) ≡ (made + 1 == n)
+last made n left lt e = grind (arith, nat_tests, lt, e)
+
+whole : (n left : ℕ) → 64 ≡ n + left → (left == 0) ≡ (n == 64)
+whole n left e = grind (arith, nat_tests, e)
+
+module _ (given : Option ℕ) (flush_seen : ℕ) where
+  -- a look that goes on joins those that do
+  still_on : (s : TrackKept) (looks : List CommandLook) (look : CommandLook) → all_go_on given flush_seen looks s ≡ true
+      → goes_on look (after_look given flush_seen look (after_all given flush_seen s looks)) ≡ true → all_go_on given flush_seen (looks ++ look ∷ []) s ≡ true
+  still_on s [] look h on = ap (λ (b : Bool). b && true) on
+  still_on s (l ∷ looks) look h on = let t : TrackKept = after_look given flush_seen l s in let both = first (goes_on l t) (all_go_on given flush_seen looks t) h in
+      ap (λ (b : Bool). b && all_go_on given flush_seen (looks ++ look ∷ []) t) both.0 ∙ still_on t looks look both.1 on
+
+  after_push : (s : TrackKept) (looks : List CommandLook) (look : CommandLook) → after_all given flush_seen s (looks ++ look ∷ []) ≡ after_look given flush_seen look (after_all given flush_seen s looks)
+  after_push s [] look = refl
+  after_push s (l ∷ looks) look = after_push (after_look given flush_seen l s) looks look
+
+  -- a look settles one command at most
+  settles_one : (look : CommandLook) (s : TrackKept) → (after_look given flush_seen look s).settled ≤ s.settled + 1
+  unfolding after_look obeyed
+  settles_one look s = by_look (shows_command look.seen) (is_shut look.seen)
+    where
+      by_wait : (b : Bool) (t u : TrackKept) (n : ℕ) → t.settled ≤ n → u.settled ≤ n → (if b then t else u).settled ≤ n
+      by_wait true t u n e f = e
+      by_wait false t u n e f = f
+
+      by_look : (b d : Bool) → (if b then obeyed given flush_seen look.code look.argument s else if d then ended s else s).settled ≤ s.settled + 1
+      by_look true d = by_wait (must_wait flush_seen look.code look.argument s.life) _ _ (s.settled + 1) (omega arith) (omega arith)
+      by_look false true = omega arith
+      by_look false false = omega arith
+
+  pub settles_more : (look : CommandLook) (t u : TrackKept) → u ≡ after_look given flush_seen look t → u.settled ≤ t.settled + 1
+  settles_more look t u e = let a = ap (λ (x : TrackKept). x.settled) e in let b = settles_one look t in omega (arith, a, b)
+
+  module _ (looks : List CommandLook) (s : TrackKept) (made : ℕ) (none : CommandLook) (there : made < length looks) where
+    so_far : (n : ℕ) → all_go_on given flush_seen (take made looks) s ≡ true
+        → are_due (made + n) given flush_seen looks s ≡ are_due n given flush_seen (get_or looks made none ∷ drop (suc made) looks) (after_all given flush_seen s (take made looks))
+    so_far n h =
+        let l : length (take made looks) ≡ made = length-take-le made looks (omega (arith, there)) in
+        ap (λ (k : ℕ). are_due (k + n) given flush_seen looks s) (sym l)
+        ∙ ap (λ (xs : List CommandLook). are_due (length (take made looks) + n) given flush_seen xs s) (sym (take-append-drop made looks))
+        ∙ are_due-go given flush_seen n (take made looks) (drop made looks) s h
+        ∙ ap (λ (xs : List CommandLook). are_due n given flush_seen xs (after_all given flush_seen s (take made looks))) (drop-cons looks made none there)
+
+    -- those beyond the last that may be made are not
+    pub none_beyond : made ≡ 64 → all_go_on given flush_seen (take made looks) s ≡ true → are_due 64 given flush_seen looks s ≡ false
+    none_beyond e h = let f : 64 ≡ made + 0 = omega (arith, e) in ap (λ (k : ℕ). are_due k given flush_seen looks s) f ∙ so_far 0 h
+
+    -- `t` is the track before the look, and `u` the one after it
+    module _ (t u : TrackKept) (all : all_go_on given flush_seen (take made looks) s ≡ true) (before : t ≡ after_all given flush_seen s (take made looks)) (after : u ≡ after_look given flush_seen (get_or looks made none) t) where
+      now : u ≡ after_look given flush_seen (get_or looks made none) (after_all given flush_seen s (take made looks))
+      now = after ∙ ap (after_look given flush_seen (get_or looks made none)) before
+
+      -- one more that goes on
+      pub one_on : goes_on (get_or looks made none) u ≡ true → all_go_on given flush_seen (take (made + 1) looks) s ≡ true
+      one_on on = subst (λ (xs : List CommandLook). all_go_on given flush_seen xs s ≡ true) (sym (take_more looks made none there))
+          (still_on s (take made looks) (get_or looks made none) all (ap (goes_on (get_or looks made none)) (sym now) ∙ on))
+
+      pub one_after : u ≡ after_all given flush_seen s (take (made + 1) looks)
+      one_after = now ∙ sym (ap (after_all given flush_seen s) (take_more looks made none there) ∙ after_push s (take made looks) (get_or looks made none))
+
+      -- those after one that ends them are not due
+      pub stops_there : made < 64 → goes_on (get_or looks made none) u ≡ false → are_due 64 given flush_seen looks s ≡ (made + 1 == length looks)
+      stops_there few off =
+          let left : ℕ = 63 - made in
+          let f : 64 ≡ made + suc left = omega (arith, few) in
+          let x : TrackKept = after_look given flush_seen (get_or looks made none) (after_all given flush_seen s (take made looks)) in
+          let off' : goes_on (get_or looks made none) x ≡ false = ap (goes_on (get_or looks made none)) (sym now) ∙ off in
+          ap (λ (k : ℕ). are_due k given flush_seen looks s) f ∙ so_far (suc left) all
+          ∙ ap (λ (b : Bool). if b then are_due left given flush_seen (drop (suc made) looks) x else length (drop (suc made) looks) == 0) off'
+          ∙ last made (length looks) (length (drop (suc made) looks)) there (length-drop (suc made) looks)
+
+  -- where all go on the last that may be made is due
+  pub all_made : (looks : List CommandLook) (s : TrackKept) (made : ℕ) → length looks ≤ made → made ≤ 64 → all_go_on given flush_seen (take made looks) s ≡ true → are_due 64 given flush_seen looks s ≡ (length looks == 64)
+  all_made looks s made le few h =
+      let left : ℕ = 64 - length looks in
+      let f : 64 ≡ length looks + left = omega (arith, le, few) in
+      let all : all_go_on given flush_seen looks s ≡ true = subst (λ (xs : List CommandLook). all_go_on given flush_seen xs s ≡ true) (take_all made looks le) h in
+      ap (λ (k : ℕ). are_due k given flush_seen looks s) f
+      ∙ ap (λ (xs : List CommandLook). are_due (length looks + left) given flush_seen xs s) (sym (append-nil looks))
+      ∙ are_due-go given flush_seen left looks [] s all ∙ none_left left (after_all given flush_seen s looks) ∙ whole (length looks) left f
+    where
+      none_left : (n : ℕ) (t : TrackKept) → are_due n given flush_seen [] t ≡ (n == 0)
+      none_left zero t = refl
+      none_left (suc n) t = grind (arith, nat_tests)

@@ -1,0 +1,54 @@
+-- The tracks served so far, one after the other.
+use Rattle.std.proofs.Common.{◌≡◌, ◌↔◌, ℕ, suc, ◌+◌, ◌<◌, ◌≤◌, Bool, true, false, IsTrue, nat_lt, refl, sym, ap, ◌∙◌, subst, List, length, map, arith}
+use Rattle.std.specs.Prelude.{slice_set, slice_index_or}
+use Rattle.std.proofs.lemmas.List as lists
+use Rattle.std.proofs.lemmas.Bool.Decides.{nat_tests}
+use Rattle.af_base.specs.Log.{slots}
+use Rattle.af_base.specs.declared.turn.CommandLook.{CommandLook}
+use Rattle.af_base.specs.declared.turn.TrackTurn.{TrackTurn}
+use Rattle.af_base.specs.Turn.{TrackSeen, track_seen}
+use Rattle.af_life.specs.declared.kept.TrackKept.{TrackKept}
+use Rattle.af_life.specs.Kept.{Setup, Learnt, track_at, slot_number, nothing_seen, seen_at}
+use Rattle.af_life.specs.Serves.{LegalTrack, served, served_to}
+use Rattle.af_life.specs.Small.{AreSmall}
+use Rattle.af_life.proofs.Lives.{served_len, not_yet}
+
+-- what a turn did of the track of a number, by the program's list
+pub seen_is : (turns : List TrackTurn) (i : ℕ) (t : TrackTurn) → i < length turns → t ≡ slice_index_or turns i t → seen_at (map track_seen turns) i ≡ track_seen t
+seen_is turns i t there is = lists.get_or-map track_seen turns i t nothing_seen there ∙ ap track_seen (sym is)
+
+-- and how many looks it made
+pub few_looks : (turns : List TrackTurn) (i : ℕ) (t : TrackTurn) (looks : List CommandLook) → i < length turns → t ≡ slice_index_or turns i t → looks ≡ t.looks.items → length (seen_at (map track_seen turns) i).looks ≤ 64 → length looks ≤ 64
+few_looks turns i t looks there is of few = let a = ap (λ (x : TrackSeen). length x.looks) (seen_is turns i t there is) in let b = ap (λ (ls : List CommandLook). length ls) of in omega (arith, a, b, few)
+
+-- what holds of those before the next one and of that one holds of all up to it
+pub one_more : (P : ℕ → Type 0) (i : ℕ) → ((j : ℕ) → j < i → P j) → P i → (j : ℕ) → j < i + 1 → P j
+one_more P i all p j lt = by_case (nat_lt j i) refl
+  where
+    by_case : (b : Bool) → nat_lt j i ≡ b → P j
+    by_case true is = all j (grind (arith, nat_tests, is))
+    by_case false is = let same : i ≡ j = grind (arith, nat_tests, is, lt) in subst P same p
+
+-- `now` are the tracks once the first ones were served
+module _ (c : Setup) (k : Learnt) (seen : List TrackSeen) (tracks now : List TrackKept) (i : ℕ) (so_far : now ≡ served_to c k seen tracks i) where
+  pub as_many : length now ≡ length tracks
+  as_many = ap (λ (ts : List TrackKept). length ts) so_far ∙ served_len c k seen tracks i
+
+  -- the next one is as it was
+  track_is : track_at now i ≡ track_at tracks i
+  track_is = ap (λ (ts : List TrackKept). track_at ts i) so_far ∙ not_yet c k seen tracks i i (omega arith)
+
+  pub slot_there : (n m : ℕ) → AreSmall n m tracks → slot_number (track_at now i) < slots
+  slot_there n m small = let a = ap slot_number track_is in let b = (small i).slot in omega (arith, a, b)
+
+  pub settled_few : (n m : ℕ) → AreSmall n m tracks → (track_at now i).settled ≤ n
+  settled_few n m small = let a = ap (λ (t : TrackKept). t.settled) track_is in let b = (small i).settled in omega (arith, a, b)
+
+  pub next : (ts : List TrackKept) (looks : List CommandLook) (t : TrackKept) (j : ℕ) → ts ≡ now → looks ≡ (seen_at seen i).looks → t ≡ served c k looks ts i → j ≡ suc i → slice_set now i t ≡ served_to c k seen tracks j
+  next ts looks t j same seen_so is one =
+      ap (slice_set now i) (is ∙ ap (λ (ls : List CommandLook). served c k ls ts i) seen_so ∙ ap (λ (xs : List TrackKept). served c k (seen_at seen i).looks xs i) same)
+      ∙ ap (λ (xs : List TrackKept). slice_set xs i (served c k (seen_at seen i).looks xs i)) so_far
+      ∙ ap (served_to c k seen tracks) (sym one)
+
+  pub legal_so : (s : TrackSeen) (r : Bool) → s ≡ seen_at seen i → (IsTrue r ↔ LegalTrack c k s now i) → IsTrue r ↔ LegalTrack c k (seen_at seen i) (served_to c k seen tracks i) i
+  legal_so s r is legal = subst (λ (xs : List TrackKept). IsTrue r ↔ LegalTrack c k (seen_at seen i) xs i) so_far (subst (λ (x : TrackSeen). IsTrue r ↔ LegalTrack c k x now i) is legal)

@@ -1,0 +1,17 @@
+use Rattle.std.proofs.Common.{◌≡◌, ℕ, Bool, ◌==◌, ◌&&◌, ◌||◌, sym, ap, ◌∙◌, arith}
+use Rattle.std.specs.List.{range_with_len, list_any}
+use Rattle.af_base.specs.Log.{slots}
+use Rattle.af_model.specs.StateQueue.{carries, slot_of}
+use Rattle.af_judge.proofs.Ranges.{any_more}
+use Rattle.af_judge.proofs.fast_judge.carries_track.Goals as goal
+
+pub loop-slot-preserved : goal.loop-slot-preserved
+loop-slot-preserved c =
+    let p : ℕ → Bool = λ i. carries c.args.state.now i && ((slot_of c.args.state.now i).track == c.args.track) in
+    c.either-found.ensures ∙ ((λ j. c.loop-slot.invariant j || c.carries_in.ensures j) ∙ sym (any_more p c.loop-slot.slot))
+
+pub returns : goal.returns
+returns c =
+    let p : ℕ → Bool = λ i. carries c.args.state.now i && ((slot_of c.args.state.now i).track == c.args.track) in
+    let all : c.loop-slot.slot ≡ slots = omega arith in
+    c.loop-slot.invariant ∙ ap (λ n. list_any p (range_with_len 0 n)) all

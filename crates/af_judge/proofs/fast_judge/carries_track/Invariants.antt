@@ -1,0 +1,7 @@
+use Rattle.std.specs.List.{range_with_len, list_any}
+use Rattle.std.proofs.Common.{◌≡◌, ◌==◌, ◌&&◌}
+use Rattle.af_model.specs.StateQueue.{carries, slot_of}
+use Rattle.af_judge.proofs.fast_judge.carries_track.Given as goal
+
+abbrev pub invariant-loop-slot : goal.invariant-loop-slot
+invariant-loop-slot l = l.found ≡ list_any (λ i. carries l.state i && ((slot_of l.state i).track == l.track)) (range_with_len 0 l.slot)

@@ -1,0 +1,7 @@
+use Rattle.std.proofs.Common.{◌≡◌, if◌then◌else◌, map, take}
+use Rattle.af_life.specs.declared.kept.TrackKept.{TrackKept}
+use Rattle.af_life.specs.Edits.{welcomed}
+use Rattle.af_judge.proofs.normal_judge.NormalJudge.all_found.Given as goal
+
+abbrev pub invariant-loop-track : goal.invariant-loop-track
+invariant-loop-track l = l.tracks.items ≡ map (λ (t : TrackKept). if l.ack then welcomed l.self.last t else t) (take l.track-index l.track-items)

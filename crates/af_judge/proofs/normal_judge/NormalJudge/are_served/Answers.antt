@@ -1,0 +1,16 @@
+use Rattle.std.proofs.Common.{ap, ◌∙◌, length}
+use Rattle.af_life.specs.Plain.{learnt_of}
+use Rattle.af_life.specs.Edits.{after_ack}
+use Rattle.af_life.proofs.Lives.{acked_len}
+use Rattle.af_judge.specs.NormalJudged.{NormalJudged}
+use Rattle.af_judge.proofs.NormalKept.{found_small, served_so}
+use Rattle.af_judge.proofs.normal_judge.NormalJudge.are_served.Goals as goal
+
+pub are_served-requires-clause-small : goal.are_served-requires-clause-small
+are_served-requires-clause-small c = found_small c.args.self.now.plain.turns c.args.self.now.plain.setup c.args.self.now.plain.kept c.args.entry.now.ack c.in_ok-found.found.items c.requires.judged.small c.requires.turns c.in_ok-found.ensures
+
+pub returns : goal.returns
+returns c =
+    let m = c.args.self.now.plain.kept in
+    served_so c.self.inside.setup c.args.self.now.plain.setup (learnt_of c.args.report.now c.args.own.now) c.as_slice.result.now c.args.entry.now.tracks.items c.in_ok-found.found.items (after_ack c.args.entry.now.ack m).tracks (length m.tracks) c.are_served.result
+    (ap (λ (j : NormalJudged). j.setup) c.self.view_is ∙ c.requires.judged.setup) c.as_slice.ensures c.in_ok-found.ensures (acked_len c.args.entry.now.ack m) c.are_served.ensures

@@ -1,0 +1,16 @@
+use Rattle.std.proofs.Common.{◌≡◌, ◌↔◌, Bool, true, IsTrue, MatchBool, sym, ap, subst}
+use Rattle.std.specs.Prelude.{IfOk}
+use Rattle.af_base.specs.Turn.{turn_of, ended_turn}
+use Rattle.af_life.specs.Plain.{Plain}
+use Rattle.af_life.specs.Turn.{ends_now}
+use Rattle.af_judge.specs.NormalJudged.{NormalJudged}
+use Rattle.af_judge.specs.NormalTold.{RightTurn}
+use Rattle.af_judge.proofs.normal_judge.NormalJudge.turn.Goals as goal
+
+pub returns-clause-right : goal.returns-clause-right
+returns-clause-right c =
+    let P : Plain → Type 0 = λ p. IfOk c.go_on.result (λ right. IsTrue right ↔ RightTurn p.setup c.args.report.now c.args.tracks.now p.kept (turn_of c.args.entry.now)) in
+    let m = c.args.self.now.plain.kept in
+    let Q : Bool → Type 0 = λ b. IfOk c.go_on.result (λ right. IsTrue right ↔ MatchBool b ((ends_now m c.args.entry.now.ack ≡ true) × (turn_of c.args.entry.now ≡ ended_turn))
+    (RightTurn c.args.self.now.plain.setup c.args.report.now c.args.tracks.now m (turn_of c.args.entry.now))) in
+    subst Q (sym c.if-entry.false) (subst P (ap (λ (j : NormalJudged). j.plain) c.self.view_is) c.go_on.ensures.right)

@@ -1,0 +1,5 @@
+mod Begun
+pub mod RunGrows
+pub mod RoundEntries
+mod RunChecks
+mod CutExample

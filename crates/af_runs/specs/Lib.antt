@@ -1,0 +1,15 @@
+pub mod Clients
+pub mod ClientTurns
+pub mod Kept
+pub mod Sessions
+pub mod Blocks
+pub mod Fronts
+pub mod Told
+pub mod Found
+pub mod Runs
+pub mod Rounds
+pub mod LegalRuns
+pub mod TurnRuns
+pub mod Pcm
+pub mod Summed
+pub mod KeptLists
