@@ -10,7 +10,7 @@ use Rattle.af_player.specs.declared.status.Status.{Status}
 use Rattle.af_player.specs.declared.status.Status.TheVariants as status
 use Rattle.af_player.specs.declared.status.Stop.{Stop}
 use Rattle.af_player.specs.declared.status.Stop.TheVariants.{Over}
-use Rattle.af_player.specs.Asked.{Job, Work, Exact, Session, Rounds, Judge}
+use Rattle.af_player.specs.Asked.{Job, Work, Exact, Session, Rounds, Judge, Traced}
 use Rattle.af_player.specs.Ends.{AsksEnding, EndsAsAsked, EndsWork, IsCutOff, IsEnded, IsOver, LeavesWork, Printed, Prints, PrintsFront, PrintsOwnLine, PrintsSomeLine, RefusesWork, Renders, Works, work_limit}
 use Rattle.af_player.specs.Line.{ending_text, limit_text}
 use Rattle.af_player.specs.Requests.{Request}
@@ -27,9 +27,12 @@ leaves_ended (Limit cycles) (Session script files) target old new none = absurd 
 leaves_ended (Limit cycles) (Judge script files pcm text) target old new none = absurd none
 leaves_ended (Limit cycles) (Rounds script files journal) target old new (is, (bytes, text, play, set)) =
     inr (false, bytes, text, limit_text cycles, play, LeavesFront-whole _ journal text new set)
+leaves_ended (Limit cycles) (Traced script files journal log room) target old new (is, (bytes, text, play, set)) =
+    inl (inr (false, bytes, text, limit_text cycles, play, LeavesFront-whole _ journal text new set))
 leaves_ended (Judged refusal) (Exact bytes line) target old new none = absurd none
 leaves_ended (Judged refusal) (Session script files) target old new none = absurd none
 leaves_ended (Judged refusal) (Rounds script files journal) target old new none = absurd none
+leaves_ended (Judged refusal) (Traced script files journal log room) target old new none = absurd none
 leaves_ended (Judged refusal) (Judge script files pcm text) target old new ended = ended.1
 
 pub IsCutOff-ended : (ending : Ending) (asked : Result Job Refusal) (old new : Files) → IsEnded ending asked old new → IsCutOff asked old new
@@ -50,6 +53,7 @@ limit_is cycles (Exact bytes line) target old new none = absurd none
 limit_is cycles (Session script files) target old new none = absurd none
 limit_is cycles (Judge script files pcm text) target old new none = absurd none
 limit_is cycles (Rounds script files journal) target old new limited = ap Some (sym limited.0)
+limit_is cycles (Traced script files journal log room) target old new limited = ap Some (sym limited.0)
 
 -- ## The status of an ending
 
@@ -74,6 +78,7 @@ refuses : (work : Work) (target : List ℕ) (old new : Files) → (ending : Endi
 refuses work target old new (Limit cycles) ended = inr (limit_is cycles work target old new ended)
 refuses (Judge script files pcm text) target old new (Judged refusal) ended = inr ended.0
 refuses (Rounds script files journal) target old new (Judged refusal) none = absurd none
+refuses (Traced script files journal log room) target old new (Judged refusal) none = absurd none
 refuses (Session script files) target old new (Judged refusal) none = absurd none
 refuses (Exact bytes line) target old new (Judged refusal) none = absurd none
 

@@ -25,7 +25,7 @@ module _ (ended : Bool) (l : Loaded) (journal : JournalData) (ends : EndsState) 
   abbrev bytes : List ℕ
   bytes = journal_pcm l.script.frames journal
 
-  is_play : (line : List ℕ) → line ≡ run_line ended l.script journal ends → IsPlay ended l.script l.files bytes (text_of journal) line
+  pub is_play : (line : List ℕ) → line ≡ run_line ended l.script journal ends → IsPlay ended l.script l.files bytes (text_of journal) line
   is_play line is = record { journal = journal; ends = ends; run = back; bytes_are = refl; text_is = refl; line_is = is }
 
   module _ (target name : List ℕ) (old mid : Files) (set : SetsFile old target (Some bytes) mid) where
@@ -55,7 +55,7 @@ module _ (ended : Bool) (l : Loaded) (journal : JournalData) (ends : EndsState) 
 -- ## A run in which all parties have ended
 
 module _ (l : Loaded) (journal : JournalData) (ends : EndsState) (back : HandsBackRun true l.script l.files journal ends) (summary : Summary) (summary_is : summary ≡ summary_told l.script.frames journal ends) where
-  line_told : (line : List ℕ) → line ≡ summary_line summary → line ≡ run_line true l.script journal ends
+  pub line_told : (line : List ℕ) → line ≡ summary_line summary → line ≡ run_line true l.script journal ends
   line_told line is = is ∙ ap summary_line summary_is
 
   pub some_play_line : (line : List ℕ) → line ≡ summary_line summary → IsSomePlayLine line

@@ -22,6 +22,7 @@ use Rattle.af_player.proofs.LoopWords.{built_loop, loop_fits, loop_strays}
 use Rattle.af_player.proofs.GenerateWords.{built_generate, generate_fits, generate_strays}
 use Rattle.af_player.proofs.PlayWords.{built_play, play_fits, play_strays}
 use Rattle.af_player.proofs.VerifyWords.{built_verify, verify_fits, verify_strays}
+use Rattle.af_player.proofs.TraceWords.{built_trace, trace_fits, trace_strays}
 
 -- the command is one of those whose matches and faults are told
 pub player_told : is_simple_and_free player_words ≡ true
@@ -43,9 +44,10 @@ record IsStray (word : Text) : Type 0 where
   no_generate : bytes_eq (codes "generate") word ≡ false
   no_play : bytes_eq (codes "play") word ≡ false
   no_verify : bytes_eq (codes "verify") word ≡ false
+  no_trace : bytes_eq (codes "trace") word ≡ false
 
 no_label : (word : Text) → IsStray word → subcommand_met labels idle word ≡ None
-no_label word other = rw (other.no_render, other.no_record, other.no_loop, other.no_generate, other.no_play, other.no_verify) refl
+no_label word other = rw (other.no_render, other.no_record, other.no_loop, other.no_generate, other.no_play, other.no_verify, other.no_trace) refl
 
 abbrev top_turn : Option Text → Text → Kinds
 top_turn met word = or_else (other_fault top met word nothing_held)
@@ -95,6 +97,10 @@ stops_verify : (rest : List Text) → (walk top.rules labels nothing_held (codes
 unfolding walked
 stops_verify rest = ap (λ (w : Walk). w.stopped) (sym (walk_stopped top.rules labels start (codes "verify") [] rest))
 
+stops_trace : (rest : List Text) → (walk top.rules labels nothing_held (codes "trace" ∷ rest)).stopped ≡ Some (codes "trace", rest)
+unfolding walked
+stops_trace rest = ap (λ (w : Walk). w.stopped) (sym (walk_stopped top.rules labels start (codes "trace") [] rest))
+
 -- where no word fails, none of the subcommand's does
 entered_passes : (words : List Text) → fault_of player_words words ≡ [] → entered_fault (built player_words) (walk top.rules labels nothing_held words).stopped ≡ []
 entered_passes words none =
@@ -119,6 +125,9 @@ play_below rest none = ap (λ (o : Option (Text × List Text)). entered_fault (b
 
 verify_below : (rest : List Text) → fault_of player_words (codes "verify" ∷ rest) ≡ [] → level_fault built_verify [] nothing_held rest false [] ≡ []
 verify_below rest none = ap (λ (o : Option (Text × List Text)). entered_fault (built player_words) o) (sym (stops_verify rest)) ∙ entered_passes (codes "verify" ∷ rest) none
+
+trace_below : (rest : List Text) → fault_of player_words (codes "trace" ∷ rest) ≡ [] → level_fault built_trace [] nothing_held rest false [] ≡ []
+trace_below rest none = ap (λ (o : Option (Text × List Text)). entered_fault (built player_words) o) (sym (stops_trace rest)) ∙ entered_passes (codes "trace" ∷ rest) none
 
 render_words_fit : (rest : List Text) → list_any begins_dash rest ≡ false → fault_of player_words (codes "render" ∷ rest) ≡ []
     → matched_request (subcommand_of player_words (codes "render" ∷ rest)) ≡ command_request (codes "render" ∷ rest)
@@ -150,6 +159,11 @@ verify_words_fit : (rest : List Text) → list_any begins_dash rest ≡ false �
 verify_words_fit rest plain none =
     ap (λ (o : Option (Text × List Text)). matched_request (entered (built player_words) o)) (stops_verify rest) ∙ verify_fits rest plain (verify_below rest none)
 
+trace_words_fit : (rest : List Text) → list_any begins_dash rest ≡ false → fault_of player_words (codes "trace" ∷ rest) ≡ []
+    → matched_request (subcommand_of player_words (codes "trace" ∷ rest)) ≡ command_request (codes "trace" ∷ rest)
+trace_words_fit rest plain none =
+    ap (λ (o : Option (Text × List Text)). matched_request (entered (built player_words) o)) (stops_trace rest) ∙ trace_fits rest plain (trace_below rest none)
+
 -- words that begin with this one have the request that is asked for
 abbrev Fits : List Text → Text → Type 0
 Fits rest word = matched_request (subcommand_of player_words (word ∷ rest)) ≡ command_request (word ∷ rest)
@@ -158,29 +172,32 @@ Fits rest word = matched_request (subcommand_of player_words (word ∷ rest)) �
 words_fit : (words : List Text) → list_any begins_dash words ≡ false → fault_of player_words words ≡ [] → matched_request (subcommand_of player_words words) ≡ command_request words
 words_fit [] plain none = refl
 words_fit (word ∷ rest) plain none =
-    go (bytes_eq (codes "render") word) refl (bytes_eq (codes "record") word) refl (bytes_eq (codes "loop") word) refl (bytes_eq (codes "generate") word) refl (bytes_eq (codes "play") word) refl (bytes_eq (codes "verify") word) refl
+    go (bytes_eq (codes "render") word) refl (bytes_eq (codes "record") word) refl (bytes_eq (codes "loop") word) refl (bytes_eq (codes "generate") word) refl (bytes_eq (codes "play") word) refl (bytes_eq (codes "verify") word) refl (bytes_eq (codes "trace") word) refl
     (neither (begins_dash word) (list_any begins_dash rest) plain)
   where
     go : (a : Bool) → bytes_eq (codes "render") word ≡ a → (b : Bool) → bytes_eq (codes "record") word ≡ b → (l : Bool) → bytes_eq (codes "loop") word ≡ l
-        → (g : Bool) → bytes_eq (codes "generate") word ≡ g → (p : Bool) → bytes_eq (codes "play") word ≡ p → (v : Bool) → bytes_eq (codes "verify") word ≡ v → (begins_dash word ≡ false) × (list_any begins_dash rest ≡ false) → Fits rest word
-    go false a false b false l false g false p false v behind =
-        absurd (stray_first word rest behind.0 (record { no_render = a; no_record = b; no_loop = l; no_generate = g; no_play = p; no_verify = v }) none)
-    go false a false b false l false g false p true v behind =
+        → (g : Bool) → bytes_eq (codes "generate") word ≡ g → (p : Bool) → bytes_eq (codes "play") word ≡ p → (v : Bool) → bytes_eq (codes "verify") word ≡ v → (t : Bool) → bytes_eq (codes "trace") word ≡ t → (begins_dash word ≡ false) × (list_any begins_dash rest ≡ false) → Fits rest word
+    go false a false b false l false g false p false v false t behind =
+        absurd (stray_first word rest behind.0 (record { no_render = a; no_record = b; no_loop = l; no_generate = g; no_play = p; no_verify = v; no_trace = t }) none)
+    go false a false b false l false g false p false v true t behind =
+        let is : codes "trace" ≡ word = (bytes_eq-Decides (codes "trace") word).0 t in
+        subst (Fits rest) is (trace_words_fit rest behind.1 (subst (λ (w : Text). fault_of player_words (w ∷ rest) ≡ []) (sym is) none))
+    go false a false b false l false g false p true v seventh seven behind =
         let is : codes "verify" ≡ word = (bytes_eq-Decides (codes "verify") word).0 v in
         subst (Fits rest) is (verify_words_fit rest behind.1 (subst (λ (w : Text). fault_of player_words (w ∷ rest) ≡ []) (sym is) none))
-    go false a false b false l false g true p sixth six behind =
+    go false a false b false l false g true p sixth six seventh seven behind =
         let is : codes "play" ≡ word = (bytes_eq-Decides (codes "play") word).0 p in
         subst (Fits rest) is (play_words_fit rest behind.1 (subst (λ (w : Text). fault_of player_words (w ∷ rest) ≡ []) (sym is) none))
-    go false a false b false l true g fifth last sixth six behind =
+    go false a false b false l true g fifth last sixth six seventh seven behind =
         let is : codes "generate" ≡ word = (bytes_eq-Decides (codes "generate") word).0 g in
         subst (Fits rest) is (generate_words_fit rest behind.1 (subst (λ (w : Text). fault_of player_words (w ∷ rest) ≡ []) (sym is) none))
-    go false a false b true l fourth other fifth last sixth six behind =
+    go false a false b true l fourth other fifth last sixth six seventh seven behind =
         let is : codes "loop" ≡ word = (bytes_eq-Decides (codes "loop") word).0 l in
         subst (Fits rest) is (loop_words_fit rest behind.1 (subst (λ (w : Text). fault_of player_words (w ∷ rest) ≡ []) (sym is) none))
-    go false a true b third same fourth other fifth last sixth six behind =
+    go false a true b third same fourth other fifth last sixth six seventh seven behind =
         let is : codes "record" ≡ word = (bytes_eq-Decides (codes "record") word).0 b in
         subst (Fits rest) is (record_words_fit rest behind.1 (subst (λ (w : Text). fault_of player_words (w ∷ rest) ≡ []) (sym is) none))
-    go true a second same third other fourth more fifth last sixth six behind =
+    go true a second same third other fourth more fifth last sixth six seventh seven behind =
         let is : codes "render" ≡ word = (bytes_eq-Decides (codes "render") word).0 a in
         subst (Fits rest) is (render_words_fit rest behind.1 (subst (λ (w : Text). fault_of player_words (w ∷ rest) ≡ []) (sym is) none))
 
@@ -188,30 +205,33 @@ words_fit (word ∷ rest) plain none =
 words_stray : (words : List Text) → list_any begins_dash words ≡ false → (fault_of player_words words ≡ [] → ⊥) → command_request words ≡ None
 words_stray [] plain fails = refl
 words_stray (word ∷ rest) plain fails =
-    go (bytes_eq word (codes "render")) refl (bytes_eq word (codes "record")) refl (bytes_eq word (codes "loop")) refl (bytes_eq word (codes "generate")) refl (bytes_eq word (codes "play")) refl (bytes_eq word (codes "verify")) refl
+    go (bytes_eq word (codes "render")) refl (bytes_eq word (codes "record")) refl (bytes_eq word (codes "loop")) refl (bytes_eq word (codes "generate")) refl (bytes_eq word (codes "play")) refl (bytes_eq word (codes "verify")) refl (bytes_eq word (codes "trace")) refl
   where
     behind : list_any begins_dash rest ≡ false
     behind = (neither (begins_dash word) (list_any begins_dash rest) plain).1
 
     go : (a : Bool) → bytes_eq word (codes "render") ≡ a → (b : Bool) → bytes_eq word (codes "record") ≡ b → (l : Bool) → bytes_eq word (codes "loop") ≡ l
-        → (g : Bool) → bytes_eq word (codes "generate") ≡ g → (p : Bool) → bytes_eq word (codes "play") ≡ p → (v : Bool) → bytes_eq word (codes "verify") ≡ v → command_request (word ∷ rest) ≡ None
-    go false a false b false l false g false p false v = rw (a, b, l, g, p, v) refl
-    go false a false b false l false g false p true v =
+        → (g : Bool) → bytes_eq word (codes "generate") ≡ g → (p : Bool) → bytes_eq word (codes "play") ≡ p → (v : Bool) → bytes_eq word (codes "verify") ≡ v → (t : Bool) → bytes_eq word (codes "trace") ≡ t → command_request (word ∷ rest) ≡ None
+    go false a false b false l false g false p false v false t = rw (a, b, l, g, p, v, t) refl
+    go false a false b false l false g false p false v true t =
+        let is : word ≡ codes "trace" = (bytes_eq-Decides word (codes "trace")).0 t in
+        rw (a, b, l, g, p, v, t) (trace_strays rest behind (subst (λ (w : Text). fault_of player_words (w ∷ rest) ≡ [] → ⊥) is fails))
+    go false a false b false l false g false p true v seventh seven =
         let is : word ≡ codes "verify" = (bytes_eq-Decides word (codes "verify")).0 v in
         rw (a, b, l, g, p, v) (verify_strays rest behind (subst (λ (w : Text). fault_of player_words (w ∷ rest) ≡ [] → ⊥) is fails))
-    go false a false b false l false g true p sixth six =
+    go false a false b false l false g true p sixth six seventh seven =
         let is : word ≡ codes "play" = (bytes_eq-Decides word (codes "play")).0 p in
         rw (a, b, l, g, p) (play_strays rest behind (subst (λ (w : Text). fault_of player_words (w ∷ rest) ≡ [] → ⊥) is fails))
-    go false a false b false l true g fifth last sixth six =
+    go false a false b false l true g fifth last sixth six seventh seven =
         let is : word ≡ codes "generate" = (bytes_eq-Decides word (codes "generate")).0 g in
         rw (a, b, l, g) (generate_strays rest behind (subst (λ (w : Text). fault_of player_words (w ∷ rest) ≡ [] → ⊥) is fails))
-    go false a false b true l fourth other fifth last sixth six =
+    go false a false b true l fourth other fifth last sixth six seventh seven =
         let is : word ≡ codes "loop" = (bytes_eq-Decides word (codes "loop")).0 l in
         rw (a, b, l) (loop_strays rest behind (subst (λ (w : Text). fault_of player_words (w ∷ rest) ≡ [] → ⊥) is fails))
-    go false a true b third same fourth other fifth last sixth six =
+    go false a true b third same fourth other fifth last sixth six seventh seven =
         let is : word ≡ codes "record" = (bytes_eq-Decides word (codes "record")).0 b in
         rw (a, b) (record_strays rest behind (subst (λ (w : Text). fault_of player_words (w ∷ rest) ≡ [] → ⊥) is fails))
-    go true a second same third other fourth more fifth last sixth six =
+    go true a second same third other fourth more fifth last sixth six seventh seven =
         let is : word ≡ codes "render" = (bytes_eq-Decides word (codes "render")).0 a in
         rw a (render_strays rest behind (subst (λ (w : Text). fault_of player_words (w ∷ rest) ≡ [] → ⊥) is fails))
 

@@ -18,7 +18,7 @@ use Rattle.af_player.specs.declared.status.Role.TheVariants as role
 use Rattle.af_player.specs.declared.status.Why.TheVariants.{Missing, Long, Ragged, Short, Total}
 use Rattle.af_player.specs.declared.request.Sizes.{Sizes}
 use Rattle.af_player.specs.declared.request.Turns.{Turns}
-use Rattle.af_player.specs.Requests.{Request, Render, Record, Loop, Generate, Play, Verify, request_of}
+use Rattle.af_player.specs.Requests.{Request, Render, Record, Loop, Generate, Play, Verify, Trace, request_of}
 use Rattle.af_player.specs.Recorded.{heard, recorded, counts_of}
 use Rattle.af_player.specs.Looped.{most_buffer, looped, rolls_of}
 use Rattle.af_player.specs.Generated.{generated_files, generated_frames}
@@ -34,12 +34,13 @@ Err refusal >>= next = Err refusal
 abbrev pub then_cons : {X : Type 0} → X → Result (List X) Refusal → Result (List X) Refusal
 then_cons x rest = rest >>= (λ xs. Ok (x ∷ xs))
 
--- what is to be made: these bytes and this line, or what the turns of a script come to with the frames of its tracks' files, or what its parties come to in rounds, with the journal in a file of this name; or a sound and the text of its journal are judged by a script and the frames of its tracks' files, and nothing is made
+-- what is to be made: these bytes and this line, or what the turns of a script come to with the frames of its tracks' files, or what its parties come to in rounds, with the journal in a file of this name; or the same with the log, which has this room, in another; or a sound and the text of its journal are judged by a script and the frames of its tracks' files, and nothing is made
 pub data Work : Type 0 where
   Exact : List ℕ → List ℕ → Work
   Session : ScriptData → List (List Frame) → Work
   Rounds : ScriptData → List (List Frame) → List ℕ → Work
   Judge : ScriptData → List (List Frame) → List ℕ → List ℕ → Work
+  Traced : ScriptData → List (List Frame) → List ℕ → List ℕ → ℕ → Work
 
 -- the files that are made first, the output's name, and what is to be made
 pub record Job : Type 0 where
@@ -131,6 +132,10 @@ pub record Case : Type 0 where
 abbrev pub verify_job : List ℕ → Case → Job
 verify_job sound c = record { first = []; target = sound; work = Judge c.loaded.script c.loaded.files c.pcm c.text }
 
+-- the same, with its log in a file of another
+abbrev pub trace_job : List ℕ → List ℕ → List ℕ → ℕ → Loaded → Job
+trace_job target journal log room l = record { first = []; target = target; work = Traced l.script l.files journal log room }
+
 -- ## Recordings and loops
 
 -- the frames of a file that is recorded
@@ -183,6 +188,10 @@ case_of files script sound journal =
 abbrev pub verify_asked : Files → List ℕ → List ℕ → List ℕ → Result Job Refusal
 verify_asked files script sound journal = case_of files script sound journal >>= (λ c. Ok (verify_job sound c))
 
+-- the same with a log, of this name and this room
+abbrev pub trace_asked : Files → List ℕ → List ℕ → List ℕ → List ℕ → ℕ → Result Job Refusal
+trace_asked files script target journal log room = loaded_of files script >>= (λ l. Ok (trace_job target journal log room l))
+
 -- what is made of a file that is recorded
 abbrev pub record_asked : Files → List ℕ → List ℕ → Sizes → Result Job Refusal
 record_asked files input target sizes = recorded_from files input >>= (λ frames. Ok (record_job target sizes frames))
@@ -199,6 +208,7 @@ job_of files (Loop input target turns) = loop_asked files input target turns
 job_of files (Generate number script target) = Ok (generated_job number script target)
 job_of files (Play script target journal) = play_asked files script target journal
 job_of files (Verify script sound journal) = verify_asked files script sound journal
+job_of files (Trace script target journal log room) = trace_asked files script target journal log room
 
 -- what the words ask for
 abbrev pub asked_of : Files → List (List ℕ) → Result Job Refusal

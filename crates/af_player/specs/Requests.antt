@@ -8,7 +8,7 @@ use Rattle.af_player.specs.declared.request.Sizes.{Sizes}
 use Rattle.af_player.specs.declared.request.Turns.{Turns}
 use Rattle.af_player.specs.Dash.{begins_dash}
 
--- a script and an output to render it to; a file to record, an output, and the sizes of the recording; a file to loop, an output, and the turns of the loop; the number of a session, a file for its script, and an output; a script, an output to play it to, and a file for its journal; a script, and the files of a sound and of a journal to be judged
+-- a script and an output to render it to; a file to record, an output, and the sizes of the recording; a file to loop, an output, and the turns of the loop; the number of a session, a file for its script, and an output; a script, an output to play it to, and a file for its journal; the same, with a file for its log and the room of the log; a script, and the files of a sound and of a journal to be judged
 pub data Request : Type 0 where
   Render : List ℕ → List ℕ → Request
   Record : List ℕ → List ℕ → Sizes → Request
@@ -16,6 +16,7 @@ pub data Request : Type 0 where
   Generate : ℕ → List ℕ → List ℕ → Request
   Play : List ℕ → List ℕ → List ℕ → Request
   Verify : List ℕ → List ℕ → List ℕ → Request
+  Trace : List ℕ → List ℕ → List ℕ → List ℕ → ℕ → Request
 
 -- two names of files that differ
 abbrev pub two_names : List ℕ → List ℕ → Option (List ℕ × List ℕ)
@@ -25,6 +26,15 @@ two_names first second = if (is_name first && is_name second) && not (bytes_eq f
 abbrev pub are_three_names : List ℕ → List ℕ → List ℕ → Bool
 are_three_names first second third =
     ((((is_name first && is_name second) && is_name third) && not (bytes_eq first second)) && not (bytes_eq first third)) && not (bytes_eq second third)
+
+-- four names of files, no two alike
+abbrev pub are_four_names : List ℕ → List ℕ → List ℕ → List ℕ → Bool
+are_four_names first second third fourth =
+    (((are_three_names first second third && is_name fourth) && not (bytes_eq first fourth)) && not (bytes_eq second fourth)) && not (bytes_eq third fourth)
+
+-- for how many notes a log has room
+abbrev pub room_of : List ℕ → Option ℕ
+room_of text = number_within 1 1024 text
 
 -- the sizes that these words spell: room for 1 to 8192 frames, and 1 to 1024 frames in each supply and each read
 abbrev pub sizes_of : List ℕ → List ℕ → List ℕ → Option Sizes
@@ -81,6 +91,11 @@ abbrev pub verify_request : List (List ℕ) → Option Request
 verify_request (script ∷ sound ∷ journal ∷ []) = if are_three_names script sound journal then Some (Verify script sound journal) else None
 verify_request words = None
 
+-- `trace SCRIPT OUT JOURNAL LOG ROOM`
+abbrev pub trace_request : List (List ℕ) → Option Request
+trace_request (script ∷ target ∷ journal ∷ log ∷ room ∷ []) = if are_four_names script target journal log then option_map (λ n. Trace script target journal log n) (room_of room) else None
+trace_request words = None
+
 -- the command and its words
 abbrev pub command_request : List (List ℕ) → Option Request
 command_request [] = None
@@ -91,6 +106,7 @@ command_request (command ∷ words) =
     else if bytes_eq command (codes "generate") then generate_request words
     else if bytes_eq command (codes "play") then play_request words
     else if bytes_eq command (codes "verify") then verify_request words
+    else if bytes_eq command (codes "trace") then trace_request words
     else None
 
 -- the request of words none of which begins with `-`

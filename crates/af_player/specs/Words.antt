@@ -3,7 +3,7 @@ use Rattle.std.specs.Prelude.{ℕ, true, false, List, [], ◌∷◌, ◌++◌, c
 use Rattle.std.specs.Str.{bytes_eq}
 use Rattle.clap.specs.Walk.{Row, Rule, Text, first_of}
 use Rattle.clap.specs.Simple.{App, Shape, new_rule, new_shape}
-use Rattle.af_player.specs.Requests.{Request, render_request, record_request, loop_request, generate_request, play_request, verify_request}
+use Rattle.af_player.specs.Requests.{Request, render_request, record_request, loop_request, generate_request, play_request, verify_request, trace_request}
 
 -- an argument that can't be left out
 abbrev pub needed : List ℕ → Rule
@@ -41,6 +41,10 @@ play_words = record (new_shape (codes "play")) { rules = needed (codes "script")
 abbrev pub verify_words : Shape
 verify_words = record (new_shape (codes "verify")) { rules = needed (codes "script") ∷ needed (codes "out") ∷ needed (codes "journal") ∷ [] }
 
+-- the subcommand `trace SCRIPT OUT JOURNAL LOG ROOM`
+abbrev pub trace_words : Shape
+trace_words = record (new_shape (codes "trace")) { rules = needed (codes "script") ∷ needed (codes "out") ∷ needed (codes "journal") ∷ needed (codes "log") ∷ needed (codes "room") ∷ [] }
+
 -- a command with subcommands of its own, and no help
 abbrev pub bare_words : App
 bare_words = record {
@@ -63,7 +67,7 @@ player_words = record {
     disable_help_subcommand = true;
     subcommand_required = true;
   };
-  subs = render_words ∷ record_words ∷ loop_words ∷ generate_words ∷ play_words ∷ verify_words ∷ [];
+  subs = render_words ∷ record_words ∷ loop_words ∷ generate_words ∷ play_words ∷ verify_words ∷ trace_words ∷ [];
 }
 
 -- the value of an argument, and what is made of it
@@ -101,6 +105,12 @@ abbrev pub verify_met : List Row → Option Request
 verify_met rows =
     with_value (codes "script") rows (λ script. with_value (codes "out") rows (λ sound. with_value (codes "journal") rows (λ journal. verify_request (script ∷ sound ∷ journal ∷ []))))
 
+-- the request among the matches of `trace`
+abbrev pub trace_met : List Row → Option Request
+trace_met rows =
+    with_value (codes "script") rows (λ script. with_value (codes "out") rows (λ target. with_value (codes "journal") rows (λ journal. with_value (codes "log") rows (λ log. with_value (codes "room") rows (λ room.
+    trace_request (script ∷ target ∷ journal ∷ log ∷ room ∷ []))))))
+
 -- the request among the matches of a subcommand
 abbrev pub matched_request : Option (Text × List Row) → Option Request
 matched_request None = None
@@ -111,4 +121,5 @@ matched_request (Some met) =
     else if bytes_eq met.0 (codes "generate") then generate_met met.1
     else if bytes_eq met.0 (codes "play") then play_met met.1
     else if bytes_eq met.0 (codes "verify") then verify_met met.1
+    else if bytes_eq met.0 (codes "trace") then trace_met met.1
     else None

@@ -31,7 +31,7 @@ fn text_of(alloc: Global, journal: &Journal) -> Result<Vec<u8>, Memory>
 }
 
 /// Makes the file of a journal anew, with its text as one piece.
-fn write_journal<S: Store>(
+pub(crate) fn write_journal<S: Store>(
     alloc: Global,
     store: &mut S,
     name: &str,
@@ -39,6 +39,7 @@ fn write_journal<S: Store>(
 ) -> Result<(), StoreError>
     ensures written { S.told store.old → OnOk result (SetsFile (S.files store.old) name.now (Some (text_of journal.now)) (S.files store.new)) }
     ensures left { S.told store.old → OnErr result (LeavesFront (S.files store.old) name.now (text_of journal.now) (S.files store.new)) }
+    ensures tells { S.told store.old → S.told store.new }
     ensures cause { HasCause (S.faults store.old) (S.faults store.new) result }
 {
     let text = text_of(alloc, journal)?;

@@ -56,4 +56,12 @@ pub enum Request<'a> {
         sound: &'a str,
         journal: &'a str,
     },
+    /// The same, with the file of its log, and for how many notes the log has room.
+    Trace {
+        script: &'a str,
+        target: &'a str,
+        journal: &'a str,
+        log: &'a str,
+        room: u32,
+    },
 }

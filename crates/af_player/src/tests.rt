@@ -20,7 +20,7 @@ const SECOND: &str =
     "version = 2\nframes = 2\nnormal = 1\ncycles = 100\nturns = [\"c 0\", \"n\", \"c 0\", \"f 1\"]\n[[track]]\nkind = \"fast\"\nframes = 8\nchannels = 2\nfile = \"in.pcm\"\nops = [\"open\", \"start\", \"write 2\"]\n";
 
 const USAGE: &str =
-    "usage: render SCRIPT OUT or play SCRIPT OUT JOURNAL or verify SCRIPT OUT JOURNAL or generate NUMBER SCRIPT OUT or record IN OUT N F K or loop IN OUT F K START END COUNT\n";
+    "usage: render SCRIPT OUT or play SCRIPT OUT JOURNAL or verify SCRIPT OUT JOURNAL or generate NUMBER SCRIPT OUT or record IN OUT N F K or loop IN OUT F K START END COUNT or trace SCRIPT OUT JOURNAL LOG ROOM\n";
 
 pub(crate) const RENDER: &str = "render one.toml out.pcm";
 

@@ -1,5 +1,5 @@
 //! The words after the program's name, read by a simple command of `clap` with subcommands.
-ghost use Rattle.std.specs.Prelude.{◌≡◌, ◌∷◌, ◌<◌, ◌^◌, [], false, map, option_map, IfOk, IfSome, string_bytes};
+ghost use Rattle.std.specs.Prelude.{◌≡◌, ◌∷◌, ◌<◌, ◌≤◌, ◌^◌, [], false, map, option_map, IfOk, IfSome, string_bytes};
 ghost use Rattle.std.specs.List.{list_any};
 ghost use Rattle.clap.specs.Words.{app_of, first_of, found_of, rows_of, rule_of, shape_of, subcommand_rows_of, with_subcommand};
 ghost use Rattle.clap.specs.declared.builder.command.Command.TheViews.{out-Command};
@@ -7,8 +7,8 @@ ghost use Rattle.af_player.specs.Asking.{request_view, IsSound};
 ghost use Rattle.af_player.specs.Captured.{AreSizes};
 ghost use Rattle.af_player.specs.Dash.{begins_dash};
 ghost use Rattle.af_player.specs.Looped.{AreTurns};
-ghost use Rattle.af_player.specs.Requests.{is_drawn, are_three_names, free_names, number_of, request_of, sizes_of, turns_of, two_names};
-ghost use Rattle.af_player.specs.Words.{needed, with_rules, bare_words, render_words, record_words, loop_words, generate_words, play_words, verify_words, player_words, render_met, record_met, loop_met, generate_met, play_met, verify_met, matched_request};
+ghost use Rattle.af_player.specs.Requests.{is_drawn, are_three_names, are_four_names, room_of, free_names, number_of, request_of, sizes_of, turns_of, two_names};
+ghost use Rattle.af_player.specs.Words.{needed, with_rules, bare_words, render_words, record_words, loop_words, generate_words, play_words, verify_words, trace_words, player_words, render_met, record_met, loop_met, generate_met, play_met, verify_met, trace_met, matched_request};
 
 use crate::request::{Request, Sizes, Turns};
 use af_script::{GENERATED_TRACKS, generated_name, is_name, number_within};
@@ -120,6 +120,18 @@ fn verify_command<'a>(alloc: Global) -> Result<Command<'a>, AllocError>
     with_needed(alloc, command, "journal")
 }
 
+/// The subcommand `trace SCRIPT OUT JOURNAL LOG ROOM`.
+fn trace_command<'a>(alloc: Global) -> Result<Command<'a>, AllocError>
+    ensures shape { IfOk result (λ command. shape_of command ≡ trace_words) }
+    ensures local { IfOk result (λ command. (out-Command command).has_globals ≡ false) }
+{
+    let command = with_needed(alloc, Command::new(alloc, "trace"), "script")?;
+    let command = with_needed(alloc, command, "out")?;
+    let command = with_needed(alloc, command, "journal")?;
+    let command = with_needed(alloc, command, "log")?;
+    with_needed(alloc, command, "room")
+}
+
 /// The command before its subcommands, without help.
 fn bare_command<'a>(alloc: Global) -> Command<'a>
     ensures { app_of result ≡ bare_words }
@@ -148,7 +160,8 @@ fn player_command<'a>(alloc: Global) -> Result<Command<'a>, AllocError>
     let command = with_sub(command, loop_command(alloc)?)?;
     let command = with_sub(command, generate_command(alloc)?)?;
     let command = with_sub(command, play_command(alloc)?)?;
-    with_sub(command, verify_command(alloc)?)
+    let command = with_sub(command, verify_command(alloc)?)?;
+    with_sub(command, trace_command(alloc)?)
 }
 
 /// Two names of files that differ.
@@ -206,6 +219,25 @@ fn are_three_names(first: &str, second: &str, third: &str) -> bool
         && first != second
         && first != third
         && second != third
+}
+
+/// Whether these are four names of files, no two alike.
+fn are_four_names(first: &str, second: &str, third: &str, fourth: &str) -> bool
+    ensures { result ≡ are_four_names first.now second.now third.now fourth.now }
+{
+    are_three_names(first, second, third)
+        && is_name(fourth)
+        && first != fourth
+        && second != fourth
+        && third != fourth
+}
+
+/// For how many notes a log has room, by the word that spells it.
+fn room_of(word: &str) -> Option<u32>
+    ensures value { result ≡ room_of word.now }
+    ensures bound { IfSome result (λ room. (1 ≤ room) × (room ≤ 1024)) }
+{
+    number_within(word, 1, 1024)
 }
 
 /// The sizes of a recording that these words spell.
@@ -358,6 +390,29 @@ fn verify_met<'a>(matches: &ArgMatches<'a>) -> Option<Request<'a>>
     }
 }
 
+/// The request among the matches of `trace`.
+fn trace_met<'a>(matches: &ArgMatches<'a>) -> Option<Request<'a>>
+    ensures value { option_map request_view result ≡ trace_met (rows_of (found_of matches.now)) }
+    ensures sound { IfSome result IsSound }
+{
+    let script = value_of(matches, "script")?;
+    let target = value_of(matches, "out")?;
+    let journal = value_of(matches, "journal")?;
+    let log = value_of(matches, "log")?;
+    let room = value_of(matches, "room")?;
+    if !are_four_names(script, target, journal, log) {
+        return None;
+    }
+    let room = room_of(room)?;
+    Some(Request::Trace {
+        script,
+        target,
+        journal,
+        log,
+        room,
+    })
+}
+
 /// The request among the matches of a subcommand.
 fn matched_request<'a>(matches: &ArgMatches<'a>) -> Option<Request<'a>>
     ensures value { option_map request_view result ≡ matched_request (subcommand_rows_of matches.now) }
@@ -376,6 +431,8 @@ fn matched_request<'a>(matches: &ArgMatches<'a>) -> Option<Request<'a>>
         play_met(inner)
     } else if name == "verify" {
         verify_met(inner)
+    } else if name == "trace" {
+        trace_met(inner)
     } else {
         None
     }

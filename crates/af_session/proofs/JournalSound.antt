@@ -17,7 +17,7 @@ pub same_entries : (frames : List Frame) (entries : List CycleEntry) → map (λ
 same_entries frames [] = refl
 same_entries frames (e ∷ es) = ap (λ (l : List CycleEntry). e ∷ l) (same_entries (drop (taken_by e) frames) es)
 
-same_length : (frames : List Frame) (entries : List CycleEntry) → length (entries_seen frames entries) ≡ length entries
+pub same_length : (frames : List Frame) (entries : List CycleEntry) → length (entries_seen frames entries) ≡ length entries
 same_length frames [] = refl
 same_length frames (e ∷ es) = ap suc (same_length (drop (taken_by e) frames) es)
 

@@ -62,3 +62,8 @@ mod SparedTurns
 mod SparedRounds
 mod SparedOfAll
 mod Spared
+mod LogNotes
+mod ScribeTurns
+mod LogRounds
+mod LogMeets
+mod LogEnds

@@ -84,6 +84,15 @@ cause_ok {T} played x before now cause = record {
   only = (λ lt. absurd (no_fault x (cause.only lt)));
 }
 
+-- all went well, and then memory ran out
+pub cause_behind : {T : Type 0} (r : Result T SessionFault) (played : T) (before now : ℕ) → HasStoreCause {T = T} before now (Ok played) → IsErrAnd r (λ f. f ≡ fault.Memory) → HasStoreCause before now r
+cause_behind (Ok x) played before now cause is = absurd is
+cause_behind {T} (Err f) played before now cause is = subst (λ (x : SessionFault). HasStoreCause {T = T} before now (Err x)) (sym is) (record {
+  later = cause.later;
+  failed = (λ h. absurd (other_fault {T = T} h));
+  only = (λ lt. absurd (not_err {T = T} played fault.Store (cause.only lt)));
+})
+
 -- a fact that holds anyway holds after an error
 pub on_err : {T E P : Type 0} (r : Result T E) → P → OnErr r P
 on_err (Ok x) p = tt

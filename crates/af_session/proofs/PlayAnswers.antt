@@ -28,6 +28,10 @@ pub if_ok_one : {T E : Type 0} (A B : T → Type 0) (r : Result T E) → ((x : T
 if_ok_one A B (Ok x) f a = f x a
 if_ok_one A B (Err e) f a = tt
 
+pub if_ok_always : {T E : Type 0} (P : Type 0) (r : Result T E) → P → IfOk r (λ _. P)
+if_ok_always P (Ok x) p = p
+if_ok_always P (Err e) p = tt
+
 pub if_ok_three : {T E : Type 0} (A B C D : T → Type 0) (r : Result T E) → ((x : T) → A x → B x → C x → D x) → IfOk r A → IfOk r B → IfOk r C → IfOk r D
 if_ok_three A B C D (Ok x) f a b c = f x a b c
 if_ok_three A B C D (Err e) f a b c = tt

@@ -21,3 +21,4 @@ pub mod SideBySide
 pub mod PlayedRuns
 pub mod Spelled
 pub mod Hostile
+pub mod Logging

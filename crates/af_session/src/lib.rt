@@ -8,6 +8,7 @@ mod client_tests;
 mod client_turn;
 mod fast_turns;
 mod given_files;
+mod logging;
 mod meetings;
 mod noting;
 mod party;
@@ -23,7 +24,7 @@ mod sound;
 pub use fast_turns::fast_turn;
 pub use given_files::have_files;
 pub use party::Party;
-pub use play_of_all::play;
+pub use play_of_all::{play, play_logged};
 pub use rendering::{Ends, Played, SessionFault, render};
 pub use sound::push_pcm;
 

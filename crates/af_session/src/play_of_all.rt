@@ -1,12 +1,15 @@
 //! A script's rounds from first to last, in which each party is on its own.
-ghost use Rattle.std.specs.Prelude.{◌≡◌, ◌*◌, ◌<◌, ◌≤◌, ◌^◌, ℕ, List, [], Some, true, false, All, length, IfErr, IfOk, OnErr, OnOk};
+ghost use Rattle.std.specs.Prelude.{◌≡◌, ◌*◌, ◌<◌, ◌≤◌, ◌^◌, ◌++◌, ℕ, List, [], Option, Some, true, false, All, length, IfErr, IfOk, OnErr, OnOk};
 ghost use Rattle.af_io.specs.Causes.{HasCause};
 ghost use Rattle.af_io.specs.Files.{Files, LeavesFront, SetsFile};
 ghost use Rattle.af_link.specs.declared.links.Links.{Links};
 ghost use Rattle.af_model.specs.JournalForm.{IsJournal, IsWhole};
 ghost use Rattle.af_model.specs.Journals.{RoundNoted, journal_of};
 ghost use Rattle.af_session.specs.Ends.{ends_from};
+ghost use Rattle.af_nblog.specs.LogText.{log_text};
+ghost use Rattle.af_nblog.specs.declared.entries.Note.{Note as SomeNote};
 ghost use Rattle.af_session.specs.Hostile.{PokesSpareOthers};
+ghost use Rattle.af_session.specs.Logging.{BeginsLog, IsLogOf, LogsPlay, TellsLog};
 ghost use Rattle.af_session.specs.NewSession.{IsNewSession};
 ghost use Rattle.af_session.specs.declared.rendering.SessionFault.TheVariants.{CycleLimit};
 ghost use Rattle.af_session.specs.PlayedRuns.{AtFault, AtLimit, HandedBack, HandsBackRun, LeavesRun, Plays, all_ended, is_full};
@@ -20,6 +23,7 @@ ghost use Rattle.af_session.specs.Summaries.{Shown, nothing_shown, summary_of};
 ghost use Rattle.af_session.specs.Tallies.{IsTally};
 ghost use Rattle.af_session.specs.Together.{AreTogether};
 
+use crate::logging::Logging;
 use crate::making::make;
 use crate::parties::Parties;
 use crate::rendering::{Played, SessionFault, hand_back, hand_over, make_room, make_tally, sum_up};
@@ -46,6 +50,7 @@ fn play_rounds<R: Threads + Sync, S: Store, G: Gate>(
     bytes: &mut Items<u8>,
     rounds: &mut Rounds,
     tally: &mut Tally,
+    logging: &mut Logging,
     gate: &G,
 ) -> Result<(), StoreError>
     requires new { IsNewSession script.now shared.now parties.old }
@@ -55,6 +60,7 @@ fn play_rounds<R: Threads + Sync, S: Store, G: Gate>(
     requires room { bytes.old.room ≡ 64 * script.now.frames }
     requires rounds { rounds.old ≡ record { tracks = length script.now.tracks; rounds = [] } }
     requires tally { IsTally (nothing_shown (length script.now.tracks)) tally.old }
+    requires log { (kept : Option ℕ) × LogsPlay kept parties.old.fast [] logging.old }
     ensures some { (played : List RoundNoted) × Plays script.now files.now played parties.new }
     ensures all { OnOk result (Plays script.now files.now rounds.new.rounds parties.new) }
     ensures over { OnOk result (all_ended parties.new ≡ false → is_full parties.new ≡ true) }
@@ -70,12 +76,15 @@ fn play_rounds<R: Threads + Sync, S: Store, G: Gate>(
     ensures left { S.told store.old → (base : Files) → SetsFile base name.now (Some []) (S.files store.old) → OnErr result (LeavesFront base name.now (pcm_of script.now.frames parties.new.fast.log) (S.files store.new)) }
     ensures tells { S.told store.old → S.told store.new }
     ensures cause { HasCause (S.faults store.old) (S.faults store.new) result }
+    ensures sizes { OnOk result ((parties.new.fast.frames ≡ script.now.frames) × (length parties.new.fast.log.entries ≤ parties.new.fast.cycles)) }
+    ensures log { (kept : Option ℕ) → LogsPlay kept parties.old.fast [] logging.old → OnOk result (LogsPlay kept parties.new.fast rounds.new.rounds logging.new) }
 {
     let links = shared.links();
     let cycles = script.cycles();
     let tracks = script.tracks();
     parties.play_to_end(
-        rt, alloc, &links, cycles, tracks, files, store, name, buffer, bytes, rounds, tally, gate,
+        rt, alloc, &links, cycles, tracks, files, store, name, buffer, bytes, rounds, tally,
+        logging, gate,
     )
 }
 
@@ -93,6 +102,7 @@ fn play_made<R: Threads + Sync, S: Store, G: Gate>(
     bytes: &mut Items<u8>,
     rounds: &mut Rounds,
     tally: &mut Tally,
+    logging: &mut Logging,
     gate: &G,
 ) -> Result<(), StoreError>
     requires new { IsNewSession script.now shared.now parties.old }
@@ -102,6 +112,7 @@ fn play_made<R: Threads + Sync, S: Store, G: Gate>(
     requires room { bytes.old.room ≡ 64 * script.now.frames }
     requires rounds { rounds.old ≡ record { tracks = length script.now.tracks; rounds = [] } }
     requires tally { IsTally (nothing_shown (length script.now.tracks)) tally.old }
+    requires log { (kept : Option ℕ) × LogsPlay kept parties.old.fast [] logging.old }
     ensures all { OnOk result (Plays script.now files.now rounds.new.rounds parties.new) }
     ensures over { OnOk result (all_ended parties.new ≡ false → is_full parties.new ≡ true) }
     ensures few { OnOk result (length rounds.new.rounds ≤ script.now.cycles) }
@@ -116,10 +127,13 @@ fn play_made<R: Threads + Sync, S: Store, G: Gate>(
     ensures left { S.told store.old → OnErr result (LeavesRun script.now files.now name.now (S.files store.old) (S.files store.new)) }
     ensures tells { S.told store.old → S.told store.new }
     ensures cause { HasCause (S.faults store.old) (S.faults store.new) result }
+    ensures sizes { OnOk result ((parties.new.fast.frames ≡ script.now.frames) × (length parties.new.fast.log.entries ≤ parties.new.fast.cycles)) }
+    ensures log { (kept : Option ℕ) → LogsPlay kept parties.old.fast [] logging.old → OnOk result (LogsPlay kept parties.new.fast rounds.new.rounds logging.new) }
 {
     store.create(name)?;
     play_rounds(
-        rt, alloc, shared, parties, script, files, store, name, buffer, bytes, rounds, tally, gate,
+        rt, alloc, shared, parties, script, files, store, name, buffer, bytes, rounds, tally,
+        logging, gate,
     )
 }
 
@@ -150,6 +164,57 @@ fn answer(
     Ok(hand_back(parties, rounds, summary))
 }
 
+// Plays a script in rounds, with a log or without.
+fn play_with<R: Threads + Sync, S: Store, G: Gate>(
+    rt: &R,
+    alloc: Global,
+    script: &Script,
+    files: &[Pcm],
+    store: &mut S,
+    name: &str,
+    logging: &mut Logging,
+    gate: &G,
+) -> Result<Played, SessionFault>
+    requires files { HaveFiles (record { tracks = script.now.tracks; files = files.now }) }
+    requires log { (kept : Option ℕ) × BeginsLog kept script.now.cycles logging.old }
+    ensures played { IfOk result (λ p. HandsBackRun true script.now files.now p.journal p.ends) }
+    ensures limit { IfErr result (AtLimit (HandsBackRun false script.now files.now)) }
+    ensures summary { IfOk result (λ p. p.summary ≡ summary_told script.now.frames p.journal p.ends) }
+    ensures calls { HandedBack CallsStandOnce result }
+    ensures pushes { HandedBack PushesStandOnce result }
+    ensures never_older { HandedBack (λ journal _. NoneOlder journal) result }
+    ensures spared { HandedBack (λ journal ends. PokesSpareOthers (shown_by script.now.frames journal ends.normal.mutator.past.events)) result }
+    ensures written { S.told store.old → IfOk result (λ p. SetsFile (S.files store.old) name.now (Some (journal_pcm script.now.frames p.journal)) (S.files store.new)) }
+    ensures cut { S.told store.old → IfErr result (AtLimit (λ journal _. SetsFile (S.files store.old) name.now (Some (journal_pcm script.now.frames journal)) (S.files store.new))) }
+    ensures left { S.told store.old → IfErr result (AtFault (LeavesRun script.now files.now name.now (S.files store.old) (S.files store.new))) }
+    ensures tells { S.told store.old → S.told store.new }
+    ensures cause { HasStoreCause (S.faults store.old) (S.faults store.new) result }
+    ensures log { (kept : Option ℕ) → BeginsLog kept script.now.cycles logging.old → IfOk result (λ p. TellsLog kept script.now.frames p.journal logging.new) }
+    ensures left_whole { S.told store.old → IfOk result (λ _. LeavesRun script.now files.now name.now (S.files store.old) (S.files store.new)) }
+{
+    let (shared, mut parties) = make(alloc, script)?;
+    let (mut buffer, mut bytes) = make_room(alloc, script.frames() as usize)?;
+    let (mut tally, mut released) = make_tally(alloc, script.tracks().len())?;
+    let mut rounds = Rounds::new(alloc, script.tracks().len() as u32);
+    play_made(
+        rt,
+        alloc,
+        &shared,
+        &mut parties,
+        script,
+        files,
+        store,
+        name,
+        &mut buffer,
+        &mut bytes,
+        &mut rounds,
+        &mut tally,
+        logging,
+        gate,
+    )?;
+    answer(parties, rounds, &tally, &mut released)
+}
+
 /// Plays a script in rounds. In each every party that has not ended makes one turn, on a thread of its own where one can be made: each client, the normal mixer, and the fast mixer, which makes sixteen cycles, or fewer after one that isn't mixed. Then all parties meet. A party's turn begins at the gate, by its number: the clients' are those of their tracks, and the mixers' come behind. The sound goes to the file of this name, round by round. All blocks, logs and mixers are made before the file is; the rounds are noted as they are played. It makes at most as many rounds as the script has cycles.
 ///
 /// Whatever the threads did, what was played is a run of the script and its files, of rounds of all parties, whose journal is handed back: in it each client's calls and each state pushed stand once, in their order, and no cycle uses a state older than one before it. Where the store tells it the file is the sound of the journal. Whatever clients stored in their words, each track on whose blocks nothing was poked is spared: no call of its client was answered Corrupt, and no look of the normal mixer at its blocks was Shut. Ok says that all parties have ended, CycleLimit that the log is full and some party has not; so after each round but the last some party goes on and the log has room. After a fault no file has changed, or the file holds a front of the sound of some first rounds.
@@ -176,24 +241,48 @@ pub fn play<R: Threads + Sync, S: Store, G: Gate>(
     ensures tells { S.told store.old → S.told store.new }
     ensures cause { HasStoreCause (S.faults store.old) (S.faults store.new) result }
 {
-    let (shared, mut parties) = make(alloc, script)?;
-    let (mut buffer, mut bytes) = make_room(alloc, script.frames() as usize)?;
-    let (mut tally, mut released) = make_tally(alloc, script.tracks().len())?;
-    let mut rounds = Rounds::new(alloc, script.tracks().len() as u32);
-    play_made(
-        rt,
-        alloc,
-        &shared,
-        &mut parties,
-        script,
-        files,
-        store,
-        name,
-        &mut buffer,
-        &mut bytes,
-        &mut rounds,
-        &mut tally,
-        gate,
-    )?;
-    answer(parties, rounds, &tally, &mut released)
+    let mut logging = Logging::none(alloc)?;
+    play_with(rt, alloc, script, files, store, name, &mut logging, gate)
+}
+
+/// Plays a script as `play` does, with a log of notes: the fast mixer's party notes each entry that it adds, without waiting, in a log with room for `room` notes, and a party more, whose number is behind that of the fast mixer, reads it in each round until it sees no note left. The text of the log is appended to `text` where all parties have ended; else `text` is as before.
+///
+/// Whatever the threads did, each entry of the journal was noted in its place, and accepted or refused. One was refused only where the notes accepted before it, in its round and in the round before, were at least as many as there is room for; so with room for 32 none was.
+pub fn play_logged<R: Threads + Sync, S: Store, G: Gate>(
+    rt: &R,
+    alloc: Global,
+    script: &Script,
+    files: &[Pcm],
+    store: &mut S,
+    name: &str,
+    gate: &G,
+    room: u32,
+    text: &mut Vec<u8>,
+) -> Result<Played, SessionFault>
+    requires files { HaveFiles (record { tracks = script.now.tracks; files = files.now }) }
+    requires some { 1 ≤ room }
+    requires few { room ≤ 1024 }
+    ensures played { IfOk result (λ p. HandsBackRun true script.now files.now p.journal p.ends) }
+    ensures limit { IfErr result (AtLimit (HandsBackRun false script.now files.now)) }
+    ensures summary { IfOk result (λ p. p.summary ≡ summary_told script.now.frames p.journal p.ends) }
+    ensures calls { HandedBack CallsStandOnce result }
+    ensures pushes { HandedBack PushesStandOnce result }
+    ensures never_older { HandedBack (λ journal _. NoneOlder journal) result }
+    ensures spared { HandedBack (λ journal ends. PokesSpareOthers (shown_by script.now.frames journal ends.normal.mutator.past.events)) result }
+    ensures written { S.told store.old → IfOk result (λ p. SetsFile (S.files store.old) name.now (Some (journal_pcm script.now.frames p.journal)) (S.files store.new)) }
+    ensures cut { S.told store.old → IfErr result (AtLimit (λ journal _. SetsFile (S.files store.old) name.now (Some (journal_pcm script.now.frames journal)) (S.files store.new))) }
+    ensures left { S.told store.old → IfErr result (AtFault (LeavesRun script.now files.now name.now (S.files store.old) (S.files store.new))) }
+    ensures tells { S.told store.old → S.told store.new }
+    ensures cause { HasStoreCause (S.faults store.old) (S.faults store.new) result }
+    ensures log { IfOk result (λ p. (notes : List SomeNote) × (refused : ℕ) × IsLogOf script.now.frames room p.journal notes refused × (text.new.items ≡ text.old.items ++ log_text notes refused) × (32 ≤ room → refused ≡ 0)) }
+    ensures unchanged { OnErr result (text.new.items ≡ text.old.items) }
+{
+    let mut logging = Logging::of(alloc, room, script.cycles())?;
+    match play_with(rt, alloc, script, files, store, name, &mut logging, gate) {
+        Ok(played) => {
+            logging.write(alloc, text)?;
+            Ok(played)
+        }
+        Err(fault) => Err(fault),
+    }
 }

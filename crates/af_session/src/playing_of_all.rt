@@ -1,5 +1,5 @@
 //! The rounds of all parties from first to last, and the file of what they mixed.
-ghost use Rattle.std.specs.Prelude.{◌≡◌, ◌+◌, ◌*◌, ◌<◌, ◌≤◌, ◌^◌, ◌++◌, ◌∷◌, ℕ, true, false, List, [], Some, length, map, All, IfOk, OnOk, OnErr};
+ghost use Rattle.std.specs.Prelude.{◌≡◌, ◌+◌, ◌*◌, ◌<◌, ◌≤◌, ◌^◌, ◌++◌, ◌∷◌, ℕ, true, false, List, [], Option, Some, length, map, All, IfOk, OnOk, OnErr};
 ghost use Rattle.std.specs.List.{list_all};
 ghost use Rattle.af_base.specs.declared.state.FastState.{FastState as State};
 ghost use Rattle.af_io.specs.Causes.{HasCause};
@@ -8,6 +8,7 @@ ghost use Rattle.af_model.specs.JournalForm.{IsJournal, IsWhole};
 ghost use Rattle.af_model.specs.Journals.{RoundNoted, cycles_of, journal_of};
 ghost use Rattle.af_script.specs.Data.{ScriptData};
 ghost use Rattle.af_session.specs.Hostile.{SparesSoFar};
+ghost use Rattle.af_session.specs.Logging.{LogsPlay};
 ghost use Rattle.af_session.specs.NewSession.{IsNewSession};
 ghost use Rattle.af_session.specs.Noted.{NotesFrames};
 ghost use Rattle.af_session.specs.PlayedRuns.{GoesOn, RunsOfAll, all_ended, is_full};
@@ -20,6 +21,7 @@ ghost use Rattle.af_session.specs.Summaries.{nothing_shown};
 ghost use Rattle.af_session.specs.Tallies.{IsTally};
 ghost use Rattle.af_session.specs.Together.{SessionState};
 
+use crate::logging::Logging;
 use crate::noting::{copied_turn, know_frames};
 use crate::parties::Parties;
 use crate::party::Party;
@@ -96,12 +98,14 @@ impl Parties {
         buffer: &mut [Frame],
         bytes: &mut Items<u8>,
         tally: &mut Tally,
+        logging: &mut Logging,
         gate: &G,
     ) -> Result<(), StoreError>
         requires buffer { length buffer.old ≡ self.old.fast.frames }
         requires room { 64 * self.old.fast.frames ≤ bytes.old.room }
         requires ready { (n : ℕ) × (n < 131072) × IsReady links.now (record { tracks = tracks.now; files = files.now }) n self.old }
         requires places { (n : ℕ) × (n < 100000) × HasPlaces n (length self.old.clients) (length self.old.fast.log.entries) tally.old }
+        requires log { (kept : Option ℕ) × (rounds : List RoundNoted) × LogsPlay kept self.old.fast rounds logging.old }
         ensures ready { (n : ℕ) → IsReady links.now (record { tracks = tracks.now; files = files.now }) n self.old → IsReady links.now (record { tracks = tracks.now; files = files.now }) (n + 1) self.new }
         ensures sizes { (self.new.fast.frames ≡ self.old.fast.frames) × (self.new.fast.cycles ≡ self.old.fast.cycles) × (bytes.new.room ≡ bytes.old.room) }
         ensures round { IsRoundOfAll (record { tracks = tracks.now; files = files.now }) self.old (all_noted self.old self.new) bytes.new.items self.new }
@@ -110,11 +114,14 @@ impl Parties {
         ensures left { S.told store.old → (base : Files) (out : List ℕ) → SetsFile base name.now (Some out) (S.files store.old) → OnErr result (LeavesFront base name.now (out ++ bytes.new.items) (S.files store.new)) }
         ensures tells { S.told store.old → S.told store.new }
         ensures cause { HasCause (S.faults store.old) (S.faults store.new) result }
+        ensures log { (kept : Option ℕ) (rounds : List RoundNoted) → LogsPlay kept self.old.fast rounds logging.old → LogsPlay kept self.new.fast (rounds ++ all_noted self.old self.new ∷ []) logging.new }
         ensures tally { FollowsRound (all_noted self.old self.new) self.old.fast self.new.fast tally.old tally.new }
         ensures places { (n : ℕ) → HasPlaces n (length self.old.clients) (length self.old.fast.log.entries) tally.old → HasPlaces (n + 1) (length self.new.clients) (length self.new.fast.log.entries) tally.new }
     {
         bytes.clear();
-        self.round_of_all(rt, links, tracks, files, buffer, bytes, tally, gate);
+        self.round_of_all(
+            rt, links, tracks, files, buffer, bytes, tally, logging, gate,
+        );
         send_out(store, name, bytes.as_slice())
     }
 
@@ -132,6 +139,7 @@ impl Parties {
         bytes: &mut Items<u8>,
         rounds: &mut Rounds,
         tally: &mut Tally,
+        logging: &mut Logging,
         gate: &G,
     ) -> Result<(), StoreError>
         requires buffer { length buffer.old ≡ self.old.fast.frames }
@@ -139,6 +147,7 @@ impl Parties {
         requires ready { (n : ℕ) × (n < 131072) × IsReady links.now (record { tracks = tracks.now; files = files.now }) n self.old }
         requires count { cycles_of rounds.old.rounds ≡ length self.old.fast.log.entries }
         requires places { (n : ℕ) × (n < 100000) × HasPlaces n (length self.old.clients) (length self.old.fast.log.entries) tally.old }
+        requires log { (kept : Option ℕ) × LogsPlay kept self.old.fast rounds.old.rounds logging.old }
         ensures ready { (n : ℕ) → IsReady links.now (record { tracks = tracks.now; files = files.now }) n self.old → IsReady links.now (record { tracks = tracks.now; files = files.now }) (n + 1) self.new }
         ensures sizes { (self.new.fast.frames ≡ self.old.fast.frames) × (self.new.fast.cycles ≡ self.old.fast.cycles) × (bytes.new.room ≡ bytes.old.room) }
         ensures round { IsRoundOfAll (record { tracks = tracks.now; files = files.now }) self.old (all_noted self.old self.new) bytes.new.items self.new }
@@ -149,13 +158,14 @@ impl Parties {
         ensures left { S.told store.old → (base : Files) (out : List ℕ) → SetsFile base name.now (Some out) (S.files store.old) → OnErr result (LeavesFront base name.now (out ++ bytes.new.items) (S.files store.new)) }
         ensures tells { S.told store.old → S.told store.new }
         ensures cause { HasCause (S.faults store.old) (S.faults store.new) result }
+        ensures log { (kept : Option ℕ) → LogsPlay kept self.old.fast rounds.old.rounds logging.old → OnOk result (LogsPlay kept self.new.fast rounds.new.rounds logging.new) }
         ensures tally { FollowsRound (all_noted self.old self.new) self.old.fast self.new.fast tally.old tally.new }
         ensures places { (n : ℕ) → HasPlaces n (length self.old.clients) (length self.old.fast.log.entries) tally.old → HasPlaces (n + 1) (length self.new.clients) (length self.new.fast.log.entries) tally.new }
     {
         let had_ended = self.normal.has_ended();
         let entries = self.fast.log().len();
         self.send_round_of_all(
-            rt, links, tracks, files, store, name, buffer, bytes, tally, gate,
+            rt, links, tracks, files, store, name, buffer, bytes, tally, logging, gate,
         )?;
         self.note_all(alloc, had_ended, entries, rounds)?;
         Ok(())
@@ -186,6 +196,7 @@ impl Parties {
         bytes: &mut Items<u8>,
         rounds: &mut Rounds,
         tally: &mut Tally,
+        logging: &mut Logging,
         gate: &G,
     ) -> Result<(), StoreError>
         requires cycles { cycles ≡ self.old.fast.cycles }
@@ -195,6 +206,7 @@ impl Parties {
         requires new { (script : ScriptData) × (shared : SharedState) × IsNewSession script shared self.old }
         requires rounds { rounds.old ≡ record { tracks = length tracks.now; rounds = [] } }
         requires tally { IsTally (nothing_shown (length tracks.now)) tally.old }
+        requires log { (kept : Option ℕ) × LogsPlay kept self.old.fast [] logging.old }
         ensures ready { OnOk result (IsReady links.now (record { tracks = tracks.now; files = files.now }) (length rounds.new.rounds) self.new) }
         ensures run { (played : List RoundNoted) × RunsOfAll (record { tracks = tracks.now; files = files.now }) self.old played self.new }
         ensures all { OnOk result (RunsOfAll (record { tracks = tracks.now; files = files.now }) self.old rounds.new.rounds self.new) }
@@ -210,10 +222,12 @@ impl Parties {
         ensures left { S.told store.old → (base : Files) → SetsFile base name.now (Some (pcm_of self.old.fast.frames self.old.fast.log)) (S.files store.old) → OnErr result (LeavesFront base name.now (pcm_of self.old.fast.frames self.new.fast.log) (S.files store.new)) }
         ensures tells { S.told store.old → S.told store.new }
         ensures cause { HasCause (S.faults store.old) (S.faults store.new) result }
+        ensures log { (kept : Option ℕ) → LogsPlay kept self.old.fast [] logging.old → OnOk result (LogsPlay kept self.new.fast rounds.new.rounds logging.new) }
     {
         while self.goes_on(cycles) {
             self.noted_round_of_all(
-                rt, alloc, links, tracks, files, store, name, buffer, bytes, rounds, tally, gate,
+                rt, alloc, links, tracks, files, store, name, buffer, bytes, rounds, tally,
+                logging, gate,
             )?;
         }
         know_frames(self.fast.log().frames());

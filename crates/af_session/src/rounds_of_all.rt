@@ -1,7 +1,9 @@
 //! The rounds of all parties at once: their turns, and then the meetings of all.
-ghost use Rattle.std.specs.Prelude.{◌≡◌, ◌+◌, ◌*◌, ◌<◌, ◌≤◌, ◌++◌, ℕ, List, length, map};
+ghost use Rattle.std.specs.Prelude.{◌≡◌, ◌+◌, ◌*◌, ◌<◌, ◌≤◌, ◌++◌, ◌∷◌, ℕ, List, [], Option, length, map};
 ghost use Rattle.af_base.specs.Log.{slots};
 ghost use Rattle.af_base.specs.Turn.{turn_of};
+ghost use Rattle.af_model.specs.Journals.{RoundNoted};
+ghost use Rattle.af_session.specs.Logging.{AreEnds, HasBothLogged, HasMetLog, IsAuditor, IsScribe, LogsPlay};
 ghost use Rattle.af_session.specs.Met.{Met};
 ghost use Rattle.af_session.specs.Parties.{PartyState};
 ghost use Rattle.af_session.specs.Rounds.{IsReady};
@@ -11,6 +13,7 @@ ghost use Rattle.af_session.specs.Sound.{pcm_of};
 ghost use Rattle.af_session.specs.Summaries.{Shown};
 ghost use Rattle.af_session.specs.Tallies.{IsTally, Keeps};
 
+use crate::logging::Logging;
 use crate::parties::Parties;
 use crate::side_by_side::all_turns;
 use crate::tally::Tally;
@@ -33,16 +36,20 @@ impl Parties {
         buffer: &mut [Frame],
         bytes: &mut Items<u8>,
         tally: &mut Tally,
+        logging: &mut Logging,
         gate: &G,
     )
         requires buffer { length buffer.old ≡ self.old.fast.frames }
         requires room { length bytes.old.items + 64 * self.old.fast.frames ≤ bytes.old.room }
         requires ready { (n : ℕ) × (n < 131072) × IsReady links.now (record { tracks = tracks.now; files = files.now }) n self.old }
         requires places { (n : ℕ) × (n < 100000) × HasPlaces n (length self.old.clients) (length self.old.fast.log.entries) tally.old }
+        requires log { IsScribe logging.old.log (length self.old.fast.log.entries) logging.old.scribe }
+        requires auditor { IsAuditor logging.old.log logging.old.auditor }
         ensures ready { (n : ℕ) → IsReady links.now (record { tracks = tracks.now; files = files.now }) n self.old → IsReady links.now (record { tracks = tracks.now; files = files.now }) (n + 1) self.new }
         ensures sizes { (self.new.fast.frames ≡ self.old.fast.frames) × (self.new.fast.cycles ≡ self.old.fast.cycles) }
         ensures turns { (added : List ℕ) × (bytes.new ≡ record bytes.old { items = bytes.old.items ++ added }) × AllPlayed (record { tracks = tracks.now; files = files.now }) self.old self.new added }
         ensures noted { HasNotedOn self.old.fast self.new.fast tally.old tally.new }
+        ensures logged { HasBothLogged (length self.old.fast.log.entries) self.new.fast logging.old logging.new }
         ensures sound { (before : List ℕ) → before ++ bytes.old.items ≡ pcm_of self.old.fast.frames self.old.fast.log → before ++ bytes.new.items ≡ pcm_of self.old.fast.frames self.new.fast.log }
     {
         let Parties {
@@ -51,7 +58,7 @@ impl Parties {
             fast,
         } = self;
         all_turns(
-            rt, clients, normal, fast, links, tracks, files, buffer, bytes, tally, gate,
+            rt, clients, normal, fast, links, tracks, files, buffer, bytes, tally, logging, gate,
         );
     }
 
@@ -77,17 +84,21 @@ impl Parties {
         links: &Links<'_>,
         tracks: &[TrackSpec],
         files: &[Pcm],
+        logging: &mut Logging,
     )
         requires ledger { (blank.name ≡ L.name) × (blank.parts ≡ L.parts) × (0 < blank.parts) }
         requires ready { (n : ℕ) × IsReady links.now (record { tracks = tracks.now; files = files.now }) n self.old }
+        requires log { AreEnds logging.old }
         ensures ready { (n : ℕ) → IsReady links.now (record { tracks = tracks.now; files = files.now }) n self.old → IsReady links.now (record { tracks = tracks.now; files = files.now }) n self.new }
         ensures met { Met self.old self.new }
+        ensures log { HasMetLog logging.old logging.new }
     {
         let mut steps = Steps::<L>::start(blank);
         self.meet_all(links, tracks, files, &mut steps);
+        logging.meet(&mut steps);
     }
 
-    /// A round of all parties: each that hasn't ended makes one turn, on a thread of its own where one can be made, and then all meet. Once the normal mixer has ended every client has. The bytes of what the fast mixer mixed are appended to `bytes`, which has room for those of sixteen cycles. It takes no memory.
+    /// A round of all parties: each that hasn't ended makes one turn, on a thread of its own where one can be made, and then all meet. Once the normal mixer has ended every client has. The bytes of what the fast mixer mixed are appended to `bytes`, which has room for those of sixteen cycles. Where a log is kept a party of its own reads it in each round, and its two ends meet with the others. It takes no memory.
     ///
     /// Each turn is a legal one by what its party saw, and after the meetings the lists of each two that met have a history. Where the bytes that went out before, and `bytes` behind them, were the sound of the fast mixer's log, they are so again.
     pub fn round_of_all<R: Threads + Sync, G: Gate>(
@@ -99,23 +110,28 @@ impl Parties {
         buffer: &mut [Frame],
         bytes: &mut Items<u8>,
         tally: &mut Tally,
+        logging: &mut Logging,
         gate: &G,
     )
         requires buffer { length buffer.old ≡ self.old.fast.frames }
         requires room { length bytes.old.items + 64 * self.old.fast.frames ≤ bytes.old.room }
         requires ready { (n : ℕ) × (n < 131072) × IsReady links.now (record { tracks = tracks.now; files = files.now }) n self.old }
         requires places { (n : ℕ) × (n < 100000) × HasPlaces n (length self.old.clients) (length self.old.fast.log.entries) tally.old }
+        requires log { (kept : Option ℕ) × (rounds : List RoundNoted) × LogsPlay kept self.old.fast rounds logging.old }
         ensures ready { (n : ℕ) → IsReady links.now (record { tracks = tracks.now; files = files.now }) n self.old → IsReady links.now (record { tracks = tracks.now; files = files.now }) (n + 1) self.new }
         ensures sizes { (self.new.fast.frames ≡ self.old.fast.frames) × (self.new.fast.cycles ≡ self.old.fast.cycles) }
         ensures round { (added : List ℕ) × (bytes.new ≡ record bytes.old { items = bytes.old.items ++ added }) × IsRoundOfAll (record { tracks = tracks.now; files = files.now }) self.old (all_noted self.old self.new) added self.new }
         ensures tally { FollowsRound (all_noted self.old self.new) self.old.fast self.new.fast tally.old tally.new }
         ensures places { (n : ℕ) → HasPlaces n (length self.old.clients) (length self.old.fast.log.entries) tally.old → HasPlaces (n + 1) (length self.new.clients) (length self.new.fast.log.entries) tally.new }
         ensures sound { (before : List ℕ) → before ++ bytes.old.items ≡ pcm_of self.old.fast.frames self.old.fast.log → before ++ bytes.new.items ≡ pcm_of self.old.fast.frames self.new.fast.log }
+        ensures log { (kept : Option ℕ) (rounds : List RoundNoted) → LogsPlay kept self.old.fast rounds logging.old → LogsPlay kept self.new.fast (rounds ++ all_noted self.old self.new ∷ []) logging.new }
     {
         let had_ended = self.normal.has_ended();
-        self.play_at_once(rt, links, tracks, files, buffer, bytes, tally, gate);
+        self.play_at_once(
+            rt, links, tracks, files, buffer, bytes, tally, logging, gate,
+        );
         self.note_turns(had_ended, tally);
-        self.meet_in::<Brand>(Blank::new(1), links, tracks, files);
+        self.meet_in::<Brand>(Blank::new(1), links, tracks, files, logging);
         self.end_clients();
     }
 }

@@ -2,13 +2,16 @@
 ghost use Rattle.std.specs.Prelude.{◌≡◌, ◌+◌, ◌*◌, ◌<◌, ◌≤◌, ◌^◌, ℕ, length, All};
 ghost use Rattle.std.specs.List.{AllZip};
 ghost use Rattle.std.specs.Thread.{IsSync};
+ghost use Rattle.af_session.specs.Logging.{HasAudited, HasBothLogged, HasLogged, IsAuditor, IsScribe};
 ghost use Rattle.af_session.specs.SideBySide.{CanCycle, CanMixOn, CanTurn, HasCycledOn, HasMixedOn, HasNotedOn, HasTurned};
 ghost use Rattle.af_session.specs.Shown.{HasPlaces};
 
 use crate::alone::turn_alone;
+use crate::logging::{Logging, Scribe};
 use crate::party::Party;
 use crate::tally::Tally;
 use af_base::{Frame, Items, Steps};
+use af_cblk::Block;
 use af_fast::FastMixer;
 use af_io::{Gate, Pcm};
 use af_link::Links;
@@ -85,17 +88,22 @@ fn fast_in<L: Ledger>(
     buffer: &mut [Frame],
     bytes: &mut Items<u8>,
     tally: &mut Tally,
+    log: &Option<Block>,
+    scribe: &mut Scribe,
 )
     requires ledger { (blank.name ≡ L.name) × (blank.parts ≡ L.parts) × (0 < blank.parts) }
     requires can { CanCycle links.now fast.old }
     requires buffer { length buffer.old ≡ fast.old.frames }
     requires room { length bytes.old.items + 64 * fast.old.frames ≤ bytes.old.room }
     requires places { (n : ℕ) × (tracks : ℕ) × (n ≤ 100000) × HasPlaces n tracks (length fast.old.log.entries) tally.old }
+    requires log { IsScribe log.now (length fast.old.log.entries) scribe.old }
     ensures turned { HasCycledOn links.now fast.old fast.new bytes.old bytes.new }
     ensures noted { HasNotedOn fast.old fast.new tally.old tally.new }
+    ensures scribe { IsScribe log.now (length fast.new.log.entries) scribe.new }
+    ensures logged { HasLogged (length fast.old.log.entries) fast.new scribe.old scribe.new }
 {
     let mut steps = Steps::<L>::start(blank);
-    turn_alone(fast, links, buffer, bytes, tally, &mut steps);
+    turn_alone(fast, links, buffer, bytes, tally, log, scribe, &mut steps);
 }
 
 // A turn of the fast mixer, the party of this number.
@@ -105,6 +113,8 @@ fn fast_turn<G: Gate>(
     buffer: &mut [Frame],
     bytes: &mut Items<u8>,
     tally: &mut Tally,
+    log: &Option<Block>,
+    scribe: &mut Scribe,
     party: u32,
     gate: &G,
 )
@@ -112,13 +122,25 @@ fn fast_turn<G: Gate>(
     requires buffer { length buffer.old ≡ fast.old.frames }
     requires room { length bytes.old.items + 64 * fast.old.frames ≤ bytes.old.room }
     requires places { (n : ℕ) × (tracks : ℕ) × (n ≤ 100000) × HasPlaces n tracks (length fast.old.log.entries) tally.old }
+    requires log { IsScribe log.now (length fast.old.log.entries) scribe.old }
     ensures turned { HasCycledOn links.now fast.old fast.new bytes.old bytes.new }
     ensures noted { HasNotedOn fast.old fast.new tally.old tally.new }
+    ensures scribe { IsScribe log.now (length fast.new.log.entries) scribe.new }
+    ensures logged { HasLogged (length fast.old.log.entries) fast.new scribe.old scribe.new }
 {
     if !fast.has_exited() {
         gate.enter(party);
     }
-    fast_in::<Brand>(Blank::new(1), fast, links, buffer, bytes, tally);
+    fast_in::<Brand>(
+        Blank::new(1),
+        fast,
+        links,
+        buffer,
+        bytes,
+        tally,
+        log,
+        scribe,
+    );
 }
 
 // The turns of some clients, on threads of their own.
@@ -154,6 +176,53 @@ fn clients_turns<R: Threads + Sync, G: Gate>(
     }
 }
 
+// The turns of the fast mixer and of the party that reads the log, each on a thread of its own where a log is kept. The reading party has the number behind the mixer's.
+fn fast_and_log<R: Threads + Sync, G: Gate>(
+    rt: &R,
+    fast: &mut FastMixer,
+    links: &Links<'_>,
+    buffer: &mut [Frame],
+    bytes: &mut Items<u8>,
+    tally: &mut Tally,
+    logging: &mut Logging,
+    party: u32,
+    gate: &G,
+)
+    requires can { CanCycle links.now fast.old }
+    requires buffer { length buffer.old ≡ fast.old.frames }
+    requires room { length bytes.old.items + 64 * fast.old.frames ≤ bytes.old.room }
+    requires places { (n : ℕ) × (tracks : ℕ) × (n ≤ 100000) × HasPlaces n tracks (length fast.old.log.entries) tally.old }
+    requires log { IsScribe logging.old.log (length fast.old.log.entries) logging.old.scribe }
+    requires auditor { IsAuditor logging.old.log logging.old.auditor }
+    requires party { party < 2 ^ 31 + 1 }
+    ensures turned { HasCycledOn links.now fast.old fast.new bytes.old bytes.new }
+    ensures noted { HasNotedOn fast.old fast.new tally.old tally.new }
+    ensures logged { HasBothLogged (length fast.old.log.entries) fast.new logging.old logging.new }
+{
+    let Logging {
+        log,
+        scribe,
+        auditor,
+    } = logging;
+    if log.is_none() {
+        fast_turn(fast, links, buffer, bytes, tally, log, scribe, party, gate);
+        return;
+    }
+    let log = &*log;
+    let last = party + 1;
+    join_mut(
+        rt,
+        &mut ||
+            requires { CanCycle links.now fast.now × (length buffer.now ≡ fast.now.frames) × (length bytes.now.items + 64 * fast.now.frames ≤ bytes.now.room) × ((n : ℕ) × (tracks : ℕ) × (n ≤ 100000) × HasPlaces n tracks (length fast.now.log.entries) tally.now) × IsScribe log.now (length fast.now.log.entries) scribe.now }
+            ensures { HasCycledOn links.entry.now fast.entry.now fast.exit.now bytes.entry.now bytes.exit.now × HasNotedOn fast.entry.now fast.exit.now tally.entry.now tally.exit.now × HasLogged (length fast.entry.now.log.entries) fast.exit.now scribe.entry.now scribe.exit.now }
+        { fast_turn(fast, links, buffer, bytes, tally, log, scribe, party, gate) },
+        &mut ||
+            requires { IsAuditor log.now auditor.now }
+            ensures { HasAudited auditor.entry.now auditor.exit.now }
+        { auditor.turn(log, last, gate) },
+    );
+}
+
 // The turns of both mixers, each on a thread of its own. Their parties have the numbers behind those of the clients.
 fn mixers_turns<R: Threads + Sync, G: Gate>(
     rt: &R,
@@ -163,6 +232,7 @@ fn mixers_turns<R: Threads + Sync, G: Gate>(
     buffer: &mut [Frame],
     bytes: &mut Items<u8>,
     tally: &mut Tally,
+    logging: &mut Logging,
     clients: u32,
     gate: &G,
 )
@@ -171,10 +241,13 @@ fn mixers_turns<R: Threads + Sync, G: Gate>(
     requires buffer { length buffer.old ≡ fast.old.frames }
     requires room { length bytes.old.items + 64 * fast.old.frames ≤ bytes.old.room }
     requires places { (n : ℕ) × (tracks : ℕ) × (n ≤ 100000) × HasPlaces n tracks (length fast.old.log.entries) tally.old }
+    requires log { IsScribe logging.old.log (length fast.old.log.entries) logging.old.scribe }
+    requires auditor { IsAuditor logging.old.log logging.old.auditor }
     requires clients { clients < 2 ^ 31 }
     ensures normal { HasMixedOn links.now normal.old normal.new }
     ensures fast { HasCycledOn links.now fast.old fast.new bytes.old bytes.new }
     ensures noted { HasNotedOn fast.old fast.new tally.old tally.new }
+    ensures logged { HasBothLogged (length fast.old.log.entries) fast.new logging.old logging.new }
 {
     let last = clients + 1;
     join_mut(
@@ -184,13 +257,13 @@ fn mixers_turns<R: Threads + Sync, G: Gate>(
             ensures { HasMixedOn links.entry.now normal.entry.now normal.exit.now }
         { normal_turn(normal, links, clients, gate) },
         &mut ||
-            requires { CanCycle links.now fast.now × (length buffer.now ≡ fast.now.frames) × (length bytes.now.items + 64 * fast.now.frames ≤ bytes.now.room) × ((n : ℕ) × (tracks : ℕ) × (n ≤ 100000) × HasPlaces n tracks (length fast.now.log.entries) tally.now) }
-            ensures { HasCycledOn links.entry.now fast.entry.now fast.exit.now bytes.entry.now bytes.exit.now × HasNotedOn fast.entry.now fast.exit.now tally.entry.now tally.exit.now }
-        { fast_turn(fast, links, buffer, bytes, tally, last, gate) },
+            requires { IsSync R.row × CanCycle links.now fast.now × (length buffer.now ≡ fast.now.frames) × (length bytes.now.items + 64 * fast.now.frames ≤ bytes.now.room) × ((n : ℕ) × (tracks : ℕ) × (n ≤ 100000) × HasPlaces n tracks (length fast.now.log.entries) tally.now) × IsScribe logging.now.log (length fast.now.log.entries) logging.now.scribe × IsAuditor logging.now.log logging.now.auditor }
+            ensures { HasCycledOn links.entry.now fast.entry.now fast.exit.now bytes.entry.now bytes.exit.now × HasNotedOn fast.entry.now fast.exit.now tally.entry.now tally.exit.now × HasBothLogged (length fast.entry.now.log.entries) fast.exit.now logging.entry.now logging.exit.now }
+        { fast_and_log(rt, fast, links, buffer, bytes, tally, logging, last, gate) },
     );
 }
 
-/// The turns of all parties at the same time, each on a thread of its own where one can be made: the clients, then the normal mixer, then the fast mixer, divided in halves. The bytes of what the fast mixer mixed are appended to `bytes`, which has room for those of sixteen cycles. It takes no memory.
+/// The turns of all parties at the same time, each on a thread of its own where one can be made: the clients, then the normal mixer, then the fast mixer, and the party that reads the log where one is kept, divided in halves. The bytes of what the fast mixer mixed are appended to `bytes`, which has room for those of sixteen cycles. It takes no memory.
 pub fn all_turns<R: Threads + Sync, G: Gate>(
     rt: &R,
     clients: &mut [Party],
@@ -202,6 +275,7 @@ pub fn all_turns<R: Threads + Sync, G: Gate>(
     buffer: &mut [Frame],
     bytes: &mut Items<u8>,
     tally: &mut Tally,
+    logging: &mut Logging,
     gate: &G,
 )
     requires clients { All (CanTurn links.now (record { tracks = tracks.now; files = files.now })) clients.old }
@@ -211,10 +285,13 @@ pub fn all_turns<R: Threads + Sync, G: Gate>(
     requires buffer { length buffer.old ≡ fast.old.frames }
     requires room { length bytes.old.items + 64 * fast.old.frames ≤ bytes.old.room }
     requires places { (n : ℕ) × (tracks : ℕ) × (n ≤ 100000) × HasPlaces n tracks (length fast.old.log.entries) tally.old }
+    requires log { IsScribe logging.old.log (length fast.old.log.entries) logging.old.scribe }
+    requires auditor { IsAuditor logging.old.log logging.old.auditor }
     ensures clients { AllZip (HasTurned links.now (record { tracks = tracks.now; files = files.now })) clients.old clients.new }
     ensures normal { HasMixedOn links.now normal.old normal.new }
     ensures fast { HasCycledOn links.now fast.old fast.new bytes.old bytes.new }
     ensures noted { HasNotedOn fast.old fast.new tally.old tally.new }
+    ensures logged { HasBothLogged (length fast.old.log.entries) fast.new logging.old logging.new }
 {
     let party = clients.len() as u32;
     join_mut(
@@ -224,8 +301,12 @@ pub fn all_turns<R: Threads + Sync, G: Gate>(
             ensures { AllZip (HasTurned links.entry.now (record { tracks = tracks.entry.now; files = files.entry.now })) clients.entry.now clients.exit.now }
         { clients_turns(rt, clients, links, tracks, files, gate) },
         &mut ||
-            requires { IsSync R.row × CanMixOn links.now normal.now × CanCycle links.now fast.now × (length buffer.now ≡ fast.now.frames) × (length bytes.now.items + 64 * fast.now.frames ≤ bytes.now.room) × ((n : ℕ) × (tracks : ℕ) × (n ≤ 100000) × HasPlaces n tracks (length fast.now.log.entries) tally.now) × (party < 2 ^ 31) }
-            ensures { HasMixedOn links.entry.now normal.entry.now normal.exit.now × HasCycledOn links.entry.now fast.entry.now fast.exit.now bytes.entry.now bytes.exit.now × HasNotedOn fast.entry.now fast.exit.now tally.entry.now tally.exit.now }
-        { mixers_turns(rt, normal, fast, links, buffer, bytes, tally, party, gate) },
+            requires { IsSync R.row × CanMixOn links.now normal.now × CanCycle links.now fast.now × (length buffer.now ≡ fast.now.frames) × (length bytes.now.items + 64 * fast.now.frames ≤ bytes.now.room) × ((n : ℕ) × (tracks : ℕ) × (n ≤ 100000) × HasPlaces n tracks (length fast.now.log.entries) tally.now) × IsScribe logging.now.log (length fast.now.log.entries) logging.now.scribe × IsAuditor logging.now.log logging.now.auditor × (party < 2 ^ 31) }
+            ensures { HasMixedOn links.entry.now normal.entry.now normal.exit.now × HasCycledOn links.entry.now fast.entry.now fast.exit.now bytes.entry.now bytes.exit.now × HasNotedOn fast.entry.now fast.exit.now tally.entry.now tally.exit.now × HasBothLogged (length fast.entry.now.log.entries) fast.exit.now logging.entry.now logging.exit.now }
+        {
+            mixers_turns(
+                rt, normal, fast, links, buffer, bytes, tally, logging, party, gate,
+            )
+        },
     );
 }

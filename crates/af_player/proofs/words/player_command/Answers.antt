@@ -1,7 +1,7 @@
 use Rattle.std.proofs.Common.{◌≡◌, ◌∙◌, IfOk, ap₂, subst}
 use Rattle.clap.specs.Simple.{App}
 use Rattle.clap.specs.Words.{app_of, shape_of, with_subcommand}
-use Rattle.af_player.specs.Words.{bare_words, render_words, record_words, loop_words, generate_words, play_words, player_words}
+use Rattle.af_player.specs.Words.{bare_words, render_words, record_words, loop_words, generate_words, play_words, verify_words, player_words}
 use Rattle.af_player.proofs.words.player_command.Goals as goal
 
 pub returns : goal.returns
@@ -14,5 +14,7 @@ returns c =
     c.in_ok-command-4.ensures ∙ ap₂ with_subcommand three c.in_ok-generate_command.ensures.shape in
     let five : app_of c.in_ok-command-5.command ≡ with_subcommand (with_subcommand (with_subcommand (with_subcommand (with_subcommand bare_words render_words) record_words) loop_words) generate_words) play_words =
     c.in_ok-command-5.ensures ∙ ap₂ with_subcommand four c.in_ok-play_command.ensures.shape in
-    let six : with_subcommand (app_of c.in_ok-command-5.command) (shape_of c.in_ok-verify_command.field-0) ≡ player_words = ap₂ with_subcommand five c.in_ok-verify_command.ensures.shape in
-    subst (λ (app : App). IfOk c.with_sub-6.result (λ command. app_of command ≡ app)) six c.with_sub-6.ensures
+    let six : app_of c.in_ok-command-6.command ≡ with_subcommand (with_subcommand (with_subcommand (with_subcommand (with_subcommand (with_subcommand bare_words render_words) record_words) loop_words) generate_words) play_words) verify_words =
+    c.in_ok-command-6.ensures ∙ ap₂ with_subcommand five c.in_ok-verify_command.ensures.shape in
+    let seven : with_subcommand (app_of c.in_ok-command-6.command) (shape_of c.in_ok-trace_command.field-0) ≡ player_words = ap₂ with_subcommand six c.in_ok-trace_command.ensures.shape in
+    subst (λ (app : App). IfOk c.with_sub-7.result (λ command. app_of command ≡ app)) seven c.with_sub-7.ensures

@@ -6,6 +6,7 @@ use Rattle.af_session.specs.Alone.{CyclesOnce, most_cycles}
 use Rattle.af_runs.specs.Pcm.{written}
 use Rattle.af_session.proofs.AloneTurns.{ComesTo, comes_first, comes_on, comes_over, comes_whole}
 use Rattle.af_session.proofs.FastChains.{long_written, put_behind}
+use Rattle.af_session.proofs.ScribeTurns.{cycle_adds_up_to_one, no_shorter, noted_more, noted_none}
 use Rattle.af_session.proofs.alone.cycles_on.Goals as goal
 
 pub loop-i-init : goal.loop-i-init
@@ -23,16 +24,19 @@ loop-i-init g c =
         omega arith,
         comes_first most_cycles c.args.fast.now,
       );
+      longer = omega arith;
+      scribe = c.requires.log;
+      logged = noted_none (length c.args.fast.now.log.entries) c.args.fast.now c.args.scribe.now refl;
     }
 
 pub returns-then-not-is_mixed-clause-sizes : goal.returns-then-not-is_mixed-clause-sizes
 returns-then-not-is_mixed-clause-sizes g c =
-    let cycle = c.cycle_once-cycle.ensures.cycle in
+    let cycle = c.cycle_logged-cycle.ensures.cycle in
     (cycle.sizes.0 ∙ c.loop-i.invariant.sizes.0, cycle.sizes.1 ∙ c.loop-i.invariant.sizes.1)
 
 pub returns-then-not-is_mixed-clause-turned : goal.returns-then-not-is_mixed-clause-turned
 returns-then-not-is_mixed-clause-turned g c =
-    let call = c.cycle_once-cycle in
+    let call = c.cycle_logged-cycle in
     let more : List ℕ = written call.result call.new.buffer in
     let so_far = c.loop-i.invariant.turn in
     let dry : is_mixed call.result ≡ false = sym c.is_mixed.ensures ∙ c.if-not-is_mixed.true in (
@@ -43,7 +47,7 @@ returns-then-not-is_mixed-clause-turned g c =
 
 pub loop-i-preserved : goal.loop-i-preserved
 loop-i-preserved g c =
-    let call = c.cycle_once-cycle in
+    let call = c.cycle_logged-cycle in
     let more : List ℕ = written call.result call.new.buffer in
     let inv = c.loop-i.invariant in
     let so_far = inv.turn in
@@ -64,6 +68,9 @@ loop-i-preserved g c =
         omega (arith, buffer, long, wide, so_far.2),
         comes_on most_cycles c.loop-i.i c.args.fast.now c.loop-i.fast call.new.fast call.result so_far.0 more so_far.3 cycle mixed,
       );
+      longer = (let adds = cycle_adds_up_to_one c.loop-i.fast call.new.fast call.result more cycle in let here = no_shorter c.loop-i.fast call.new.fast adds in let before = inv.longer in omega (arith, here, before));
+      scribe = call.ensures.scribe;
+      logged = noted_more (length c.args.fast.now.log.entries) c.loop-i.fast call.new.fast c.args.scribe.now c.loop-i.scribe call.new.scribe inv.longer cycle.sizes.0 (cycle_adds_up_to_one c.loop-i.fast call.new.fast call.result more cycle) inv.logged call.ensures.logged;
     }
 
 pub returns-clause-turned : goal.returns-clause-turned
@@ -72,10 +79,18 @@ returns-clause-turned g c =
     let whole : c.loop-i.i ≡ most_cycles = omega arith in
     (so_far.0, so_far.1, comes_whole most_cycles c.args.fast.now c.loop-i.fast so_far.0 (subst (λ (n : ℕ). ComesTo most_cycles n c.args.fast.now c.loop-i.fast so_far.0) whole so_far.3))
 
-pub cycle_once-cycle-requires-clause-places : goal.cycle_once-cycle-requires-clause-places
-cycle_once-cycle-requires-clause-places g c =
+pub cycle_logged-cycle-requires-clause-places : goal.cycle_logged-cycle-requires-clause-places
+cycle_logged-cycle-requires-clause-places g c =
     let held = c.requires.places in
     (held.0, held.1, held.2, c.loop-i.invariant.places held.0 held.1 held.3)
 
 pub returns-then-not-is_mixed-clause-places : goal.returns-then-not-is_mixed-clause-places
-returns-then-not-is_mixed-clause-places g c = λ n tracks held. c.cycle_once-cycle.ensures.places n tracks (c.loop-i.invariant.places n tracks held)
+returns-then-not-is_mixed-clause-places g c = λ n tracks held. c.cycle_logged-cycle.ensures.places n tracks (c.loop-i.invariant.places n tracks held)
+
+pub returns-then-not-is_mixed-clause-logged : goal.returns-then-not-is_mixed-clause-logged
+returns-then-not-is_mixed-clause-logged g c =
+    let call = c.cycle_logged-cycle in
+    let more : List ℕ = written call.result call.new.buffer in
+    let inv = c.loop-i.invariant in
+    let cycle : CyclesOnce c.loop-i.fast call.result more call.new.fast = call.ensures.cycle in
+    noted_more (length c.args.fast.now.log.entries) c.loop-i.fast call.new.fast c.args.scribe.now c.loop-i.scribe call.new.scribe inv.longer cycle.sizes.0 (cycle_adds_up_to_one c.loop-i.fast call.new.fast call.result more cycle) inv.logged call.ensures.logged

@@ -1,5 +1,6 @@
 use Rattle.std.proofs.Common.{◌≡◌, ℕ, ◌*◌, ◌≤◌, ◌++◌, List, length}
 use Rattle.af_session.specs.Alone.{most_cycles}
+use Rattle.af_session.specs.Logging.{HasLogged, IsScribe}
 use Rattle.af_session.specs.Shown.{Follows, HasPlaces}
 use Rattle.af_session.specs.SideBySide.{CanCycle}
 use Rattle.af_session.proofs.AloneTurns.{ComesTo}
@@ -14,4 +15,7 @@ invariant-loop-i g l = record {
   sizes : (l.fast.frames ≡ l.initial.fast.frames) × (l.fast.cycles ≡ l.initial.fast.cycles);
   turn : (front : List ℕ) × (l.bytes ≡ record l.initial.bytes { items = l.initial.bytes.items ++ front }) × (length front ≤ 4 * (l.i * l.initial.fast.frames))
       × ComesTo most_cycles l.i l.initial.fast l.fast front;
+  longer : length l.initial.fast.log.entries ≤ length l.fast.log.entries;
+  scribe : IsScribe l.log (length l.fast.log.entries) l.scribe;
+  logged : HasLogged (length l.initial.fast.log.entries) l.fast l.initial.scribe l.scribe;
 }

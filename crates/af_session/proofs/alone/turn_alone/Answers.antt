@@ -1,8 +1,9 @@
-use Rattle.std.proofs.Common.{◌≡◌, Bool, false, List, [], ℕ, sym, subst, ◌∙◌}
+use Rattle.std.proofs.Common.{◌≡◌, Bool, false, List, [], ℕ, length, refl, sym, subst, ◌∙◌}
 use Rattle.std.specs.Bool.{MatchBool}
 use Rattle.af_fast.specs.Mixer.{MixerState}
 use Rattle.af_session.specs.Alone.{CyclesOn, FastTurned, most_cycles}
 use Rattle.af_session.proofs.AloneTurns.{sounds_on}
+use Rattle.af_session.proofs.ScribeTurns.{noted_none}
 use Rattle.af_session.proofs.alone.turn_alone.Goals as goal
 
 pub returns-then-not-has_exited-clause-turned : goal.returns-then-not-has_exited-clause-turned
@@ -21,3 +22,6 @@ returns-then-not-has_exited-clause-turned g c =
       sizes = c.cycles_on.ensures.sizes;
       sound = (λ before same. sounds_on m m' c.args.bytes.now c.cycles_on.new.bytes added before c.requires.can.whole turned done.1 same);
     }
+
+pub returns-else-not-has_exited-clause-logged : goal.returns-else-not-has_exited-clause-logged
+returns-else-not-has_exited-clause-logged g c = noted_none (length c.args.fast.now.log.entries) c.args.fast.now c.args.scribe.now refl

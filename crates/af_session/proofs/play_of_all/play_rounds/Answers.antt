@@ -155,3 +155,16 @@ returns-clause-spared g c =
     (λ (x : Ready × Two). spares_noted c.args.script.now.frames noted is.fast.log is.normal.mutator.past.events is (sym x.0.given.0 ∙ sym x.1.0) x.1.1)
     (on_ok_both Ready Two c.play_to_end.result done.ready
     (on_ok_both Tracks Spares c.play_to_end.result done.tracks (done.spares (spares_first c.args.script.now c.args.shared.now was c.requires.new))))
+
+pub returns-clause-sizes : goal.returns-clause-sizes
+returns-clause-sizes g c =
+    let given : Given = record { tracks = c.tracks-tracks.result.now; files = c.args.files.now } in
+    let links = c.links-links.result in
+    let was : SessionState = c.args.parties.now in
+    let is : SessionState = c.play_to_end.new.self in
+    let done = c.play_to_end.ensures in
+    let Ready : Type 0 = IsReady links given (length c.play_to_end.new.rounds.rounds) is in
+    let Frames : Type 0 = is.fast.frames ≡ was.fast.frames in
+    on_ok_weaker c.play_to_end.result
+    (λ (x : Ready × Frames). (x.1 ∙ frames_first c.args.script.now c.args.shared.now was c.requires.new c.args.files.now, x.0.together.fast.0.room.entries.0))
+    (on_ok_both Ready Frames c.play_to_end.result done.ready done.frames)

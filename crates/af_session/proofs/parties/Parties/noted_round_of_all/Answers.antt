@@ -1,7 +1,8 @@
-use Rattle.std.proofs.Common.{◌≡◌, ◌+◌, ◌++◌, ℕ, List, length, ap, ◌∙◌, arith}
+use Rattle.std.proofs.Common.{◌≡◌, ◌+◌, ◌++◌, ℕ, List, length, sym, ap, subst, ◌∙◌, arith}
 use Rattle.af_base.specs.Log.{Logged}
 use Rattle.af_io.specs.Files.{LeavesFront}
-use Rattle.af_model.specs.Journals.{cycles_of}
+use Rattle.af_model.specs.Journals.{RoundsNoted, cycles_of}
+use Rattle.af_session.specs.Logging.{LogsPlay}
 use Rattle.af_session.specs.Rounds.{Given, IsReady}
 use Rattle.af_session.specs.SideBySide.{all_noted}
 use Rattle.af_session.specs.Together.{SessionState}
@@ -56,3 +57,13 @@ returns-in_err-note_all-clause-left g c = λ told base out set.
 pub returns-in_err-note_all-clause-cause : goal.returns-in_err-note_all-clause-cause
 returns-in_err-note_all-clause-cause g c =
     then_memory c.from_residual-in_err-note_all.result (g.S.Store.faults c.args.store.now) (g.S.Store.faults c.send_round_of_all.new.store) c.in_ok-send_round_of_all.field-0 c.from_residual-in_err-note_all.ensures.1 c.in_ok-send_round_of_all.ensures.cause
+
+pub send_round_of_all-requires-clause-log : goal.send_round_of_all-requires-clause-log
+send_round_of_all-requires-clause-log g c = λ κs lives. (c.requires.log.0, c.args.rounds.now.rounds, c.requires.log.1)
+
+pub returns-clause-log : goal.returns-clause-log
+returns-clause-log g c = λ kept held.
+    let was : SessionState = c.args.self.now in
+    let is : SessionState = c.send_round_of_all.new.self in
+    let noted = returns-clause-noted g c in
+    subst (λ (x : RoundsNoted). LogsPlay kept is.fast x.rounds c.send_round_of_all.new.logging) (sym noted) (c.send_round_of_all.ensures.log kept c.args.rounds.now.rounds held)

@@ -1,5 +1,6 @@
 use Rattle.std.proofs.Common.{◌≡◌, ◌+◌, ◌*◌, ◌≤◌, ◌++◌, ℕ, length, sym, ap, subst, ◌∙◌, arith}
 use Rattle.std.proofs.lemmas.List.{with_items_is}
+use Rattle.af_session.specs.Logging.{HasBothLogged, IsScribe}
 use Rattle.af_session.specs.Rounds.{Given, IsReady}
 use Rattle.af_session.specs.Shown.{HasPlaces}
 use Rattle.af_session.specs.SideBySide.{AllPlayed, CanCycle, CanMixOn, HasNotedOn}
@@ -86,3 +87,9 @@ returns-clause-sound g c = λ before same.
     let cycled = c.all_turns.ensures.fast in
     subst (λ (s : SessionState). before ++ c.all_turns.new.bytes.items ≡ pcm_of s.fast.frames c.all_turns.new.fast.log) c.self.view_is
     (cycled.sound before (subst (λ (s : SessionState). before ++ c.args.bytes.now.items ≡ pcm_of s.fast.frames s.fast.log) (sym c.self.view_is) same))
+
+pub all_turns-requires-clause-log : goal.all_turns-requires-clause-log
+all_turns-requires-clause-log g c = λ κs lives. subst (λ (s : SessionState). IsScribe c.args.logging.now.log (length s.fast.log.entries) c.args.logging.now.scribe) (sym c.self.view_is) c.requires.log
+
+pub returns-clause-logged : goal.returns-clause-logged
+returns-clause-logged g c = subst (λ (s : SessionState). HasBothLogged (length s.fast.log.entries) c.all_turns.new.fast c.args.logging.now c.all_turns.new.logging) c.self.view_is c.all_turns.ensures.logged

@@ -7,6 +7,7 @@ use Rattle.af_base.specs.declared.state.FastState.{FastState}
 use Rattle.af_io.specs.Files.{SetsFile, LeavesFront}
 use Rattle.af_model.specs.Journals.{RoundsNoted}
 use Rattle.af_session.specs.Hostile.{SparesSoFar}
+use Rattle.af_session.specs.Logging.{LogsPlay}
 use Rattle.af_session.specs.PlayedRuns.{GoesOn, RunsOfAll}
 use Rattle.af_session.specs.Rounds.{Given, IsReady}
 use Rattle.af_session.specs.Shown.{HasPlaces, shown_at}
@@ -46,6 +47,7 @@ loop-alloc-init g c =
           (places_first tracks (length was.clients) (length was.fast.log.entries) c.args.tally.now (sym c.requires.ready.given.0) c.requires.tally);
       noted = subst (λ (x : RoundsNoted). AreNoted tracks x was.fast.log) (sym c.requires.rounds) (noted_none tracks was.fast.log log.0 log.1);
       spares = subst (λ (x : RoundsNoted). SparesSoFar [] was → SparesSoFar x.rounds was) (sym c.requires.rounds) (λ new. new);
+      log = (λ kept held. subst (λ (x : RoundsNoted). LogsPlay kept was.fast x.rounds c.args.logging.now) (sym c.requires.rounds) held);
       sizes = (refl, refl, refl);
       buffer = c.requires.buffer;
       tells = (λ told. told);
@@ -86,6 +88,7 @@ loop-alloc-preserved g c =
           (noted_of_all c.args.links.now given i now inv.ready (all_noted now next) more next round c.in_ok-noted_round_of_all.ensures.frames rounds inv.noted);
       spares = subst (λ (x : RoundsNoted). SparesSoFar [] c.args.self.now → SparesSoFar x.rounds next) (sym noted)
           (λ new. spares_of_all c.args.links.now given i now inv.ready next (c.noted_round_of_all.ensures.ready i inv.ready) more (all_noted now next) round rounds.rounds (inv.spares new));
+      log = (λ kept held. c.in_ok-noted_round_of_all.ensures.log kept (inv.log kept held));
       sizes = (c.noted_round_of_all.ensures.sizes.0 ∙ inv.sizes.0, c.noted_round_of_all.ensures.sizes.1 ∙ inv.sizes.1, c.noted_round_of_all.ensures.sizes.2 ∙ inv.sizes.2);
       buffer = search rules;
       tells = (λ told. c.noted_round_of_all.ensures.tells (inv.tells told));
@@ -193,3 +196,9 @@ returns-clause-frames g c = c.loop-alloc.invariant.sizes.0
 
 pub returns-clause-spares : goal.returns-clause-spares
 returns-clause-spares g c = λ new. c.loop-alloc.invariant.spares new
+
+pub noted_round_of_all-requires-clause-log : goal.noted_round_of_all-requires-clause-log
+noted_round_of_all-requires-clause-log g c = λ κs lives. (c.requires.log.0, c.loop-alloc.invariant.log c.requires.log.0 c.requires.log.1)
+
+pub returns-clause-log : goal.returns-clause-log
+returns-clause-log g c = λ kept held. c.loop-alloc.invariant.log kept held

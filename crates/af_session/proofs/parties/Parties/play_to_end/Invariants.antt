@@ -1,7 +1,8 @@
-use Rattle.std.proofs.Common.{◌≡◌, ◌-◌, ◌≤◌, [], Some, length}
+use Rattle.std.proofs.Common.{◌≡◌, ◌-◌, ◌≤◌, [], Option, Some, length}
 use Rattle.af_io.specs.Files.{Files, SetsFile}
 use Rattle.af_base.specs.declared.state.FastState.{FastState}
 use Rattle.af_session.specs.Hostile.{SparesSoFar}
+use Rattle.af_session.specs.Logging.{LogsPlay}
 use Rattle.af_session.specs.PlayedRuns.{RunsOfAll}
 use Rattle.af_session.specs.Rounds.{IsReady}
 use Rattle.af_session.specs.Shown.{HasPlaces, shown_at}
@@ -23,6 +24,7 @@ invariant-loop-alloc g l = record {
   places : HasPlaces (length l.rounds.rounds) (length l.self.clients) (length l.self.fast.log.entries) l.tally;
   noted : AreNoted (length l.tracks) l.rounds l.self.fast.log;
   spares : SparesSoFar [] l.fn.self → SparesSoFar l.rounds.rounds l.self;
+  log : (kept : Option ℕ) → LogsPlay kept l.fn.self.fast [] l.fn.logging → LogsPlay kept l.self.fast l.rounds.rounds l.logging;
   sizes : (l.self.fast.frames ≡ l.fn.self.fast.frames) × (l.self.fast.cycles ≡ l.fn.self.fast.cycles) × (l.bytes.room ≡ l.fn.bytes.room);
   buffer : length l.buffer ≡ l.fn.self.fast.frames;
   tells : g.S.Store.told l.fn.store → g.S.Store.told l.store;

@@ -1,15 +1,19 @@
-use Rattle.std.proofs.Common.{◌≡◌, ◌+◌, ◌≤◌, ℕ, Bool, length, map, refl, sym, ap, subst, ◌∙◌, arith}
+use Rattle.std.proofs.Common.{◌≡◌, ◌+◌, ◌-◌, ◌≤◌, ◌++◌, ℕ, Bool, List, length, map, refl, sym, ap, subst, ◌∙◌, arith}
+use Rattle.std.proofs.lemmas.List.{length-append}
+use Rattle.af_base.specs.declared.log.CycleEntry.{CycleEntry}
 use Rattle.af_base.specs.Log.{Logged, slots}
 use Rattle.af_base.specs.Turn.{turn_of}
 use Rattle.af_session.specs.Parties.{PartyState}
 use Rattle.af_session.specs.Rounds.{Given, IsReady}
 use Rattle.af_session.specs.Shown.{HasPlaces}
-use Rattle.af_session.specs.SideBySide.{with_all_calls, with_turn_if}
+use Rattle.af_session.specs.SideBySide.{all_noted, with_all_calls, with_turn_if}
 use Rattle.af_session.specs.Sound.{pcm_of}
 use Rattle.af_session.specs.Summaries.{Shown}
 use Rattle.af_session.specs.Tallies.{IsTally}
 use Rattle.af_session.specs.Together.{SessionState}
+use Rattle.af_session.proofs.AloneTurns.{turned_adds}
 use Rattle.af_session.proofs.FollowingRounds.{places_more}
+use Rattle.af_session.proofs.LogRounds.{are_ends, has_auditor, has_scribe, round_logs}
 use Rattle.af_session.proofs.NotedOfAll.{noted_after}
 use Rattle.af_session.proofs.NotedTurns.{follows_after, follows_all, places_after, sizes_after}
 use Rattle.af_session.proofs.Ready.{ready_ends}
@@ -112,3 +116,30 @@ returns-clause-sound g c = λ before same.
     let after = c.meet_in.ensures.ready (n + 1) next in
     let kept = sizes_after c.args.self.now c.play_at_once.new.self c.meet_in.new.self c.end_clients.new.self c.meet_in.ensures.met (sym after.given.0 ∙ next.given.0) c.end_clients.ensures in
     c.play_at_once.ensures.sound before same ∙ ap (λ (l : Logged). pcm_of c.args.self.now.fast.frames l) (sym kept.2)
+
+pub play_at_once-requires-clause-log : goal.play_at_once-requires-clause-log
+play_at_once-requires-clause-log g c = has_scribe c.requires.log.0 c.args.self.now.fast c.requires.log.1 c.args.logging.now c.requires.log.2
+
+pub play_at_once-requires-clause-auditor : goal.play_at_once-requires-clause-auditor
+play_at_once-requires-clause-auditor g c = has_auditor c.requires.log.0 c.args.self.now.fast c.requires.log.1 c.args.logging.now c.requires.ready.2.together.fast.0.room.entries.0 c.requires.log.2
+
+pub meet_in-requires-clause-log : goal.meet_in-requires-clause-log
+meet_in-requires-clause-log g c = are_ends c.requires.log.0 c.args.self.now.fast c.play_at_once.new.self.fast c.requires.log.1 c.args.logging.now c.play_at_once.new.logging c.requires.log.2 c.play_at_once.ensures.logged
+
+pub returns-clause-log : goal.returns-clause-log
+returns-clause-log g c = λ kept rounds held.
+    let n : ℕ = c.requires.ready.0 in
+    let was : SessionState = c.args.self.now in
+    let is : SessionState = c.play_at_once.new.self in
+    let end : SessionState = c.end_clients.new.self in
+    let next = c.play_at_once.ensures.ready n c.requires.ready.2 in
+    let after = c.meet_in.ensures.ready (n + 1) next in
+    let same = sizes_after was is c.meet_in.new.self end c.meet_in.ensures.met (sym after.given.0 ∙ next.given.0) c.end_clients.ensures in
+    let turns = c.play_at_once.ensures.turns in
+    let adds = turned_adds was.fast is.fast turns.0 c.requires.ready.2.whole turns.2.fast in
+    let more : List CycleEntry = adds.mixes ++ adds.last in
+    let few : length more ≤ 16 = (let both = length-append adds.mixes adds.last in let most = adds.few in omega arith) in
+    let count : length end.fast.log.entries - length was.fast.log.entries ≡ length more =
+    (let long = ap length adds.grows.entries in let both = length-append was.fast.log.entries more in let log = ap (λ (l : Logged). length l.entries) same.2 in omega arith) in
+    round_logs kept was.fast is.fast end.fast rounds (all_noted was end) more c.args.logging.now c.play_at_once.new.logging c.meet_in.new.logging held c.play_at_once.ensures.logged c.meet_in.ensures.log
+    c.play_at_once.ensures.sizes.0 c.play_at_once.ensures.sizes.1 adds.grows.entries few count same.0 same.1 same.2
