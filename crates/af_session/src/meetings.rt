@@ -10,7 +10,7 @@ ghost use Rattle.af_stateq.specs.Mutates.{at};
 ghost use Rattle.af_session.specs.Met.{EndsMet, MeetsAway, Met, TrackMet, item_at, proxies_of, slot_for, spot_of};
 ghost use Rattle.af_session.specs.Together.{AreTogether};
 
-use crate::party::Party;
+use af_party::Party;
 use af_base::{FastState, SLOTS, Steps};
 use af_client::Client;
 use af_fast::FastMixer;

@@ -1,5 +1,5 @@
 //! The parties of a session.
-use crate::party::Party;
+use af_party::Party;
 use af_fast::FastMixer;
 use af_normal::NormalMixer;
 use std::marker::Model;

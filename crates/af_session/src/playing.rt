@@ -11,13 +11,13 @@ ghost use Rattle.af_session.specs.Noted.{NotesFrames};
 ghost use Rattle.af_session.specs.Rendered.{Runs};
 ghost use Rattle.af_session.specs.Rounds.{IsReady, IsRound, round_told};
 ghost use Rattle.af_session.specs.Shown.{FollowsRound, HasPlaces, shown_at};
-ghost use Rattle.af_session.specs.Sound.{pcm_of};
-ghost use Rattle.af_session.specs.Summaries.{nothing_shown};
-ghost use Rattle.af_session.specs.Tallies.{IsTally};
+ghost use Rattle.af_tally.specs.Sound.{pcm_of};
+ghost use Rattle.af_tally.specs.Summaries.{nothing_shown};
+ghost use Rattle.af_tally.specs.Tallies.{IsTally};
 
 use crate::noting::know_frames;
 use crate::parties::Parties;
-use crate::tally::Tally;
+use af_tally::Tally;
 use af_base::{Frame, Items, Steps};
 use af_io::{Pcm, Store, StoreError};
 use af_link::Links;

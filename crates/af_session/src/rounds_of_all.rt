@@ -3,17 +3,17 @@ ghost use Rattle.std.specs.Prelude.{◌≡◌, ◌+◌, ◌*◌, ◌<◌, ◌≤
 ghost use Rattle.af_base.specs.Log.{slots};
 ghost use Rattle.af_base.specs.Turn.{turn_of};
 ghost use Rattle.af_session.specs.Met.{Met};
-ghost use Rattle.af_session.specs.Parties.{PartyState};
+ghost use Rattle.af_party.specs.Parties.{PartyState};
 ghost use Rattle.af_session.specs.Rounds.{IsReady};
 ghost use Rattle.af_session.specs.Shown.{FollowsRound, HasPlaces};
 ghost use Rattle.af_session.specs.SideBySide.{AllPlayed, HasNotedOn, IsRoundOfAll, all_noted, with_all_calls, with_turn_if};
-ghost use Rattle.af_session.specs.Sound.{pcm_of};
-ghost use Rattle.af_session.specs.Summaries.{Shown};
-ghost use Rattle.af_session.specs.Tallies.{IsTally, Keeps};
+ghost use Rattle.af_tally.specs.Sound.{pcm_of};
+ghost use Rattle.af_tally.specs.Summaries.{Shown};
+ghost use Rattle.af_tally.specs.Tallies.{IsTally, Keeps};
 
 use crate::parties::Parties;
 use crate::side_by_side::all_turns;
-use crate::tally::Tally;
+use af_tally::Tally;
 use af_base::{Frame, Items, Steps};
 use af_io::{Gate, Pcm};
 use af_link::Links;

@@ -6,8 +6,8 @@ ghost use Rattle.af_session.specs.SideBySide.{CanCycle, CanMixOn, CanTurn, HasCy
 ghost use Rattle.af_session.specs.Shown.{HasPlaces};
 
 use crate::alone::turn_alone;
-use crate::party::Party;
-use crate::tally::Tally;
+use af_party::Party;
+use af_tally::Tally;
 use af_base::{Frame, Items, Steps};
 use af_fast::FastMixer;
 use af_io::{Gate, Pcm};

@@ -1,13 +1,13 @@
 use Rattle.std.proofs.Common.{◌≡◌, ◌+◌, ◌≤◌, ℕ, Bool, length, map, refl, sym, ap, subst, ◌∙◌, arith}
 use Rattle.af_base.specs.Log.{Logged, slots}
 use Rattle.af_base.specs.Turn.{turn_of}
-use Rattle.af_session.specs.Parties.{PartyState}
+use Rattle.af_party.specs.Parties.{PartyState}
 use Rattle.af_session.specs.Rounds.{Given, IsReady}
 use Rattle.af_session.specs.Shown.{HasPlaces}
 use Rattle.af_session.specs.SideBySide.{with_all_calls, with_turn_if}
-use Rattle.af_session.specs.Sound.{pcm_of}
-use Rattle.af_session.specs.Summaries.{Shown}
-use Rattle.af_session.specs.Tallies.{IsTally}
+use Rattle.af_tally.specs.Sound.{pcm_of}
+use Rattle.af_tally.specs.Summaries.{Shown}
+use Rattle.af_tally.specs.Tallies.{IsTally}
 use Rattle.af_session.specs.Together.{SessionState}
 use Rattle.af_session.proofs.FollowingRounds.{places_more}
 use Rattle.af_session.proofs.NotedOfAll.{noted_after}
