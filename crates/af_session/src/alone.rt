@@ -6,10 +6,10 @@ ghost use Rattle.af_session.specs.Shown.{Follows, HasPlaces};
 ghost use Rattle.af_runs.specs.Pcm.{written};
 
 use crate::fast_turns::{is_mixed, mix_noted, push_written};
-use af_tally::Tally;
 use af_base::{Cycle, Frame, Items, Steps};
 use af_fast::FastMixer;
 use af_link::Links;
+use af_tally::Tally;
 use std::sync::ledger::Ledger;
 
 /// The most cycles of a turn.

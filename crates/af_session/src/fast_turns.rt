@@ -13,13 +13,12 @@ ghost use Rattle.af_tally.specs.Tallies.{IsTally, Keeps, most_looks};
 ghost use Rattle.af_session.specs.Together.{AreTogether};
 
 use crate::meetings::meet;
-use af_party::Party;
-use af_tally::push_pcm;
-use af_tally::Tally;
 use af_base::{Cycle, FastState, Frame, Items, Steps};
 use af_fast::FastMixer;
 use af_link::Links;
 use af_normal::NormalMixer;
+use af_party::Party;
+use af_tally::{Tally, push_pcm};
 use std::sync::ledger::Ledger;
 
 // Whether a cycle mixes.

@@ -24,11 +24,11 @@ use crate::making::make;
 use crate::parties::Parties;
 use crate::rendering::{Played, SessionFault, hand_back, hand_over, make_room, make_tally, sum_up};
 use crate::shared::Shared;
-use af_tally::Tally;
 use af_base::{Frame, Items};
 use af_io::{Gate, Pcm, Store, StoreError};
 use af_model::Rounds;
 use af_script::Script;
+use af_tally::Tally;
 use std::alloc::Global;
 use std::thread::Threads;
 

@@ -17,12 +17,12 @@ ghost use Rattle.af_tally.specs.Tallies.{IsTally};
 
 use crate::noting::know_frames;
 use crate::parties::Parties;
-use af_tally::Tally;
 use af_base::{Frame, Items, Steps};
 use af_io::{Pcm, Store, StoreError};
 use af_link::Links;
 use af_model::Rounds;
 use af_script::{TrackSpec, TurnSpec};
+use af_tally::Tally;
 use std::alloc::Global;
 use std::marker::Brand;
 use std::sync::ledger::{Blank, Ledger};

@@ -22,14 +22,14 @@ ghost use Rattle.af_session.specs.Together.{SessionState};
 
 use crate::noting::{copied_turn, know_frames};
 use crate::parties::Parties;
-use af_party::Party;
 use crate::playing::send_out;
-use af_tally::Tally;
 use af_base::{ClientCall, Frame, Items, Memory};
 use af_io::{Gate, Pcm, Store, StoreError};
 use af_link::Links;
 use af_model::Rounds;
+use af_party::Party;
 use af_script::TrackSpec;
+use af_tally::Tally;
 use std::alloc::Global;
 use std::thread::Threads;
 

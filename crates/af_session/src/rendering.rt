@@ -20,16 +20,15 @@ ghost use Rattle.af_session.specs.Together.{AreTogether};
 
 use crate::making::make;
 use crate::parties::Parties;
-use af_party::Party;
 use crate::shared::Shared;
-use af_tally::Summary;
-use af_tally::Tally;
 use af_base::{Frame, Items, Memory};
 use af_client::Client;
 use af_io::{Pcm, Store, StoreError};
 use af_model::{Journal, Rounds};
 use af_normal::NormalMixer;
+use af_party::Party;
 use af_script::Script;
+use af_tally::{Summary, Tally};
 use std::alloc::Global;
 use std::marker::Model;
 

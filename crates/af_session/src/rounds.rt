@@ -11,12 +11,12 @@ ghost use Rattle.af_tally.specs.Sound.{pcm_of};
 use crate::fast_turns::fast_turn;
 use crate::meetings::meet;
 use crate::parties::Parties;
-use af_party::Party;
-use af_tally::Tally;
 use af_base::{Frame, Items, Steps};
 use af_io::Pcm;
 use af_link::Links;
+use af_party::Party;
 use af_script::{TrackSpec, TurnSpec};
+use af_tally::Tally;
 use std::sync::ledger::Ledger;
 
 // Every client of these ends.

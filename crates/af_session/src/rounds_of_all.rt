@@ -13,11 +13,11 @@ ghost use Rattle.af_tally.specs.Tallies.{IsTally, Keeps};
 
 use crate::parties::Parties;
 use crate::side_by_side::all_turns;
-use af_tally::Tally;
 use af_base::{Frame, Items, Steps};
 use af_io::{Gate, Pcm};
 use af_link::Links;
 use af_script::TrackSpec;
+use af_tally::Tally;
 use std::marker::Brand;
 use std::sync::ledger::{Blank, Ledger};
 use std::thread::Threads;

@@ -6,14 +6,14 @@ ghost use Rattle.af_session.specs.SideBySide.{CanCycle, CanMixOn, CanTurn, HasCy
 ghost use Rattle.af_session.specs.Shown.{HasPlaces};
 
 use crate::alone::turn_alone;
-use af_party::Party;
-use af_tally::Tally;
 use af_base::{Frame, Items, Steps};
 use af_fast::FastMixer;
 use af_io::{Gate, Pcm};
 use af_link::Links;
 use af_normal::NormalMixer;
+use af_party::Party;
 use af_script::TrackSpec;
+use af_tally::Tally;
 use std::marker::Brand;
 use std::sync::ledger::{Blank, Ledger};
 use std::thread::{Threads, join_mut};
