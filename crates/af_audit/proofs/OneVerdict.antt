@@ -39,7 +39,7 @@ passes P from (suc count) zero h low = subst (λ n. P n ≡ true) (omega arith) 
 passes P from (suc count) (suc i) h low = subst (λ n. P n ≡ true) (omega arith) (passes P (from + 1) count i (both-right (P from) _ h) (omega (arith, low)))
 
 -- where all have ended, each party has
-each_ended : (s : Session) (run : Run) (party : ℕ) → all_ended s run ≡ true → party ≤ fast_party s → has_ended s run party ≡ true
+pub each_ended : (s : Session) (run : Run) (party : ℕ) → all_ended s run ≡ true → party ≤ fast_party s → has_ended s run party ≡ true
 each_ended s run party h low = subst (λ n. has_ended s run n ≡ true) (omega arith) (passes (has_ended s run) 0 (fast_party s + 1) party h (omega (arith, low)))
 
 -- where no party has a fault, there is no first one

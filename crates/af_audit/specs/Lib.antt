@@ -1,4 +1,6 @@
 pub mod Verdicts
 pub mod RunLaws
-pub mod Judged
 pub mod RunJudged
+pub mod RunKept
+pub mod RoundTold
+pub mod MeetingsJudged

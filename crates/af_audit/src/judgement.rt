@@ -1,7 +1,14 @@
 //! The verdict on a journal and its PCM.
-ghost use Rattle.std.specs.Prelude.{◌≡◌, ◌+◌, ◌≤◌, IfOk, IfSome, length};
-ghost use Rattle.af_audit.specs.Judged.{IsJudgement};
+ghost use Rattle.std.specs.Prelude.{◌≡◌, ◌↔◌, ◌+◌, ◌<◌, ◌≤◌, IfOk, IfSome, length};
+ghost use Rattle.af_audit.specs.Verdicts.{IsVerdict};
+ghost use Rattle.af_audit.specs.declared.verdict.Verdict.TheVariants as verdict;
 ghost use Rattle.af_audit.specs.RunJudged.{IsReady};
+ghost use Rattle.af_audit.specs.RunKept.{FindsFault, KeepsRun};
+ghost use Rattle.af_runs.specs.LegalRuns.{IsLegalRun, marks_of, session_of};
+ghost use Rattle.af_runs.specs.Pcm.{journal_pcm};
+ghost use Rattle.af_runs.specs.Runs.{new_run};
+ghost use Rattle.af_runs.specs.Sessions.{Session};
+ghost use Rattle.af_script.specs.Form.{IsScript};
 
 use crate::differ::first_differ;
 use crate::run_judge::{RunJudge, new_tracks};
@@ -26,12 +33,14 @@ fn judge_rounds(
     requires specs { length specs.now ≡ length tracks.old }
     requires files { length files.now ≡ length tracks.old }
     requires tracks { journal.now.tracks ≡ length tracks.old }
-    ensures { IfOk result (λ found. IfSome found (λ at. (at.0 ≤ length journal.now.rounds) × (at.1 ≤ length tracks.old + 1))) }
+    ensures place { IfOk result (λ found. IfSome found (λ at. (at.0 ≤ length journal.now.rounds) × (at.1 ≤ length tracks.old + 1))) }
+    ensures fault { (s : Session) → IsScript s.script → s.script.tracks ≡ specs.now → s.files ≡ files.now → KeepsRun s (marks_of journal.now.rounds) run.old tracks.old (new_run s) → IfOk result (λ found. FindsFault s (marks_of journal.now.rounds) (new_run s) journal.now.rounds found) }
 {
     let rounds = journal.rounds();
     for round in 0..rounds {
-        if let Some(party) = run.round(tracks, specs, files, journal, round)? {
-            return Ok(Some((round as u64, party)));
+        match run.round(tracks, specs, files, journal, round)? {
+            Some(party) => return Ok(Some((round as u64, party))),
+            None => {}
         }
     }
     match run.going_party(tracks) {
@@ -49,14 +58,37 @@ fn first_fault(
 ) -> Result<Option<(u64, u32)>, Memory>
     requires tracks { journal.now.tracks ≡ length script.now.tracks }
     requires files { length files.now ≡ length script.now.tracks }
-    ensures { IfOk result (λ found. IfSome found (λ at. (at.0 ≤ length journal.now.rounds) × (at.1 ≤ length script.now.tracks + 1))) }
+    ensures place { IfOk result (λ found. IfSome found (λ at. (at.0 ≤ length journal.now.rounds) × (at.1 ≤ length script.now.tracks + 1))) }
+    ensures fault { IfOk result (λ found. let s = session_of script.now files.now in FindsFault s (marks_of journal.now.rounds) (new_run s) journal.now.rounds found) }
 {
     let mut run = RunJudge::new(alloc, script)?;
     let mut tracks = new_tracks(alloc, script, journal)?;
     judge_rounds(&mut run, &mut tracks, script.tracks(), files, journal)
 }
 
-/// The verdict on a journal and its PCM: legal, or the first round and in it the least party at fault, or the first byte that isn't that of the mix.
+// The first fault, and without one the first byte that isn't that of the mix.
+fn find(
+    alloc: Global,
+    script: &Script,
+    files: &[Pcm],
+    journal: &Journal,
+    pcm: &[u8],
+) -> Result<Verdict, Memory>
+    requires tracks { journal.now.tracks ≡ length script.now.tracks }
+    requires files { length files.now ≡ length script.now.tracks }
+    ensures { IfOk result (IsVerdict script.now files.now journal.now pcm.now) }
+{
+    if let Some((round, party)) = first_fault(alloc, script, files, journal)? {
+        return Ok(Verdict::Refused(Refusal::Round { round, party }));
+    }
+    let sound = sound_of(alloc, journal, script.frames() as usize)?;
+    Ok(match first_differ(&sound, pcm) {
+        None => Verdict::Legal,
+        Some(at) => Verdict::Refused(Refusal::Pcm { at: at as u64 }),
+    })
+}
+
+/// The verdict on a journal and its PCM: legal, or the first round and in it the least party at fault, or the first byte that isn't that of the mix. It is legal exactly where the journal is that of a legal run of the script and its files, and the bytes are its PCM.
 ///
 /// The journal has as many tracks as the script, and the files are those that `play` may be given. It never answers Text. Memory is its only error.
 pub fn verify(
@@ -68,14 +100,11 @@ pub fn verify(
 ) -> Result<Verdict, Memory>
     requires tracks { journal.now.tracks ≡ length script.now.tracks }
     requires files { length files.now ≡ length script.now.tracks }
-    ensures { IfOk result (IsJudgement script.now files.now journal.now pcm.now) }
+    ensures verdict { IfOk result (IsVerdict script.now files.now journal.now pcm.now) }
+    ensures legal { IfOk result (λ found. (found ≡ verdict.Legal) ↔ (IsLegalRun script.now files.now journal.now × (pcm.now ≡ journal_pcm script.now.frames journal.now))) }
 {
-    if let Some((round, party)) = first_fault(alloc, script, files, journal)? {
-        return Ok(Verdict::Refused(Refusal::Round { round, party }));
-    }
-    let sound = sound_of(alloc, journal, script.frames() as usize)?;
-    Ok(match first_differ(&sound, pcm) {
-        None => Verdict::Legal,
-        Some(at) => Verdict::Refused(Refusal::Pcm { at: at as u64 }),
-    })
+    let found = find(alloc, script, files, journal, pcm)?;
+    let _tracks = script.tracks();
+    let _log = journal.log();
+    Ok(found)
 }

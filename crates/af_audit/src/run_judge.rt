@@ -1,12 +1,21 @@
 //! A run as its journal tells it, round by round.
-ghost use Rattle.std.specs.Prelude.{◌≡◌, ◌⊎◌, ◌+◌, ◌<◌, ◌≤◌, IfOk, IfSome, length};
-ghost use Rattle.std.specs.List.{list_any};
+ghost use Rattle.std.specs.Prelude.{◌≡◌, ◌⊎◌, ◌↔◌, ◌+◌, ◌-◌, ◌^◌, ◌<◌, ◌≤◌, IfOk, IfSome, IsTrue, OnOk, length, map, nat_le, take, drop, option_map, true};
+ghost use Rattle.std.specs.List.{list_any, prefix_len};
 ghost use Rattle.af_base.specs.Turn.{turn_of};
-ghost use Rattle.af_model.specs.JournalForm.{IsTurn};
-ghost use Rattle.af_model.specs.Journals.{entries_of};
-ghost use Rattle.af_runs.specs.LegalRuns.{is_poke_on};
+ghost use Rattle.af_model.specs.JournalForm.{IsJournal, IsTurn};
+ghost use Rattle.af_model.specs.Journals.{calls_at, entries_of, frames_of, round_at};
+ghost use Rattle.af_runs.specs.LegalRuns.{is_lawful_block, is_poke_on, marks_of};
+ghost use Rattle.af_runs.specs.Sessions.{Session, spec_setting};
+ghost use Rattle.af_script.specs.Form.{IsScript};
+ghost use Rattle.af_judge.specs.EntriesTold.{AreEntriesRight, MayEnter, entries_leave, playing};
 ghost use Rattle.af_judge.specs.NormalJudged.{IsJudged};
+ghost use Rattle.af_judge.specs.BlocksMet.{AreShort, BothKeep, blocks_met};
+ghost use Rattle.af_judge.specs.QueueNumbers.{turn_steps, with_steps};
+ghost use Rattle.af_judge.specs.SharedTold.{AreRight};
+ghost use Rattle.af_audit.specs.MeetingsJudged.{TracksMet, is_there, mixers_met};
+ghost use Rattle.af_audit.specs.RoundTold.{MixersTold, RoundPlayed, TurnIfTold, TurnTold, ended_track, pipe_turned, report_turned};
 ghost use Rattle.af_audit.specs.RunJudged.{IsReady};
+ghost use Rattle.af_audit.specs.RunKept.{AreNewTracks, CallsJudged, IsNewJudge, JudgesRound, KeepsRun, LeastBelow, client_ended, found_after, least_found, lesser, party_ended, run_before};
 
 use af_base::{ClientCall, FastLog, FastState, Memory, TurnEntry};
 use af_io::Pcm;
@@ -61,6 +70,7 @@ fn has_poke_on(commands: bool, calls: &[ClientCall]) -> bool
 // Whether a block of a track is never poked in the journal.
 fn is_lawful(journal: &Journal, track: u32, commands: bool) -> bool
     requires { track < journal.now.tracks }
+    ensures { result ≡ is_lawful_block commands journal.now.rounds track }
 {
     for round in 0..journal.rounds() {
         if has_poke_on(commands, journal.client(round, track)) {
@@ -78,6 +88,7 @@ pub(crate) fn new_tracks(
 ) -> Result<Vec<TrackJudge>, Memory>
     requires tracks { journal.now.tracks ≡ length script.now.tracks }
     ensures count { IfOk result (λ tracks. length tracks.items ≡ length script.now.tracks) }
+    ensures new { IfOk result (λ tracks. AreNewTracks script.now journal.now.rounds (length script.now.tracks) tracks.items) }
 {
     let version = script.version();
     let mut tracks = Vec::new(alloc);
@@ -90,7 +101,9 @@ pub(crate) fn new_tracks(
 }
 
 // How a track is mixed.
-fn setting_of(spec: &TrackSpec) -> Setting {
+fn setting_of(spec: &TrackSpec) -> Setting
+    ensures { result ≡ spec_setting spec.now }
+{
     Setting {
         fast: spec.fast,
         mono: spec.mono,
@@ -100,10 +113,11 @@ fn setting_of(spec: &TrackSpec) -> Setting {
 
 // How the tracks of a script are mixed.
 fn settings_of(alloc: Global, script: &Script) -> Result<Vec<Setting>, Memory>
-    ensures { IfOk result (λ settings. length settings.items ≡ length script.now.tracks) }
+    ensures { IfOk result (λ settings. settings.items ≡ map spec_setting script.now.tracks) }
 {
+    let specs = script.tracks();
     let mut settings = Vec::new(alloc);
-    for spec in script.tracks() {
+    for spec in specs {
         settings.push(setting_of(spec))?;
     }
     Ok(settings)
@@ -114,11 +128,14 @@ fn early_of(log: &FastLog, entries: Entries, pushed: u64) -> Entries
     requires { entries.first + entries.count ≤ length log.now.entries }
     ensures first { result.first ≡ entries.first }
     ensures count { result.count ≤ entries.count }
+    ensures early { result.count ≡ prefix_len (λ e. nat_le e.state pushed) (take entries.count (drop entries.first log.now.entries)) }
 {
+    let _len = log.len();
     for at in 0..entries.count {
-        if let Some(entry) = log.entry(entries.first.saturating_add(at))
-            && entry.state > pushed
-        {
+        let Some(entry) = log.entry(entries.first + at) else {
+            unreachable!()
+        };
+        if entry.state > pushed {
             return Entries {
                 first: entries.first,
                 count: at,
@@ -130,11 +147,13 @@ fn early_of(log: &FastLog, entries: Entries, pushed: u64) -> Entries
 
 // The entries behind the first ones.
 fn late_of(entries: Entries, early: usize) -> Entries
-    requires { early ≤ entries.count }
-    ensures { result.first + result.count ≤ entries.first + entries.count }
+    requires early { early ≤ entries.count }
+    requires few { entries.first + entries.count < 2 ^ 64 }
+    ensures first { result.first ≡ entries.first + early }
+    ensures count { result.count ≡ entries.count - early }
 {
     Entries {
-        first: entries.first.saturating_add(early),
+        first: entries.first + early,
         count: entries.count - early,
     }
 }
@@ -142,7 +161,10 @@ fn late_of(entries: Entries, early: usize) -> Entries
 // The log of a journal.
 #[tactic(auto, using(crate::proofs::RoundParts::as_many))]
 fn log_in(journal: &Journal) -> &FastLog
-    ensures { length result.now.entries ≡ length (entries_of journal.now.rounds) }
+    ensures count { length result.now.entries ≡ length (entries_of journal.now.rounds) }
+    ensures entries { result.now.entries ≡ map (λ e. e.entry) (entries_of journal.now.rounds) }
+    ensures frames { result.now.frames ≡ frames_of (entries_of journal.now.rounds) }
+    ensures form { IsJournal journal.now }
 {
     journal.log()
 }
@@ -151,7 +173,9 @@ fn log_in(journal: &Journal) -> &FastLog
 #[tactic(auto, using(crate::proofs::RoundParts::within_rounds))]
 fn entries_in(journal: &Journal, round: usize) -> Entries
     requires { round < length journal.now.rounds }
-    ensures { result.first + result.count ≤ length (entries_of journal.now.rounds) }
+    ensures inside { result.first + result.count ≤ length (entries_of journal.now.rounds) }
+    ensures first { result.first ≡ length (entries_of (take round journal.now.rounds)) }
+    ensures count { result.count ≡ length (round_at journal.now round).entries }
 {
     let (first, count) = journal.cycles(round);
     Entries { first, count }
@@ -160,15 +184,27 @@ fn entries_in(journal: &Journal, round: usize) -> Entries
 // The turn of a round.
 fn turn_in(journal: &Journal, round: usize) -> Option<&TurnEntry>
     requires { round < length journal.now.rounds }
-    ensures { IfSome result (λ e. IsTurn journal.now.tracks (turn_of e.now)) }
+    ensures form { IfSome result (λ e. IsTurn journal.now.tracks (turn_of e.now)) }
+    ensures turn { option_map (λ e. turn_of e.now) result ≡ (round_at journal.now round).turn }
 {
     let _log = journal.log();
     journal.turn(round)
 }
 
+// The least client found at fault, after one more that is right or not.
+fn found_after(least: Option<u32>, right: bool, at: u32) -> Option<u32>
+    ensures { result ≡ found_after least right at }
+{
+    match least {
+        None if !right => Some(at),
+        _ => least,
+    }
+}
+
 // The lesser of two clients.
 fn least(a: Option<u32>, b: Option<u32>) -> Option<u32>
-    ensures { (result ≡ a) ⊎ (result ≡ b) }
+    ensures either { (result ≡ a) ⊎ (result ≡ b) }
+    ensures least { result ≡ lesser a b }
 {
     match (a, b) {
         (None, _) => b,
@@ -183,7 +219,8 @@ impl Found {
         requires few { tracks ≤ 32 }
         requires caller { IfSome self.caller (λ track. track < tracks) }
         requires met { IfSome self.met (λ track. track < tracks) }
-        ensures { IfSome result (λ party. party ≤ tracks + 1) }
+        ensures party { IfSome result (λ party. party ≤ tracks + 1) }
+        ensures least { result ≡ least_found over tracks self }
     {
         if over {
             return Some(0);
@@ -204,7 +241,7 @@ impl Found {
 // The first client that hasn't ended.
 fn going_client(tracks: &[TrackJudge]) -> Option<u32>
     requires { length tracks.now ≤ 32 }
-    ensures { IfSome result (λ track. track < length tracks.now) }
+    ensures { LeastBelow (λ track. client_ended tracks.now track ≡ true) (length tracks.now) result }
 {
     for at in 0..tracks.len() {
         if !tracks[at].has_ended() {
@@ -229,59 +266,50 @@ fn call_all(
     requires round { round < length journal.now.rounds }
     ensures count { length tracks.new ≡ length tracks.old }
     ensures track { IfOk result (λ found. IfSome found (λ track. track < length tracks.old)) }
+    ensures calls { IfOk result (CallsJudged (length tracks.old) specs.now files.now (calls_at journal.now round) tracks.old tracks.new) }
 {
     let mut least = None;
     for at in 0..tracks.len() {
         let calls = journal.client(round, at as u32);
         let file = files[at].frames();
         let legal = tracks[at].client_turn(specs[at].ops.as_slice(), file, calls)?;
-        if !legal && least.is_none() {
-            least = Some(at as u32);
-        }
+        least = found_after(least, legal, at as u32);
     }
     Ok(least)
 }
 
 // Once the normal mixer has ended, every client has.
 fn end_all(tracks: &mut [TrackJudge])
-    ensures { length tracks.new ≡ length tracks.old }
+    ensures { tracks.new ≡ map ended_track tracks.old }
 {
     for track in tracks {
         track.end();
     }
 }
 
-// Tells entries over these states. Answers whether each is legal.
-fn enter(
-    fast: &mut FastJudge,
-    states: &[FastState],
-    tracks: &mut [TrackJudge],
-    log: &FastLog,
-    entries: Entries,
-) -> Result<bool, Memory>
-    ensures { length tracks.new ≡ length tracks.old }
+// Both hold.
+fn both(first: bool, second: bool) -> bool
+    ensures { IsTrue result ↔ (IsTrue first × IsTrue second) }
 {
-    let mut right = true;
-    for at in 0..entries.count {
-        if let Some(entry) = log.entry(entries.first.saturating_add(at)) {
-            let legal = fast.entry(states, tracks, log, entry)?;
-            right = right && legal;
-        }
-    }
-    Ok(right)
+    first && second
 }
 
 // A track meets the mixers. Answers whether both its blocks have their histories.
-fn meet(track: &mut TrackJudge, there: bool, hands: bool) -> Result<bool, Memory> {
+fn meet(track: &mut TrackJudge, there: bool, hands: bool) -> Result<bool, Memory>
+    ensures met { OnOk result (track.new ≡ blocks_met there hands track.old) }
+    ensures short { OnOk result (AreShort there track.new) }
+    ensures right { IfOk result (λ yes. IsTrue yes ↔ BothKeep there track.new) }
+{
     let stream = track.stream.meet(there, hands)?;
     let commands = track.commands.meet(true, false)?;
-    Ok(stream && commands)
+    Ok(both(stream, commands))
 }
 
 impl RunJudge {
     /// Before the first round of a script.
     pub(crate) fn new(alloc: Global, script: &Script) -> Result<RunJudge, Memory>
-        ensures { IfOk result (λ j. IsReady j (length script.now.tracks)) }
+        ensures ready { IfOk result (λ j. IsReady j (length script.now.tracks)) }
+        ensures new { IfOk result (λ j. IsNewJudge script.now j) }
     {
         let (frames, multiple) = (script.frames(), script.normal());
         let settings = settings_of(alloc, script)?;
@@ -299,7 +327,8 @@ impl RunJudge {
     /// The least party that hasn't ended; None where all have.
     pub(crate) fn going_party(&self, tracks: &[TrackJudge]) -> Option<u32>
         requires { length tracks.now ≤ 32 }
-        ensures { IfSome result (λ party. party ≤ length tracks.now + 1) }
+        ensures least { LeastBelow (λ party. party_ended self.now tracks.now party ≡ true) (length tracks.now + 2) result }
+        ensures party { IfSome result (λ party. party ≤ length tracks.now + 1) }
     {
         if let Some(track) = going_client(tracks) {
             return Some(track);
@@ -314,11 +343,13 @@ impl RunJudge {
         None
     }
 
-    // What a turn put into the pipe, and the report that it loaded.
-    fn note_turn(&mut self, turn: &TurnEntry) -> Result<(), Memory>
+    // What a turn did at the queue, after so many pushes, what it put into the pipe, and the report that it loaded.
+    fn note_turn(&mut self, pushed: u64, turn: &TurnEntry) -> Result<(), Memory>
         requires judged { IsJudged self.old.normal }
         ensures same { self.new.normal ≡ self.old.normal }
+        ensures noted { OnOk result (let e = turn_of turn.now in self.new ≡ record self.old { fast = record self.old.fast { queue = with_steps (turn_steps pushed e.ended e.ack e.push) self.old.fast.queue; pipe = pipe_turned self.old.normal.setup e self.old.fast.pipe }; report = report_turned e self.old.report }) }
     {
+        self.fast.queue.turned(pushed, turn)?;
         if turn.ended {
             return Ok(());
         }
@@ -345,14 +376,14 @@ impl RunJudge {
         requires form { IsTurn (length tracks.old) (turn_of turn.now) }
         ensures ready { IfOk result (λ _. IsReady self.new (length tracks.old)) }
         ensures count { IfOk result (λ _. length tracks.new ≡ length tracks.old) }
+        ensures told { IfOk result (λ right. TurnTold self.old tracks.old (take later.count (drop later.first log.now.entries)) (turn_of turn.now) right self.new tracks.new) }
     {
         let had_ended = self.normal.has_ended();
         let states = self.normal.states();
         let pushed = states.len() as u64;
         let report = self.fast.report_of(states, tracks, log, later, turn.cycle)?;
-        self.fast.queue.turned(pushed, turn)?;
         let legal = self.normal.turn(self.alloc, tracks, &report, turn)?;
-        self.note_turn(turn)?;
+        self.note_turn(pushed, turn)?;
         Ok(legal && !had_ended)
     }
 
@@ -369,6 +400,7 @@ impl RunJudge {
         requires form { IfSome turn (λ e. IsTurn (length tracks.old) (turn_of e.now)) }
         ensures ready { IfOk result (λ _. IsReady self.new (length tracks.old)) }
         ensures count { IfOk result (λ _. length tracks.new ≡ length tracks.old) }
+        ensures told { IfOk result (λ right. TurnIfTold self.old tracks.old (take later.count (drop later.first log.now.entries)) (option_map (λ e. turn_of e.now) turn.entry) right self.new tracks.new) }
     {
         match turn {
             None => Ok(self.normal.has_ended()),
@@ -388,20 +420,23 @@ impl RunJudge {
         requires round { round < length journal.now.rounds }
         ensures ready { IfOk result (λ _. IsReady self.new (length tracks.old)) }
         ensures count { IfOk result (λ _. length tracks.new ≡ length tracks.old) }
+        ensures told { IfOk result (λ right. let r = round_at journal.now round in MixersTold (frames_of (entries_of journal.now.rounds)) (map (λ e. e.entry) r.entries) r.turn self.old tracks.old right.0 right.1 self.new tracks.new) }
     {
         let log = log_in(journal);
         let entries = entries_in(journal, round);
+        let _len = log.len();
         let early = early_of(log, entries, self.normal.states().len() as u64);
         let late = late_of(entries, early.count);
-        let before = enter(&mut self.fast, self.normal.states(), tracks, log, early)?;
+        let before = self.fast.enter(self.normal.states(), tracks, log, early)?;
         let normal = self.turn_if(tracks, log, late, turn_in(journal, round))?;
-        let after = enter(&mut self.fast, self.normal.states(), tracks, log, late)?;
-        Ok((normal, before && after))
+        let after = self.fast.enter(self.normal.states(), tracks, log, late)?;
+        Ok((normal, both(before, after)))
     }
 
     // Whether as many entries may come in a round as do: none after the end, and else a turn of the fast mixer, within the script's cycles.
     fn may_enter(&self, journal: &Journal, round: usize) -> bool
         requires { round < length journal.now.rounds }
+        ensures { IsTrue result ↔ MayEnter self.now.fast self.now.cycles (map (λ e. e.entry) (entries_of journal.now.rounds)) (length (entries_of (take round journal.now.rounds))) (length (round_at journal.now round).entries) }
     {
         let entries = entries_in(journal, round);
         let told = self.fast.entries();
@@ -415,7 +450,9 @@ impl RunJudge {
     }
 
     // Whether the stream proxy of a track takes part in a meeting: it is home, or the fast mixer has it.
-    fn is_there(&self, track: u32) -> bool {
+    fn is_there(&self, track: u32) -> bool
+        ensures { result ≡ is_there self.now track }
+    {
         self.normal.is_home(track) || self.fast.holds(self.normal.states(), track)
     }
 
@@ -424,27 +461,28 @@ impl RunJudge {
         requires few { length tracks.old ≤ 32 }
         ensures count { length tracks.new ≡ length tracks.old }
         ensures track { IfOk result (λ found. IfSome found (λ track. track < length tracks.old)) }
+        ensures met { IfOk result (λ found. TracksMet self.now (length tracks.old) tracks.old tracks.new found) }
     {
         let hands = self.normal.has_hands();
         let mut least = None;
         for at in 0..tracks.len() {
             let there = self.is_there(at as u32);
             let right = meet(&mut tracks[at], there, hands)?;
-            if !right && least.is_none() {
-                least = Some(at as u32);
-            }
+            least = found_after(least, right, at as u32);
         }
         Ok(least)
     }
 
     // The mixers meet. Answers whether the queue, the pipe and the report have their histories.
     fn meet_mixers(&mut self) -> Result<bool, Memory>
-        ensures { self.new.normal ≡ self.old.normal }
+        ensures same { self.new.normal ≡ self.old.normal }
+        ensures met { OnOk result (self.new ≡ mixers_met self.old) }
+        ensures right { IfOk result (λ yes. IsTrue yes ↔ AreRight self.old.fast.told.report.cycle self.old.fast.queue self.old.report self.old.fast.pipe) }
     {
         let queue = self.fast.queue.meet()?;
         let pipe = self.fast.pipe.meet()?;
         let report = self.report.meet(self.fast.entries());
-        Ok(queue && pipe && report)
+        Ok(both(queue, both(pipe, report)))
     }
 
     // Tells all turns and meetings of a round, and answers what is found.
@@ -465,6 +503,7 @@ impl RunJudge {
         ensures count { IfOk result (λ _. length tracks.new ≡ length tracks.old) }
         ensures caller { IfOk result (λ found. IfSome found.caller (λ track. track < length tracks.old)) }
         ensures met { IfOk result (λ found. IfSome found.met (λ track. track < length tracks.old)) }
+        ensures told { IfOk result (λ found. let all = entries_of journal.now.rounds in RoundPlayed specs.now files.now (frames_of all) (map (λ e. e.entry) all) (length (entries_of (take round journal.now.rounds))) (round_at journal.now round) self.old tracks.old found self.new tracks.new) }
     {
         self.fast.begin_round();
         let may = self.may_enter(journal, round);
@@ -478,8 +517,8 @@ impl RunJudge {
         Ok(Found {
             caller,
             met,
-            normal: normal && shared,
-            fast: fast && may,
+            normal: both(normal, shared),
+            fast: both(fast, may),
         })
     }
 
@@ -500,9 +539,12 @@ impl RunJudge {
         ensures ready { IfOk result (λ _. IsReady self.new (length tracks.old)) }
         ensures count { IfOk result (λ _. length tracks.new ≡ length tracks.old) }
         ensures party { IfOk result (λ found. IfSome found (λ party. party ≤ length tracks.old + 1)) }
+        ensures judged { (s : Session) → IsScript s.script → s.script.tracks ≡ specs.now → s.files ≡ files.now → (let marks = marks_of journal.now.rounds in let run = run_before s journal.now.rounds round in
+            KeepsRun s marks self.old tracks.old run → IfOk result (λ found. JudgesRound s marks run (round_at journal.now round) self.new tracks.new found)) }
     {
-        let over = self.going_party(tracks).is_none();
+        let _log = log_in(journal);
+        let going = self.going_party(tracks);
         let found = self.play(tracks, specs, files, journal, round)?;
-        Ok(found.least(over, tracks.len() as u32))
+        Ok(found.least(going.is_none(), tracks.len() as u32))
     }
 }

@@ -16,6 +16,9 @@ use af_model::{Journal, Rounds};
 use af_script::Script;
 use std::alloc::Global;
 
+// The most rounds that are kept: more than any run has.
+const MOST_ROUNDS: usize = 131_072;
+
 /// Why a text was not read.
 #[derive(Clone, Copy, Debug, PartialEq, Eq)]
 pub enum JournalFault {
@@ -167,9 +170,20 @@ pub(crate) fn build(alloc: Global, bytes: &[u8], tracks: u32) -> Result<Journal,
     Ok(Journal::new(noted, log))
 }
 
+// Whether a text has no more rounds than are kept: no other line has an R. A round takes some hundred bytes and more, and its line two.
+fn has_few_rounds(bytes: &[u8]) -> bool {
+    let mut rounds = 0_usize;
+    for byte in bytes {
+        if *byte == b'R' {
+            rounds = rounds.saturating_add(1);
+        }
+    }
+    rounds <= MOST_ROUNDS
+}
+
 /// Reads a journal's text, for as many tracks as the script has: the journal whose text it is.
 ///
-/// A text that has no reading is answered by the number of its first bad line, as `first_bad_line` gives it, and is known before any memory is taken. Memory comes only for a text that has one; so does a text of more entries or frames than a log can hold (100,000 entries, and 2 ^ 21 of entries times frames of a slot).
+/// A text that has no reading is answered by the number of its first bad line, as `first_bad_line` gives it, and is known before any memory is taken. Memory comes only for a text that has one; so does a text of more entries or frames than a log can hold (100,000 entries, and 2 ^ 21 of entries times frames of a slot), or of more than 131,072 rounds.
 pub fn read(alloc: Global, bytes: &[u8], script: &Script) -> Result<Journal, JournalFault>
     ensures journal { IfOk result (Reads (length script.now.tracks) bytes.now) }
     ensures only { IfOk result (λ journal. (other : JournalData) → Reads (length script.now.tracks) bytes.now other → other ≡ journal) }
@@ -177,6 +191,9 @@ pub fn read(alloc: Global, bytes: &[u8], script: &Script) -> Result<Journal, Jou
 {
     if let Some(number) = first_bad_line(bytes, script) {
         return Err(JournalFault::Line { number });
+    }
+    if !has_few_rounds(bytes) {
+        return Err(JournalFault::Memory);
     }
     match build(alloc, bytes, script.tracks().len() as u32) {
         Ok(journal) => Ok(journal),

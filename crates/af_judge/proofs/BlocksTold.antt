@@ -25,11 +25,11 @@ pub client-client : (told : List Moment) (es : List ClientEvent) → client_of (
 client-client told [] = sym (append-nil (client_of told))
 client-client told (e ∷ es) = client-client (by_client e ∷ told) es ∙ append_assoc (client_of told) (e ∷ []) es
 
-client-server : (told : List Moment) (es : List ClientEvent) → server_of (told_more told (map by_client es)) ≡ server_of told
+pub client-server : (told : List Moment) (es : List ClientEvent) → server_of (told_more told (map by_client es)) ≡ server_of told
 client-server told [] = refl
 client-server told (e ∷ es) = client-server (by_client e ∷ told) es
 
-client-hand : (told : List Moment) (es : List ClientEvent) → hand_of (told_more told (map by_client es)) ≡ hand_of told
+pub client-hand : (told : List Moment) (es : List ClientEvent) → hand_of (told_more told (map by_client es)) ≡ hand_of told
 client-hand told [] = refl
 client-hand told (e ∷ es) = client-hand (by_client e ∷ told) es
 

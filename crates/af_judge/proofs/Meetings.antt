@@ -149,17 +149,17 @@ module _ {P A B : Type 0} (legal : P → Event A B → Type 0) (next : P → Eve
         let same : z ≡ b = ap (head_or b) f in
         absurd (omega (arith, n, m.b_knows p (subst (λ w. legal p (two w)) same l.0)))
 
-  legal_both : (p : P) (es fs : List (Event A B)) → Legal legal next p es → Legal legal next (after legal next p es) fs → Legal legal next p (es ++ fs)
+  pub legal_both : (p : P) (es fs : List (Event A B)) → Legal legal next p es → Legal legal next (after legal next p es) fs → Legal legal next p (es ++ fs)
   legal_both p [] fs l k = k
   legal_both p (e ∷ es) fs l k = (l.0, legal_both (next p e) es fs l.1 k)
 
-  twos_both : (xs ys : List (Event A B)) → twos (xs ++ ys) ≡ twos xs ++ twos ys
+  pub twos_both : (xs ys : List (Event A B)) → twos (xs ++ ys) ≡ twos xs ++ twos ys
   twos_both [] ys = refl
   twos_both (one a ∷ xs) ys = twos_both xs ys
   twos_both (two b ∷ xs) ys = ap (λ z. b ∷ z) (twos_both xs ys)
 
   -- and a cut order is one
-  pub joined_at : (firsts seconds : P → ℕ) (a : A) (b : B) (known_first known_second : ℕ) (m : IsMeeting firsts seconds a b known_first known_second) (p : P) (xs : List A) (ys : List B) (later : List A) (looks : List B)
+  unfoldable pub joined_at : (firsts seconds : P → ℕ) (a : A) (b : B) (known_first known_second : ℕ) (m : IsMeeting firsts seconds a b known_first known_second) (p : P) (xs : List A) (ys : List B) (later : List A) (looks : List B)
       → IsCut firsts seconds a b known_first known_second m p xs ys later looks → HasOrder legal next p (xs ++ a ∷ later) (ys ++ b ∷ looks)
   joined_at firsts seconds a b known_first known_second m p xs ys later looks c = record {
     order = c.before.order ++ one a ∷ two b ∷ c.behind.order;

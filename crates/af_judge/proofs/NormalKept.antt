@@ -1,5 +1,8 @@
 -- What a judge keeps of the normal mixer, after a turn.
-use Rattle.std.proofs.Common.{◌≡◌, ◌↔◌, ℕ, ◌*◌, ◌^◌, ◌<◌, ◌&&◌, ◌||◌, Bool, true, false, true≢false, IsTrue, if◌then◌else◌, refl, sym, ap, ◌∙◌, subst, List, [], ◌∷◌, length, map, nat_eq, nat_le, arith}
+use Rattle.std.proofs.Common.{◌≡◌, ◌↔◌, ℕ, ◌+◌, ◌-◌, ◌^◌, ◌<◌, ◌≤◌, ◌&&◌, ◌||◌, Bool, true, false, true≢false, IsTrue, if◌then◌else◌, refl, sym, ap, ◌∙◌, subst, List, [], ◌∷◌, length, map, nat_eq, nat_le, inl, inr, arith}
+use Rattle.std.specs.List.{AllByRecursion}
+use Rattle.std.proofs.lemmas.List.Elements.{recursion_from_All}
+use Rattle.af_base.specs.Log.{slots}
 use Rattle.af_base.specs.declared.state.FastState.{FastState}
 use Rattle.af_base.specs.declared.state.Push.{Push}
 use Rattle.af_base.specs.declared.state.Push.TheVariants.{Pushed, Clean, Busy}
@@ -8,17 +11,18 @@ use Rattle.af_base.specs.declared.turn.NormalTake.{NormalTake}
 use Rattle.af_base.specs.declared.turn.TrackTurn.{TrackTurn}
 use Rattle.af_base.specs.Mix.{Take, mix}
 use Rattle.af_base.specs.Part.{take_of as part_of}
-use Rattle.af_base.specs.Turn.{Turn, TakeSeen, take_seen, track_seen}
+use Rattle.af_base.specs.Turn.{Turn, TakeSeen, TrackSeen, take_seen, track_seen}
 use Rattle.af_life.specs.declared.kept.TrackKept.{TrackKept}
-use Rattle.af_life.specs.Kept.{Setup, NormalKept, Learnt, asked, slot_number, seen_at}
+use Rattle.af_life.specs.Kept.{Setup, NormalKept, Learnt, asked, slot_number, seen_at, track_at}
 use Rattle.af_life.specs.Edits.{comes_home, welcomed, after_ack, after_push}
 use Rattle.af_life.specs.Plain.{Plain}
 use Rattle.af_life.specs.Plays.{mixed_here, tracks_due, put_by, take_of, after_takes}
 use Rattle.af_life.specs.Serves.{LegalTrack, served_to}
-use Rattle.af_life.specs.Small.{IsSmall, AreSmall, most_tracks}
+use Rattle.af_life.specs.Small.{IsSmall, turn_weight, most_tracks}
 use Rattle.af_life.specs.Turn.{after_edits, turn_after}
-use Rattle.af_life.proofs.Smalls.{weaker}
 use Rattle.af_life.proofs.SmallTurns as small_turns
+use Rattle.af_life.proofs.Weights.{looks_up_to}
+use Rattle.af_model.specs.JournalForm.{IsTake, IsTurn, TracksRise}
 use Rattle.af_runs.specs.Told.{is_pushed}
 use Rattle.af_judge.specs.NormalChanges.{is_edited}
 use Rattle.af_judge.specs.NormalJudged.{NormalJudged, IsJudged}
@@ -56,10 +60,30 @@ unfolding welcomed
 found_slot true last t = either_slot (comes_home last t) _ t refl
 found_slot false last t = refl
 
--- the tracks found are small
-pub found_small : (t : ℕ) (c : Setup) (m : NormalKept) (ack : Bool) (found : List TrackKept) → IsSmall t c m → t < 2 ^ 17 → found ≡ (after_ack ack m).tracks → AreSmall (65 * 2 ^ 17) (2 ^ 31) found
-found_small t c m ack found small few is = subst (AreSmall (65 * 2 ^ 17) (2 ^ 31)) (sym is)
-    (λ (i : ℕ). weaker (65 * t) (most_tracks * t) (65 * 2 ^ 17) (2 ^ 31) _ (omega (arith, few)) (omega (arith, few)) ((small_turns.acked c t ack m small).tracks i))
+-- the tracks found have slots that there are
+pub found_slots : (t : ℕ) (c : Setup) (m : NormalKept) (ack : Bool) (found : List TrackKept) → IsSmall t c m → found ≡ (after_ack ack m).tracks → (i : ℕ) → slot_number (track_at found i) < slots
+found_slots t c m ack found small is i =
+    let a = ((small_turns.acked c t ack m small).tracks i).slot in let b = ap (λ (ts : List TrackKept). slot_number (track_at ts i)) is in omega (arith, a, b)
+
+-- and room for the commands of a turn
+pub found_room : (t : ℕ) (c : Setup) (m : NormalKept) (e : Turn) (found : List TrackKept) (seen : List TrackSeen) → IsSmall t c m → t + turn_weight e ≤ 131072 → found ≡ (after_ack e.ack m).tracks → seen ≡ e.tracks
+    → (i : ℕ) → (track_at found i).settled + length (seen_at seen i).looks < 2 ^ 24 - 1
+found_room t c m e found seen small few is of i =
+    let a = ((small_turns.acked c t e.ack m small).tracks i).settled in
+    let b = ap (λ (ts : List TrackKept). (track_at ts i).settled) is in
+    let l = looks_up_to e i in
+    let n = ap (λ (ts : List TrackSeen). length (seen_at ts i).looks) of in
+    omega (arith, a, b, l, n, few)
+
+-- the tracks of takes rise, so there are no more takes than tracks
+few_from : (tracks low : ℕ) (takes : List TakeSeen) → low ≤ tracks → TracksRise low takes → AllByRecursion (IsTake tracks) takes → low + length takes ≤ tracks
+few_from tracks low [] le rise all = omega (arith, le)
+few_from tracks low (t ∷ takes) le rise all =
+    let below = all.0.track in let from = rise.0 in let more = few_from tracks (t.track + 1) takes (omega (arith, below)) rise.1 all.1 in omega (arith, below, from, more)
+
+pub takes_so : (tracks : ℕ) (e : Turn) → IsTurn tracks e → tracks ≤ most_tracks → TracksRise 0 e.mixes × (length e.mixes ≤ most_tracks)
+takes_so tracks e (inl ended) few = (subst (λ (x : Turn). TracksRise 0 x.mixes) (sym ended) tt, let n = ap (λ (x : Turn). length x.mixes) ended in omega (arith, n))
+takes_so tracks e (inr form) few = (form.rise, let n = few_from tracks 0 e.mixes (omega arith) form.rise (recursion_from_All (IsTake tracks) e.mixes form.takes) in omega (arith, n, few))
 
 -- ## What a turn leaves
 

@@ -16,7 +16,7 @@ use Rattle.af_judge.specs.declared.queue_judge.MutatorStep.TheVariants as steps
 use Rattle.af_judge.specs.declared.queue_judge.ObserverStep.{ObserverStep}
 use Rattle.af_judge.specs.declared.queue_judge.ObserverStep.TheVariants as looks
 use Rattle.af_judge.specs.QueueNumbers.{HasStepOrder, Numbers, may_step, mutator_after, numbers, observer_after, queue_begins}
-use Rattle.af_judge.specs.QueueTold.{Follow, TellsSteps, TellsLooks}
+use Rattle.af_judge.specs.QueueTold.{Fits, Follow, TellsSteps, TellsLooks}
 use Rattle.af_judge.specs.TwoEnds.{ends_after, ends_next}
 use Rattle.af_judge.proofs.TwoEnds.{after_lists}
 
@@ -47,24 +47,6 @@ module _ (state : ℕ → FastState) (f : Follow state) where
 
   -- ## The points
 
-  -- a point of the queue is that of these numbers, where the last state was seen acknowledged or not and the observer has the state of a number
-  pub record Fits (q : QueuePoint Item) (n : Numbers) (seen : Bool) (current : ℕ) : Type 0 where
-    pub pushed : q.mutator.pushed ≡ n.first.pushed
-    pub clear : q.mutator.clear ≡ n.first.clear
-    pub acked : q.observer.acked ≡ n.second.acked
-    pub due : q.observer.due ≡ n.second.due
-    pub last : q.mutator.last ≡ state n.first.pushed
-    pub before : 1 ≤ n.first.pushed → q.mutator.before ≡ state (n.first.pushed - 1)
-    pub items : 1 ≤ n.first.pushed → q.mutator.items ≡ items_of (state n.first.pushed) (state (n.first.pushed - 1))
-    pub given : 1 ≤ n.second.acked → q.observer.given ≡ items_of (state (n.second.acked - 1)) (state n.second.acked)
-    pub low : n.second.acked ≤ n.first.pushed
-    pub high : n.first.pushed ≤ n.second.acked + 1
-    pub seen_is : seen ≡ n.first.clear
-    pub clear_is : n.first.clear ≡ true → n.second.acked ≡ n.first.pushed
-    pub some : n.first.clear ≡ false → 1 ≤ n.first.pushed
-    pub has_current : current ≡ n.second.acked
-    pub due_is : n.second.due ≢ 0 → (n.second.due ≡ n.first.pushed) × (n.second.acked + 1 ≡ n.first.pushed)
-
   abbrev number_next : Numbers → Event MutatorStep ObserverStep → Numbers
   number_next n e = ends_next may_step mutator_after observer_after n e
 
@@ -78,7 +60,7 @@ module _ (state : ℕ → FastState) (f : Follow state) where
   same_brought false false given back h = refl
 
   -- a look brings what the other end gave back
-  look_brings : (q : QueuePoint Item) (n : Numbers) (seen : Bool) (current : ℕ) → Fits q n seen current → (a : ℕ) → a ≡ n.second.acked
+  look_brings : (q : QueuePoint Item) (n : Numbers) (seen : Bool) (current : ℕ) → Fits state q n seen current → (a : ℕ) → a ≡ n.second.acked
       → (if (a == n.first.pushed) && not seen then items_of (state (n.first.pushed - 1)) (state n.first.pushed) else []) ≡ brought q
   look_brings q n seen current t a is =
       let m = n.first.pushed in
@@ -97,8 +79,8 @@ module _ (state : ℕ → FastState) (f : Follow state) where
   or_seen true is_last h = sym (h refl)
   or_seen false is_last h = refl
 
-  fits_look : (q : QueuePoint Item) (n : Numbers) (seen : Bool) (current : ℕ) → Fits q n seen current → (a number : ℕ) (items : List (Option Item)) → a ≡ number → number ≡ n.second.acked
-      → Fits (queued.next q (one (mutator.SawAck a items))) (number_next n (one (steps.Saw number))) (seen || (a == n.first.pushed)) current
+  fits_look : (q : QueuePoint Item) (n : Numbers) (seen : Bool) (current : ℕ) → Fits state q n seen current → (a number : ℕ) (items : List (Option Item)) → a ≡ number → number ≡ n.second.acked
+      → Fits state (queued.next q (one (mutator.SawAck a items))) (number_next n (one (steps.Saw number))) (seen || (a == n.first.pushed)) current
   fits_look q n seen current t a number items is may =
       let m = n.first.pushed in
       let last : n.first.clear ≡ true → (a == m) ≡ true = (λ c. eq-eqb a m (is ∙ (may ∙ t.clear_is c))) in
@@ -120,9 +102,9 @@ module _ (state : ℕ → FastState) (f : Follow state) where
         due_is = t.due_is;
       }
 
-  fits_push : (q : QueuePoint Item) (n : Numbers) (seen : Bool) (current : ℕ) → Fits q n seen current → (k number : ℕ) (x : FastState) (items : List (Option Item)) → k ≡ number
+  fits_push : (q : QueuePoint Item) (n : Numbers) (seen : Bool) (current : ℕ) → Fits state q n seen current → (k number : ℕ) (x : FastState) (items : List (Option Item)) → k ≡ number
       → x ≡ state (n.first.pushed + 1) → items ≡ items_of (state (n.first.pushed + 1)) (state n.first.pushed) → may_step n (one (steps.Pushed number))
-      → Fits (queued.next q (one (mutator.Push k x items))) (number_next n (one (steps.Pushed number))) false current
+      → Fits state (queued.next q (one (mutator.Push k x items))) (number_next n (one (steps.Pushed number))) false current
   fits_push q n seen current t k number x items is x_is items_is may =
       let next : n.first.pushed + 1 ≡ number = sym may.0 in
       let back : n.first.pushed ≡ number - 1 = omega (arith, may.0) in
@@ -146,7 +128,7 @@ module _ (state : ℕ → FastState) (f : Follow state) where
 
   -- ## Steps of the observer
 
-  may_find : (q : QueuePoint Item) (n : Numbers) (seen : Bool) (current : ℕ) → Fits q n seen current → (k number : ℕ) (x : Option FastState) (items : List (Option Item)) → k ≡ number
+  may_find : (q : QueuePoint Item) (n : Numbers) (seen : Bool) (current : ℕ) → Fits state q n seen current → (k number : ℕ) (x : Option FastState) (items : List (Option Item)) → k ≡ number
       → x ≡ (if k == current then None else Some (state k)) → items ≡ (if k == current then [] else items_of (state k) (state current)) → may_step n (two (looks.Found number))
       → queued.legal q (two (observer.SawNext k x items))
   may_find q n seen current t k number x items is x_is items_is may =
@@ -165,8 +147,8 @@ module _ (state : ℕ → FastState) (f : Follow state) where
       ]) e) in
       (here ∙ sym t.pushed, x_is ∙ old, items_is ∙ (mine (k == current) refl ∙ ap (λ j. if k == j then [] else q.mutator.items) at), t.due ∙ may.1)
 
-  fits_find : (q : QueuePoint Item) (n : Numbers) (seen : Bool) (current : ℕ) → Fits q n seen current → (k number : ℕ) (x : Option FastState) (items : List (Option Item)) → k ≡ number → may_step n (two (looks.Found number))
-      → Fits (queued.next q (two (observer.SawNext k x items))) (number_next n (two (looks.Found number))) seen current
+  fits_find : (q : QueuePoint Item) (n : Numbers) (seen : Bool) (current : ℕ) → Fits state q n seen current → (k number : ℕ) (x : Option FastState) (items : List (Option Item)) → k ≡ number → may_step n (two (looks.Found number))
+      → Fits state (queued.next q (two (observer.SawNext k x items))) (number_next n (two (looks.Found number))) seen current
   fits_find q n seen current t k number x items is may =
       let due : (b : Bool) → (number == n.second.acked) ≡ b → (if b then 0 else number) ≢ 0 → ((if b then 0 else number) ≡ n.first.pushed) × (n.second.acked + 1 ≡ n.first.pushed) =
       (λ b e. (elim b as (λ c. (number == n.second.acked) ≡ c → (if c then 0 else number) ≢ 0 → ((if c then 0 else number) ≡ n.first.pushed) × (n.second.acked + 1 ≡ n.first.pushed)) [
@@ -193,7 +175,7 @@ module _ (state : ℕ → FastState) (f : Follow state) where
         due_is = due (number == n.second.acked) refl;
       }
 
-  may_ack : (q : QueuePoint Item) (n : Numbers) (seen : Bool) (current : ℕ) → Fits q n seen current → (k number : ℕ) (items : List (Option Item)) → k ≡ number
+  may_ack : (q : QueuePoint Item) (n : Numbers) (seen : Bool) (current : ℕ) → Fits state q n seen current → (k number : ℕ) (items : List (Option Item)) → k ≡ number
       → items ≡ items_of (state current) (state k) → may_step n (two (looks.Acknowledged number)) → queued.legal q (two (observer.Ack k items))
   may_ack q n seen current t k number items is items_is may =
       let due = t.due_is (λ e. may.1 (may.0 ∙ e)) in
@@ -209,9 +191,9 @@ module _ (state : ℕ → FastState) (f : Follow state) where
             (subst (λ l. AreOf (state current) (state (current + 1)) l) (ap (λ j. items_of (state current) (state j)) (next ∙ sym here) ∙ sym items_is) of)),
       )
 
-  fits_ack : (q : QueuePoint Item) (n : Numbers) (seen : Bool) (current : ℕ) → Fits q n seen current → (k number : ℕ) (items : List (Option Item)) → k ≡ number
+  fits_ack : (q : QueuePoint Item) (n : Numbers) (seen : Bool) (current : ℕ) → Fits state q n seen current → (k number : ℕ) (items : List (Option Item)) → k ≡ number
       → items ≡ items_of (state current) (state k) → may_step n (two (looks.Acknowledged number))
-      → Fits (queued.next q (two (observer.Ack k items))) (number_next n (two (looks.Acknowledged number))) seen k
+      → Fits state (queued.next q (two (observer.Ack k items))) (number_next n (two (looks.Acknowledged number))) seen k
   fits_ack q n seen current t k number items is items_is may =
       let due = t.due_is (λ e. may.1 (may.0 ∙ e)) in
       let here : number ≡ n.first.pushed = may.0 ∙ due.0 in
@@ -242,7 +224,7 @@ module _ (state : ℕ → FastState) (f : Follow state) where
   goes_two : (q : QueuePoint Item) (e : ObserverEvent Item) (xs : List (MutatorEvent Item)) (ys : List (ObserverEvent Item)) → queued.legal q (two e) → HasOrder queued.legal queued.next (queued.next q (two e)) xs ys → HasOrder queued.legal queued.next q xs (e ∷ ys)
   goes_two q e xs ys may h = record { order = two e ∷ h.order; is_legal = (may, h.is_legal); of_one = h.of_one; of_two = ap (λ l. e ∷ l) h.of_two }
 
-  from_numbers : (es : List (Event MutatorStep ObserverStep)) (q : QueuePoint Item) (n : Numbers) (seen : Bool) (current : ℕ) (xs : List (MutatorEvent Item)) (ys : List (ObserverEvent Item)) → Fits q n seen current
+  from_numbers : (es : List (Event MutatorStep ObserverStep)) (q : QueuePoint Item) (n : Numbers) (seen : Bool) (current : ℕ) (xs : List (MutatorEvent Item)) (ys : List (ObserverEvent Item)) → Fits state q n seen current
       → TellsSteps state n.first.pushed seen xs (ones es) → TellsLooks state current ys (twos es) → Legal may_step number_next n es → HasOrder queued.legal queued.next q xs ys
   from_numbers [] q n seen current [] [] t a b l = record { order = []; is_legal = tt; of_one = refl; of_two = refl }
   from_numbers [] q n seen current (mutator.Push k x items ∷ xs) ys t a b l = absurd a
@@ -289,7 +271,7 @@ module _ (state : ℕ → FastState) (f : Follow state) where
     is_legal : Legal may_step number_next n order
     of_one : ones order ≡ ss
     of_two : twos order ≡ ls
-    fits : (let m = after may_step number_next n order in Fits (after queued.legal queued.next q es) m m.first.clear m.second.acked)
+    fits : (let m = after may_step number_next n order in Fits state (after queued.legal queued.next q es) m m.first.clear m.second.acked)
 
   numbered_one : (q : QueuePoint Item) (n : Numbers) (e : MutatorEvent Item) (es : List (Event (MutatorEvent Item) (ObserverEvent Item))) (s : MutatorStep) (ss : List MutatorStep) (ls : List ObserverStep)
       → may_step n (one s) → Numbered (queued.next q (one e)) (number_next n (one s)) es ss ls → Numbered q n (one e ∷ es) (s ∷ ss) ls
@@ -299,10 +281,10 @@ module _ (state : ℕ → FastState) (f : Follow state) where
       → may_step n (two s) → Numbered (queued.next q (two e)) (number_next n (two s)) es ss ls → Numbered q n (two e ∷ es) ss (s ∷ ls)
   numbered_two q n e es s ss ls may r = record { order = two s ∷ r.order; is_legal = (may, r.is_legal); of_one = r.of_one; of_two = ap (λ l. s ∷ l) r.of_two; fits = r.fits }
 
-  to_numbers : (es : List (Event (MutatorEvent Item) (ObserverEvent Item))) (q : QueuePoint Item) (n : Numbers) (seen : Bool) (current : ℕ) (ss : List MutatorStep) (ls : List ObserverStep) → Fits q n seen current
+  to_numbers : (es : List (Event (MutatorEvent Item) (ObserverEvent Item))) (q : QueuePoint Item) (n : Numbers) (seen : Bool) (current : ℕ) (ss : List MutatorStep) (ls : List ObserverStep) → Fits state q n seen current
       → TellsSteps state n.first.pushed seen (ones es) ss → TellsLooks state current (twos es) ls → Legal queued.legal queued.next q es → Numbered q n es ss ls
   to_numbers [] q n seen current [] [] t a b l =
-      record { order = []; is_legal = tt; of_one = refl; of_two = refl; fits = subst (λ x. Fits q n x n.second.acked) t.seen_is (subst (λ x. Fits q n seen x) t.has_current t) }
+      record { order = []; is_legal = tt; of_one = refl; of_two = refl; fits = subst (λ x. Fits state q n x n.second.acked) t.seen_is (subst (λ x. Fits state q n seen x) t.has_current t) }
   to_numbers [] q n seen current (s ∷ ss) ls t a b l = absurd a
   to_numbers [] q n seen current [] (s ∷ ls) t a b l = absurd b
   to_numbers (one (mutator.SawAck k items) ∷ es) q n seen current [] ls t a b l = absurd a
@@ -337,7 +319,7 @@ module _ (state : ℕ → FastState) (f : Follow state) where
   -- ## Both ways
 
   -- between two meetings the events have a legal order exactly where the numbers of their steps have one
-  pub queue_exact : (q : QueuePoint Item) (n : Numbers) (seen : Bool) (current : ℕ) (xs : List (MutatorEvent Item)) (ys : List (ObserverEvent Item)) (ss : List MutatorStep) (ls : List ObserverStep) → Fits q n seen current
+  pub queue_exact : (q : QueuePoint Item) (n : Numbers) (seen : Bool) (current : ℕ) (xs : List (MutatorEvent Item)) (ys : List (ObserverEvent Item)) (ss : List MutatorStep) (ls : List ObserverStep) → Fits state q n seen current
       → TellsSteps state n.first.pushed seen xs ss → TellsLooks state current ys ls → HasOrder queued.legal queued.next q xs ys ↔ HasStepOrder n.first ss n.second ls
   queue_exact q n seen current xs ys ss ls t a b = (
     λ h.
@@ -347,17 +329,17 @@ module _ (state : ℕ → FastState) (f : Follow state) where
   )
 
   -- and the points fit after any such order, by what all these steps leave
-  pub fits_after : (q : QueuePoint Item) (n : Numbers) (seen : Bool) (current : ℕ) (xs : List (MutatorEvent Item)) (ys : List (ObserverEvent Item)) (ss : List MutatorStep) (ls : List ObserverStep) → Fits q n seen current
+  pub fits_after : (q : QueuePoint Item) (n : Numbers) (seen : Bool) (current : ℕ) (xs : List (MutatorEvent Item)) (ys : List (ObserverEvent Item)) (ss : List MutatorStep) (ls : List ObserverStep) → Fits state q n seen current
       → TellsSteps state n.first.pushed seen xs ss → TellsLooks state current ys ls → (h : HasOrder queued.legal queued.next q xs ys)
-      → (let m = ends_after may_step mutator_after observer_after n ss ls in Fits (after queued.legal queued.next q h.order) m m.first.clear m.second.acked)
+      → (let m = ends_after may_step mutator_after observer_after n ss ls in Fits state (after queued.legal queued.next q h.order) m m.first.clear m.second.acked)
   fits_after q n seen current xs ys ss ls t a b h =
       let r = to_numbers h.order q n seen current ss ls t (subst (λ l. TellsSteps state n.first.pushed seen l ss) (sym h.of_one) a) (subst (λ l. TellsLooks state current l ls) (sym h.of_two) b) h.is_legal in
       let m : after may_step number_next n r.order ≡ ends_after may_step mutator_after observer_after n ss ls =
       after_lists may_step mutator_after observer_after n r.order ∙ (λ j. ends_after may_step mutator_after observer_after n (r.of_one j) (r.of_two j)) in
-      subst (λ (k : Numbers). Fits (after queued.legal queued.next q h.order) k k.first.clear k.second.acked) m r.fits
+      subst (λ (k : Numbers). Fits state (after queued.legal queued.next q h.order) k k.first.clear k.second.acked) m r.fits
 
   -- before any event, where the state 0 is the one before the first push
-  pub fits_start : Fits (queued.start (state 0)) (numbers queue_begins.mutator queue_begins.observer) true 0
+  pub fits_start : Fits state (queued.start (state 0)) (numbers queue_begins.mutator queue_begins.observer) true 0
   fits_start = record {
     pushed = refl;
     clear = refl;
@@ -377,8 +359,8 @@ module _ (state : ℕ → FastState) (f : Follow state) where
   }
 
   -- a meeting changes nothing, where nothing is to be acknowledged
-  pub fits_met : (q : QueuePoint Item) (n : Numbers) (seen : Bool) (current learnt known : ℕ) → Fits q n seen current → n.second.due ≡ 0
-      → Fits (queued.next (queued.next q (one (mutator.Learn learnt))) (two (observer.Learn known))) n seen current
+  pub fits_met : (q : QueuePoint Item) (n : Numbers) (seen : Bool) (current learnt known : ℕ) → Fits state q n seen current → n.second.due ≡ 0
+      → Fits state (queued.next (queued.next q (one (mutator.Learn learnt))) (two (observer.Learn known))) n seen current
   fits_met q n seen current learnt known t none = record {
     pushed = t.pushed;
     clear = t.clear;

@@ -1,11 +1,11 @@
 -- The report's cell between two meetings: a load has an order with the stores exactly where its number lies among theirs.
 use Rattle.std.specs.Prelude.{◌↔◌}
-use Rattle.std.proofs.Common.{◌≡◌, ℕ, zero, suc, ◌+◌, ◌-◌, ◌≤◌, List, [], ◌∷◌, length, map, get_or, refl, sym, ap, ◌∙◌, subst, arith}
+use Rattle.std.proofs.Common.{◌≡◌, ℕ, zero, suc, ◌+◌, ◌-◌, ◌≤◌, List, [], ◌∷◌, length, map, fold, get_or, refl, sym, ap, ◌∙◌, subst, arith}
 use Rattle.af_model.specs.declared.newest.WriterEvent.{WriterEvent}
 use Rattle.af_model.specs.declared.newest.WriterEvent.TheVariants as writes
 use Rattle.af_model.specs.declared.newest.ReaderEvent.{ReaderEvent}
 use Rattle.af_model.specs.declared.newest.ReaderEvent.TheVariants as reads
-use Rattle.af_model.specs.Order.{Event, one, two, ones, twos, Legal, HasOrder}
+use Rattle.af_model.specs.Order.{Event, one, two, ones, twos, Legal, after, HasOrder}
 use Rattle.af_model.specs.NewestValue.{CellPoint, legal, next}
 
 module _ {T : Type 0} where
@@ -87,3 +87,32 @@ module _ {T : Type 0} where
   -- without a load the stores stand in an order
   pub none_exact : (p : CellPoint T) (values : List T) → HasOrder legal next p (stores values) []
   none_exact p values = stores_only p values
+
+  -- a load of any value has an order only with such a number
+  pub load_within : (p : CellPoint T) (values : List T) (number : ℕ) (value : T) → HasOrder legal next p (stores values) (reads.Load number value ∷ []) → (p.number ≤ number) × (number ≤ p.number + length values)
+  load_within p values number value h = let r = from_order h.order p values number value h.is_legal h.of_one h.of_two in (omega (arith, r.is), omega (arith, r.is, r.few))
+
+  -- what the stores and loads of an order leave
+  abbrev pub cell_left : CellPoint T → List T → List (ReaderEvent T) → CellPoint T
+  cell_left p values loads = record { number = p.number + length values; value = fold (λ last x. x) p.value values; writes = p.writes + length values; reads = p.reads + length loads }
+
+  no_store : (x : T) (xs : List (WriterEvent T)) → writes.Store x ∷ xs ≡ [] → ⊥
+  no_store x xs e = let n : suc (length xs) ≡ 0 = ap length e in absurd (omega (arith, n))
+
+  no_learn : (count : ℕ) (es ws : List (WriterEvent T)) (x : T) → writes.Learn count ∷ es ≡ writes.Store x ∷ ws → ⊥
+  no_learn count es ws x e = absurd (cc)
+
+  pub cell_after : (es : List (Event (WriterEvent T) (ReaderEvent T))) (p : CellPoint T) (values : List T) → ones es ≡ stores values → after legal next p es ≡ cell_left p values (twos es)
+  cell_after [] p [] e = (λ j. let n : p.number ≡ p.number + 0 = omega arith in let w : p.writes ≡ p.writes + 0 = omega arith in let r : p.reads ≡ p.reads + 0 = omega arith in record { number = n j; value = p.value; writes = w j; reads = r j })
+  cell_after [] p (x ∷ values) e = absurd (no_store x (stores values) (sym e))
+  cell_after (one (writes.Store y) ∷ es) p [] e = absurd (no_store y (ones es) e)
+  cell_after (one (writes.Store y) ∷ es) p (x ∷ values) e =
+      let same = same_store y x (ones es) (stores values) e in
+      let n : p.number + 1 + length values ≡ p.number + suc (length values) = omega arith in
+      let w : p.writes + 1 + length values ≡ p.writes + suc (length values) = omega arith in
+      cell_after es (next p (one (writes.Store y))) values same.1 ∙ (λ j. record { number = n j; value = fold (λ last x. x) (same.0 j) values; writes = w j; reads = p.reads + length (twos es) })
+  cell_after (one (writes.Learn count) ∷ es) p [] e = absurd (let n : suc (length (ones es)) ≡ 0 = ap length e in let x : ⊥ = omega (arith, n) in x)
+  cell_after (one (writes.Learn count) ∷ es) p (x ∷ values) e = absurd (no_learn count (ones es) (stores values) x e)
+  cell_after (two b ∷ es) p values e =
+      let r : p.reads + 1 + length (twos es) ≡ p.reads + suc (length (twos es)) = omega arith in
+      cell_after es (next p (two b)) values e ∙ (λ j. record { number = p.number + length values; value = fold (λ last x. x) p.value values; writes = p.writes + length values; reads = r j })

@@ -1,25 +1,23 @@
 -- The tracks served so far, one after the other.
-use Rattle.std.proofs.Common.{◌≡◌, ◌↔◌, ℕ, suc, ◌+◌, ◌<◌, ◌≤◌, Bool, true, false, IsTrue, nat_lt, refl, sym, ap, ◌∙◌, subst, List, length, map, arith}
+use Rattle.std.proofs.Common.{◌≡◌, ◌↔◌, ℕ, suc, ◌+◌, ◌<◌, Bool, true, false, IsTrue, nat_lt, refl, sym, ap, ◌∙◌, subst, List, length, map, arith}
 use Rattle.std.specs.Prelude.{slice_set, slice_index_or}
 use Rattle.std.proofs.lemmas.List as lists
 use Rattle.std.proofs.lemmas.Bool.Decides.{nat_tests}
-use Rattle.af_base.specs.Log.{slots}
 use Rattle.af_base.specs.declared.turn.CommandLook.{CommandLook}
 use Rattle.af_base.specs.declared.turn.TrackTurn.{TrackTurn}
 use Rattle.af_base.specs.Turn.{TrackSeen, track_seen}
 use Rattle.af_life.specs.declared.kept.TrackKept.{TrackKept}
 use Rattle.af_life.specs.Kept.{Setup, Learnt, track_at, slot_number, nothing_seen, seen_at}
 use Rattle.af_life.specs.Serves.{LegalTrack, served, served_to}
-use Rattle.af_life.specs.Small.{AreSmall}
 use Rattle.af_life.proofs.Lives.{served_len, not_yet}
 
 -- what a turn did of the track of a number, by the program's list
 pub seen_is : (turns : List TrackTurn) (i : ℕ) (t : TrackTurn) → i < length turns → t ≡ slice_index_or turns i t → seen_at (map track_seen turns) i ≡ track_seen t
 seen_is turns i t there is = lists.get_or-map track_seen turns i t nothing_seen there ∙ ap track_seen (sym is)
 
--- and how many looks it made
-pub few_looks : (turns : List TrackTurn) (i : ℕ) (t : TrackTurn) (looks : List CommandLook) → i < length turns → t ≡ slice_index_or turns i t → looks ≡ t.looks.items → length (seen_at (map track_seen turns) i).looks ≤ 64 → length looks ≤ 64
-few_looks turns i t looks there is of few = let a = ap (λ (x : TrackSeen). length x.looks) (seen_is turns i t there is) in let b = ap (λ (ls : List CommandLook). length ls) of in omega (arith, a, b, few)
+-- and its looks
+pub looks_are : (turns : List TrackTurn) (i : ℕ) (t : TrackTurn) (looks : List CommandLook) → i < length turns → t ≡ slice_index_or turns i t → looks ≡ t.looks.items → length looks ≡ length (seen_at (map track_seen turns) i).looks
+looks_are turns i t looks there is of = ap (λ (ls : List CommandLook). length ls) of ∙ sym (ap (λ (x : TrackSeen). length x.looks) (seen_is turns i t there is))
 
 -- what holds of those before the next one and of that one holds of all up to it
 pub one_more : (P : ℕ → Type 0) (i : ℕ) → ((j : ℕ) → j < i → P j) → P i → (j : ℕ) → j < i + 1 → P j
@@ -38,11 +36,11 @@ module _ (c : Setup) (k : Learnt) (seen : List TrackSeen) (tracks now : List Tra
   track_is : track_at now i ≡ track_at tracks i
   track_is = ap (λ (ts : List TrackKept). track_at ts i) so_far ∙ not_yet c k seen tracks i i (omega arith)
 
-  pub slot_there : (n m : ℕ) → AreSmall n m tracks → slot_number (track_at now i) < slots
-  slot_there n m small = let a = ap slot_number track_is in let b = (small i).slot in omega (arith, a, b)
+  pub slot_is : slot_number (track_at now i) ≡ slot_number (track_at tracks i)
+  slot_is = ap slot_number track_is
 
-  pub settled_few : (n m : ℕ) → AreSmall n m tracks → (track_at now i).settled ≤ n
-  settled_few n m small = let a = ap (λ (t : TrackKept). t.settled) track_is in let b = (small i).settled in omega (arith, a, b)
+  pub settled_is : (track_at now i).settled ≡ (track_at tracks i).settled
+  settled_is = ap (λ (t : TrackKept). t.settled) track_is
 
   pub next : (ts : List TrackKept) (looks : List CommandLook) (t : TrackKept) (j : ℕ) → ts ≡ now → looks ≡ (seen_at seen i).looks → t ≡ served c k looks ts i → j ≡ suc i → slice_set now i t ≡ served_to c k seen tracks j
   next ts looks t j same seen_so is one =

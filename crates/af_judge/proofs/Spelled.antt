@@ -10,18 +10,9 @@ use Rattle.af_model.specs.ClientCalls as list
 use Rattle.af_runs.specs.Blocks.{BlockTold, client_list, hand_does, server_does}
 use Rattle.af_runs.specs.ClientTurns.{AnswersOn, LegalClientTurn, Side, Track, after_call, after_calls, called, is_of_commands, released_by}
 use Rattle.af_runs.specs.Runs.{stream_met}
-use Rattle.af_judge.specs.Tracks.{AreMade, IsCallOf}
+use Rattle.af_judge.specs.Tracks.{AreMade, AreSpelled, IsCallOf, IsSpelled}
 use Rattle.af_judge.proofs.BlocksTold.{hand-client, server-client}
 use Rattle.af_judge.proofs.TurnCalls.{turn_makes}
-
--- a client's list of a block of this shape
-abbrev pub IsSpelled : Shape → List ClientEvent → Type 0
-IsSpelled k events = IsClientList k.frames k.cells k.base events
-
--- both lists of a client
-pub record AreSpelled (t : Track) : Type 0 where
-  pub stream : IsSpelled t.stream.shape t.stream.events
-  pub commands : IsSpelled t.commands.shape t.commands.events
 
 spelled-side : (b : Side) (answer : ClientCall) (asked : ℕ) (words : List ℕ) → IsSpelled b.shape b.events → AnswersOn b asked answer → IsSpelled b.shape (called answer words b).events
 spelled-side b answer asked words h answers = list.calls b.events asked answer h answers

@@ -104,3 +104,23 @@ turn_told ops j k t calls h keeps same =
       stream = block-is j.stream k.stream t.stream after.stream grow.stream h.stream keeps.stream same.stream;
       commands = block-is j.commands k.commands t.commands after.commands grow.commands h.commands keeps.commands same.commands;
     }
+
+-- a client's turn keeps its file
+calls-file : (t : Track) (calls : List ClientCall) → (fold after_call t calls).file ≡ t.file
+calls-file t [] = refl
+calls-file t (c ∷ calls) = calls-file (after_call t c) calls ∙ call-file (is_of_commands c)
+  where
+    call-file : (b : Bool) → (if b then record t { commands = called c (released_by t c) t.commands } else record t { stream = called c (released_by t c) t.stream }).file ≡ t.file
+    call-file true = refl
+    call-file false = refl
+
+-- the client's sides after a turn
+pub sides_called : (t : TrackTold) (calls : List ClientCall) → sides_of (run.called calls t) ≡ after_calls (sides_of t) calls
+sides_called t calls =
+    let after = after_calls (sides_of t) calls in
+    let grow = grow-calls (sides_of t) calls in
+    λ i. record { file = sym (calls-file (sides_of t) calls) i; client = after.client; stream = side-is t.stream after.stream grow.stream i; commands = side-is t.commands after.commands grow.commands i }
+
+-- the shapes stay
+pub shapes_called : (t : Track) (calls : List ClientCall) → ((after_calls t calls).stream.shape ≡ t.stream.shape) × ((after_calls t calls).commands.shape ≡ t.commands.shape)
+shapes_called t calls = let g = grow-calls t calls in (g.stream.shape, g.commands.shape)

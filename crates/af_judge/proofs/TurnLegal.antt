@@ -27,11 +27,11 @@ use Rattle.af_judge.specs.Servers.{LooksRightly}
 use Rattle.af_judge.proofs.TurnExactly.{blocks_of, turn_exactly}
 
 -- the track of a number, where there is one
-record Element (tracks : List TrackJudge) (i : ℕ) : Type 0 where
-  track : TrackJudge
-  at : IsTrackAt tracks i track
+pub record Element (tracks : List TrackJudge) (i : ℕ) : Type 0 where
+  pub track : TrackJudge
+  pub at : IsTrackAt tracks i track
 
-element : (tracks : List TrackJudge) (i : ℕ) → i < length tracks → Element tracks i
+pub element : (tracks : List TrackJudge) (i : ℕ) → i < length tracks → Element tracks i
 element [] i lt = absurd (omega (arith, lt))
 element (t ∷ tracks) zero lt = record { track = t; at = (lt, refl) }
 element (t ∷ tracks) (suc i) lt = let rest = element tracks i (omega (arith, lt)) in record { track = rest.track; at = (lt, rest.at.1) }

@@ -34,15 +34,15 @@ going_open : {E : Type 0} (e : Turn) (xs : List E) → e.ended ≡ false → goi
 going_open e xs open_is = ap (λ (b : Bool). if b then [] else xs) open_is
 
 -- takes change the stream block alone
-takes_stream : (n : ℕ) (takes : List TakeSeen) (t : TrackJudge) → (fold (λ (t : TrackJudge) (take : TakeSeen). take_told n take t) t takes).stream ≡ fold (λ (x : BlockJudged) (take : TakeSeen). played_told n take.slot (map packed_word take.frames) x) t.stream takes
+pub takes_stream : (n : ℕ) (takes : List TakeSeen) (t : TrackJudge) → (fold (λ (t : TrackJudge) (take : TakeSeen). take_told n take t) t takes).stream ≡ fold (λ (x : BlockJudged) (take : TakeSeen). played_told n take.slot (map packed_word take.frames) x) t.stream takes
 takes_stream n [] t = refl
 takes_stream n (take ∷ takes) t = takes_stream n takes (take_told n take t)
 
-takes_commands : (n : ℕ) (takes : List TakeSeen) (t : TrackJudge) → (fold (λ (t : TrackJudge) (take : TakeSeen). take_told n take t) t takes).commands ≡ t.commands
+pub takes_commands : (n : ℕ) (takes : List TakeSeen) (t : TrackJudge) → (fold (λ (t : TrackJudge) (take : TakeSeen). take_told n take t) t takes).commands ≡ t.commands
 takes_commands n [] t = refl
 takes_commands n (take ∷ takes) t = takes_commands n takes (take_told n take t)
 
-takes_client : (n : ℕ) (takes : List TakeSeen) (t : TrackJudge) → (fold (λ (t : TrackJudge) (take : TakeSeen). take_told n take t) t takes).client ≡ t.client
+pub takes_client : (n : ℕ) (takes : List TakeSeen) (t : TrackJudge) → (fold (λ (t : TrackJudge) (take : TakeSeen). take_told n take t) t takes).client ≡ t.client
 takes_client n [] t = refl
 takes_client n (take ∷ takes) t = takes_client n takes (take_told n take t)
 
@@ -80,7 +80,7 @@ module _ (c : Setup) (f : TurnFound) (m : NormalKept) (e : Turn) (open_is : e.en
       ∙ ap (λ (es : List ServerEvent). if is_home found.holder then es else []) invalid_so
       ∙ nested (is_home found.holder) shut (server.SetFlags 4 ∷ [])
 
-  commands_so : (t : TrackJudge) → IsBlockOf t.commands (f.commands i) → IsBlockOf (track_told found (heard k i found) (track_in e i) t).commands (commands_turned c (outside_of c f e) m e i (f.commands i))
+  pub commands_so : (t : TrackJudge) → IsBlockOf t.commands (f.commands i) → IsBlockOf (track_told found (heard k i found) (track_in e i) t).commands (commands_turned c (outside_of c f e) m e i (f.commands i))
   commands_so t h =
       let looks = (track_in e i).looks in
       let b : BlockTold = f.commands i in
@@ -93,7 +93,7 @@ module _ (c : Setup) (f : TurnFound) (m : NormalKept) (e : Turn) (open_is : e.en
       ∙ ap (λ (xs : List ServerEvent). took (words_taken looks) (server_does xs b)) events))
       (commands_kept looks shut (track_in e i).status t.commands b h)
 
-  stream_so : (t : TrackJudge) → IsBlockOf t.stream (f.streams i) → (tracks : ℕ) → IsOpenTurn tracks e
+  pub stream_so : (t : TrackJudge) → IsBlockOf t.stream (f.streams i) → (tracks : ℕ) → IsOpenTurn tracks e
       → IsBlockOf (fold (λ (x : BlockJudged) (take : TakeSeen). played_told (asked c) take.slot (map packed_word take.frames) x) (track_told found (heard k i found) (track_in e i) t).stream (takes_from e.mixes i)) (stream_turned c (outside_of c f e) m e i (f.streams i))
   stream_so t h tracks form =
       let b : BlockTold = f.streams i in

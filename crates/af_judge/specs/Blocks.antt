@@ -65,6 +65,10 @@ pub record BlockJudged : Type 0 where
   pub released : List ℕ
   pub taken : List Taken
 
+-- a block of which nothing is told
+abbrev pub new_judged : Shape → Bool → BlockJudged
+new_judged shape lawful = record { shape = shape; lawful = lawful; client = []; server = []; hand = []; released = []; taken = [] }
+
 -- how many frames the releases say
 abbrev pub raised_by : ClientEvent → ℕ
 raised_by (client.Release count) = count

@@ -8,6 +8,7 @@ pub mod Servers
 pub mod Blocks
 pub mod Reporting
 pub mod FastKept
+pub mod Entries
 pub mod Tracks
 pub mod Meetings
 pub mod QueueTold
@@ -17,3 +18,9 @@ pub mod NormalLooks
 pub mod NormalTurns
 pub mod NormalTold
 pub mod Foresight
+pub mod RunTold
+pub mod SharedTold
+pub mod BlocksMet
+pub mod EntriesTold
+pub mod StatesKept
+pub mod TurnJudged

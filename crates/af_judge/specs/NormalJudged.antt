@@ -4,7 +4,7 @@ use Rattle.af_base.specs.declared.state.FastState.{FastState}
 use Rattle.af_base.specs.Turn.{Turn}
 use Rattle.af_life.specs.Kept.{Setup, Learnt}
 use Rattle.af_life.specs.Plain.{Plain}
-use Rattle.af_life.specs.Small.{IsSmall}
+use Rattle.af_life.specs.Small.{IsSmall, turn_weight}
 use Rattle.af_life.specs.Turn.{after_edits, turn_after}
 use Rattle.af_runs.specs.Told.{is_pushed}
 
@@ -27,7 +27,7 @@ pub record Follows (j : NormalJudged) (k : Learnt) (e : Turn) (after : NormalJud
   pub kept : after.plain.kept ≡ turn_after j.plain.setup k j.plain.kept e
   pub setup : after.setup ≡ j.setup
   pub handed : after.handed ≡ j.handed
-  pub turns : after.plain.turns ≡ j.plain.turns + 1
+  pub turns : after.plain.turns ≡ j.plain.turns + turn_weight e
   pub states : after.states ≡ j.states ++ (if is_pushed e.push then (after_edits j.plain.setup k e j.plain.kept).draft ∷ [] else [])
 
 -- what a turn that has ended leaves

@@ -1,16 +1,17 @@
 -- What both ends of the state queue did between two meetings, by the numbers of the states: which states and items their events have.
-use Rattle.std.specs.Prelude.{◌≡◌, ℕ, ◌+◌, ◌-◌, ◌<◌, ◌==◌, ◌&&◌, ◌||◌, not, Bool, true, false, if◌then◌else◌, List, [], ◌∷◌, Some, None}
+use Rattle.std.specs.Prelude.{◌≡◌, ◌≢◌, ℕ, ◌+◌, ◌-◌, ◌<◌, ◌≤◌, ◌==◌, ◌&&◌, ◌||◌, not, Bool, true, false, if◌then◌else◌, List, [], ◌∷◌, Some, None}
 use Rattle.af_base.specs.declared.state.FastState.{FastState}
 use Rattle.af_model.specs.declared.states.MutatorEvent.{MutatorEvent}
 use Rattle.af_model.specs.declared.states.MutatorEvent.TheVariants as mutator
 use Rattle.af_model.specs.declared.states.ObserverEvent.{ObserverEvent}
 use Rattle.af_model.specs.declared.states.ObserverEvent.TheVariants as observer
-use Rattle.af_model.specs.StateQueue.{IsState, slots, carries, slot_of}
+use Rattle.af_model.specs.StateQueue.{IsState, QueuePoint, slots, carries, slot_of}
 use Rattle.af_runs.specs.Told.{Item, items_of}
 use Rattle.af_judge.specs.declared.queue_judge.MutatorStep.{MutatorStep}
 use Rattle.af_judge.specs.declared.queue_judge.MutatorStep.TheVariants as steps
 use Rattle.af_judge.specs.declared.queue_judge.ObserverStep.{ObserverStep}
 use Rattle.af_judge.specs.declared.queue_judge.ObserverStep.TheVariants as looks
+use Rattle.af_judge.specs.QueueNumbers.{Numbers}
 
 -- the states by their numbers follow one another: a slot that two neighbours carry is the same in both
 pub record Follow (state : ℕ → FastState) : Type 0 where
@@ -35,3 +36,21 @@ module _ (state : ℕ → FastState) where
   TellsLooks current (observer.Ack k items ∷ es) (looks.Acknowledged number ∷ ls) =
       (k ≡ number) × (items ≡ items_of (state current) (state k)) × TellsLooks k es ls
   TellsLooks current _ _ = ⊥
+
+  -- a point of the queue is that of these numbers, where the last state was seen acknowledged or not and the observer has the state of a number
+  pub record Fits (q : QueuePoint Item) (n : Numbers) (seen : Bool) (current : ℕ) : Type 0 where
+    pub pushed : q.mutator.pushed ≡ n.first.pushed
+    pub clear : q.mutator.clear ≡ n.first.clear
+    pub acked : q.observer.acked ≡ n.second.acked
+    pub due : q.observer.due ≡ n.second.due
+    pub last : q.mutator.last ≡ state n.first.pushed
+    pub before : 1 ≤ n.first.pushed → q.mutator.before ≡ state (n.first.pushed - 1)
+    pub items : 1 ≤ n.first.pushed → q.mutator.items ≡ items_of (state n.first.pushed) (state (n.first.pushed - 1))
+    pub given : 1 ≤ n.second.acked → q.observer.given ≡ items_of (state (n.second.acked - 1)) (state n.second.acked)
+    pub low : n.second.acked ≤ n.first.pushed
+    pub high : n.first.pushed ≤ n.second.acked + 1
+    pub seen_is : seen ≡ n.first.clear
+    pub clear_is : n.first.clear ≡ true → n.second.acked ≡ n.first.pushed
+    pub some : n.first.clear ≡ false → 1 ≤ n.first.pushed
+    pub has_current : current ≡ n.second.acked
+    pub due_is : n.second.due ≢ 0 → (n.second.due ≡ n.first.pushed) × (n.second.acked + 1 ≡ n.first.pushed)

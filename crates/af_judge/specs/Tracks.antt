@@ -2,7 +2,9 @@
 use Rattle.std.specs.Prelude.{◌≡◌, ◌⊎◌, ℕ, ◌-◌, ◌==◌, Bool, false, fold, MatchBool, List, [], ◌∷◌, take, drop, Some, None, if◌then◌else◌}
 use Rattle.af_base.specs.declared.event.ClientCall.{ClientCall}
 use Rattle.af_base.specs.declared.event.ClientCall.TheVariants as call
-use Rattle.af_model.specs.ClientCalls.{client_call_events}
+use Rattle.af_base.specs.declared.event.ClientEvent.{ClientEvent}
+use Rattle.af_model.specs.declared.shape.Shape.{Shape}
+use Rattle.af_model.specs.ClientCalls.{IsClientList, client_call_events}
 use Rattle.af_runs.specs.declared.want.Want.{Want}
 use Rattle.af_runs.specs.Clients.{at_next_turn, begun, next_want}
 use Rattle.af_runs.specs.ClientTurns.{Side, Track, IsMade, after_call, is_of_commands, most_calls, wanted_of}
@@ -80,3 +82,12 @@ TurnEnds ends count ops j k = (t : Track) → KeepsTrack ops j t → MatchBool e
 -- each of the calls is made, and what is kept after them is kept of the track after them; or they aren't
 abbrev pub Makes : Bool → List Op → List ℕ → List ClientCall → TrackJudge → TrackJudge → Type 0
 Makes made ops file calls j k = (t : Track) → t.file ≡ file → KeepsTrack ops j t → MatchBool made (AreMade t calls × KeepsTrack ops k (fold after_call t calls)) (AreMade t calls → ⊥)
+
+-- a client's list of a block of this shape
+abbrev pub IsSpelled : Shape → List ClientEvent → Type 0
+IsSpelled k events = IsClientList k.frames k.cells k.base events
+
+-- both lists of a client
+pub record AreSpelled (t : Track) : Type 0 where
+  pub stream : IsSpelled t.stream.shape t.stream.events
+  pub commands : IsSpelled t.commands.shape t.commands.events

@@ -7,6 +7,7 @@ ghost use Rattle.af_model.specs.Point.{wrapped};
 ghost use Rattle.af_model.specs.StateQueue.{carries, slot_of};
 ghost use Rattle.af_judge.specs.FastKept.{AreSlotsRight, EndsAsTurn, FollowsTold, IsEntryRight, IsLookRight, IsMixRight, IsSlotRight, carries_track, entry_told, entry_tracks, fast_added, fast_begins, fast_polled, pipe_played, slot_played, slots_played, stream_changed};
 ghost use Rattle.af_judge.specs.Blocks.{played_told};
+ghost use Rattle.af_judge.specs.EntriesTold.{AreEntriesRight, entries_leave, playing};
 ghost use Rattle.af_judge.specs.Foresight.{entries_foreseen, foreseen, server_of, servers_at};
 ghost use Rattle.af_model.specs.Cycles.{Listed};
 ghost use Rattle.af_judge.specs.Reporting.{adopted_in, state_in};
@@ -406,6 +407,30 @@ impl FastJudge {
         let mixes = self.mix(&state, tracks, log, entry)?;
         self.add(states, &state, tracks, entry)?;
         Ok(both(follows, mixes))
+    }
+
+    /// Tells these entries, one after the other. Answers whether each is legal after what was told.
+    pub fn enter(
+        &mut self,
+        states: &[FastState],
+        tracks: &mut [TrackJudge],
+        log: &FastLog,
+        entries: Entries,
+    ) -> Result<bool, Memory>
+        requires { entries.first + entries.count ≤ length log.now.entries }
+        ensures told { OnOk result (playing self.new tracks.new ≡ entries_leave states.now log.now.frames (take entries.count (drop entries.first log.now.entries)) (playing self.old tracks.old)) }
+        ensures right { IfOk result (λ yes. IsTrue yes ↔ AreEntriesRight states.now log.now.frames (take entries.count (drop entries.first log.now.entries)) (playing self.old tracks.old)) }
+    {
+        let _len = log.len();
+        let mut right = true;
+        for at in 0..entries.count {
+            let Some(entry) = log.entry(entries.first + at) else {
+                unreachable!()
+            };
+            let legal = self.entry(states, tracks, log, entry)?;
+            right = both(right, legal);
+        }
+        Ok(right)
     }
 
     // The servers of the streams, to be tried out.

@@ -9,7 +9,6 @@ ghost use Rattle.af_life.specs.Obeys.{slot_for};
 ghost use Rattle.af_life.specs.Plain.{learnt_of};
 ghost use Rattle.af_life.specs.Plays.{put_by, take_of, tracks_due};
 ghost use Rattle.af_life.specs.Serves.{LegalTrack, served, served_to};
-ghost use Rattle.af_life.specs.Small.{AreSmall};
 
 use crate::due_looks::{Ready, is_passed};
 use crate::takes_due::are_mixed_here;
@@ -143,8 +142,8 @@ impl MixerSetup {
         turns: &[TrackTurn],
     ) -> bool
         requires sizes { (length tracks.items ≡ length self.now.settings) × (length own.now ≡ length self.now.settings) × (length turns.now ≡ length self.now.settings) }
-        requires small { AreSmall (65 * 2 ^ 17) (2 ^ 31) tracks.items }
-        requires looks { (i : ℕ) → length (seen_at (map track_seen turns.now) i).looks ≤ 64 }
+        requires slots { (i : ℕ) → slot_number (track_at tracks.items i) < slots }
+        requires room { (i : ℕ) → (track_at tracks.items i).settled + length (seen_at (map track_seen turns.now) i).looks < 2 ^ 24 - 1 }
         ensures { IsTrue result ↔ ((i : ℕ) → i < length tracks.items → LegalTrack self.now (learnt_of report.now own.now) (seen_at (map track_seen turns.now) i) (served_to self.now (learnt_of report.now own.now) (map track_seen turns.now) tracks.items i) i) }
     {
         let mut tracks = tracks;

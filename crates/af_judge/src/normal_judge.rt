@@ -7,7 +7,7 @@ ghost use Rattle.af_life.specs.Kept.{is_home, new_normal, slot_number, track_at,
 ghost use Rattle.af_life.specs.Plain.{learnt_of};
 ghost use Rattle.af_life.specs.Plays.{put_by, tracks_due};
 ghost use Rattle.af_life.specs.Serves.{LegalTrack, served_to};
-ghost use Rattle.af_life.specs.Small.{most_tracks, IsSmallTurn, is_small_turn};
+ghost use Rattle.af_life.specs.Small.{most_tracks, turn_weight};
 ghost use Rattle.af_life.specs.Turn.{after_edits, ends_now, turn_after};
 ghost use Rattle.af_base.specs.Log.{slots};
 ghost use Rattle.af_runs.specs.Told.{is_pushed};
@@ -20,13 +20,13 @@ use crate::normal_tells::{all_known, all_taken, tell};
 use crate::pushes::{is_legal_push, is_to_push};
 use crate::track_judge::TrackJudge;
 use af_base::{Command, FastState, Frame, Memory, NormalTake, Push, Report, TurnEntry};
-use af_life::{Heard, Holder, PlainMixer, Setting, TrackKept, is_small_turn};
+use af_life::{Heard, Holder, PlainMixer, Setting, TrackKept, turn_weight};
 use af_model::first_state;
 use std::alloc::Global;
 use std::marker::Model;
 
-// The most turns that are counted.
-const MOST_TURNS: u32 = 131_072;
+// The most that the turns weigh together.
+const MOST_TURNS: usize = 131_072;
 
 /// A normal mixer: what it is made of and what it keeps, the state pushed last and all that were pushed, and whether it made its hands.
 #[derive(Drop)]
@@ -122,6 +122,13 @@ impl NormalJudge {
         self.setup.put(alloc, takes)
     }
 
+    // Whether a turn of this weight is counted.
+    fn has_room(&self, weight: usize) -> bool
+        ensures { IsTrue result ↔ (self.now.plain.turns + weight ≤ 131072) }
+    {
+        weight <= MOST_TURNS && self.mixer.turns() as usize <= MOST_TURNS - weight
+    }
+
     // The mixer had ended, or sees an Exit acknowledged.
     fn ends_now(&self, ack: bool) -> bool
         requires judged { IsJudged self.now }
@@ -174,9 +181,8 @@ impl NormalJudge {
         entry: &TurnEntry,
     ) -> Result<bool, Memory>
         requires judged { IsJudged self.now }
-        requires turns { self.now.plain.turns < 131072 }
+        requires turns { self.now.plain.turns + turn_weight (turn_of entry.now) ≤ 131072 }
         requires own { length own.now ≡ length self.now.plain.kept.tracks }
-        requires entry { IsSmallTurn (turn_of entry.now) }
         requires whole { length entry.now.tracks.items ≡ length self.now.plain.kept.tracks }
         ensures { IfOk result (λ served. let c = self.now.plain.setup in let k = learnt_of report.now own.now in let e = turn_of entry.now in let m = after_ack e.ack self.now.plain.kept in
             IsTrue served ↔ ((i : ℕ) → i < length self.now.plain.kept.tracks → LegalTrack c k (track_in e i) (served_to c k e.tracks m.tracks i) i)) }
@@ -225,12 +231,12 @@ impl NormalJudge {
     // The mixer makes its turn. Answers whether the push answered as it may, and the tracks that are due were mixed.
     fn advance(&mut self, report: &Report, own: &[Heard], entry: &TurnEntry) -> Result<bool, Memory>
         requires judged { IsJudged self.old }
-        requires turns { self.old.plain.turns < 131072 }
+        requires turns { self.old.plain.turns + turn_weight (turn_of entry.now) ≤ 131072 }
         requires own { length own.now ≡ length self.old.plain.kept.tracks }
-        requires entry { (is_small_turn (turn_of entry.now) ≡ true) × (entry.now.ended ≡ false) }
+        requires entry { (length (turn_of entry.now).mixes ≤ most_tracks) × (entry.now.ended ≡ false) }
         ensures judged { IfOk result (λ right. IsJudged self.new) }
         ensures kept { IfOk result (λ right. self.new.plain.kept ≡ turn_after self.old.plain.setup (learnt_of report.now own.now) self.old.plain.kept (turn_of entry.now)) }
-        ensures same { IfOk result (λ right. (self.new.setup ≡ self.old.setup) × (self.new.handed ≡ self.old.handed) × (self.new.plain.turns ≡ self.old.plain.turns + 1)) }
+        ensures same { IfOk result (λ right. (self.new.setup ≡ self.old.setup) × (self.new.handed ≡ self.old.handed) × (self.new.plain.turns ≡ self.old.plain.turns + turn_weight (turn_of entry.now))) }
         ensures states { IfOk result (λ right. let x = after_edits self.old.plain.setup (learnt_of report.now own.now) (turn_of entry.now) self.old.plain.kept in self.new.states ≡ self.old.states ++ (if is_pushed entry.now.push then x.draft ∷ [] else [])) }
         ensures right { IfOk result (λ right. let e = turn_of entry.now in let x = after_edits self.old.plain.setup (learnt_of report.now own.now) e self.old.plain.kept in
             IsTrue right ↔ (LegalPush x e.push × (map (λ take. take.track) e.mixes ≡ tracks_due self.old.plain.setup e.room x.tracks))) }
@@ -249,11 +255,11 @@ impl NormalJudge {
     // A turn that has ended. Answers whether it is legal.
     fn end(&mut self, report: &Report, own: &[Heard], entry: &TurnEntry) -> bool
         requires judged { IsJudged self.old }
-        requires turns { self.old.plain.turns < 131072 }
+        requires turns { self.old.plain.turns + turn_weight (turn_of entry.now) ≤ 131072 }
         requires own { length own.now ≡ length self.old.plain.kept.tracks }
         ensures judged { IsJudged self.new }
         ensures kept { turn_of entry.now ≡ ended_turn → self.new.plain.kept ≡ record self.old.plain.kept { ended = true } }
-        ensures same { (self.new.setup ≡ self.old.setup) × (self.new.handed ≡ self.old.handed) × (self.new.states ≡ self.old.states) × (self.new.plain.turns ≤ self.old.plain.turns + 1) }
+        ensures same { (self.new.setup ≡ self.old.setup) × (self.new.handed ≡ self.old.handed) × (self.new.states ≡ self.old.states) × (self.new.plain.turns ≤ self.old.plain.turns + turn_weight (turn_of entry.now)) }
         ensures right { IsTrue result ↔ ((ends_now self.old.plain.kept entry.now.ack ≡ true) × (turn_of entry.now ≡ ended_turn)) }
     {
         if !is_ended_turn(entry) {
@@ -264,7 +270,7 @@ impl NormalJudge {
         right
     }
 
-    // Whether a turn that is small was to go on, and served its tracks as it is due. The mixer makes its turn.
+    // Whether a turn was to go on, and served its tracks as it is due. The mixer makes its turn.
     fn follow(
         &mut self,
         alloc: Global,
@@ -273,9 +279,9 @@ impl NormalJudge {
         entry: &TurnEntry,
     ) -> Result<bool, Memory>
         requires judged { IsJudged self.old }
-        requires turns { self.old.plain.turns < 131072 }
+        requires turns { self.old.plain.turns + turn_weight (turn_of entry.now) ≤ 131072 }
         requires sizes { (length own.now ≡ length self.old.plain.kept.tracks) × (length entry.now.tracks.items ≡ length self.old.plain.kept.tracks) }
-        requires entry { (is_small_turn (turn_of entry.now) ≡ true) × (entry.now.ended ≡ false) }
+        requires entry { (length (turn_of entry.now).mixes ≤ most_tracks) × (entry.now.ended ≡ false) }
         ensures judged { IfOk result (λ right. IsJudged self.new) }
         ensures kept { IfOk result (λ right. Follows self.old (learnt_of report.now own.now) (turn_of entry.now) self.new) }
         ensures right { IfOk result (λ right. IsTrue right ↔ (Begins self.old.plain.setup report.now self.old.plain.kept (turn_of entry.now) × Serves self.old.plain.setup (learnt_of report.now own.now) self.old.plain.kept (turn_of entry.now))) }
@@ -286,7 +292,7 @@ impl NormalJudge {
         Ok(begins & served & advances)
     }
 
-    // A turn that went on. Answers whether it is legal. One with more looks or takes than a turn makes isn't: what it did to the blocks is told, and the mixer is as before.
+    // A turn that went on. Answers whether it is legal.
     fn go_on(
         &mut self,
         alloc: Global,
@@ -296,26 +302,23 @@ impl NormalJudge {
         entry: &TurnEntry,
     ) -> Result<bool, Memory>
         requires judged { IsJudged self.old }
-        requires turns { self.old.plain.turns < 131072 }
+        requires turns { self.old.plain.turns + turn_weight (turn_of entry.now) ≤ 131072 }
         requires sizes { (length tracks.old ≡ length self.old.plain.kept.tracks) × (length entry.now.tracks.items ≡ length self.old.plain.kept.tracks) }
         requires own { own.now ≡ all_known tracks.old }
-        requires entry { (entry.now.ended ≡ false) × TracksRise 0 (turn_of entry.now).mixes }
+        requires entry { (entry.now.ended ≡ false) × TracksRise 0 (turn_of entry.now).mixes × (length (turn_of entry.now).mixes ≤ most_tracks) }
         ensures judged { IfOk result (λ right. IsJudged self.new) }
         ensures same { IfOk result (λ right. (self.new.setup ≡ self.old.setup) × (self.new.handed ≡ self.old.handed) × (length tracks.new ≡ length tracks.old)) }
-        ensures kept { IfOk result (λ right. is_small_turn (turn_of entry.now) ≡ true → Follows self.old (learnt_of report.now own.now) (turn_of entry.now) self.new) }
+        ensures kept { IfOk result (λ right. Follows self.old (learnt_of report.now own.now) (turn_of entry.now) self.new) }
         ensures told { IfOk result (λ right. IsTold self.old.plain.setup (learnt_of report.now own.now) self.old.plain.kept (turn_of entry.now) tracks.old tracks.new) }
         ensures right { IfOk result (λ right. IsTrue right ↔ RightTurn self.old.plain.setup report.now tracks.old self.old.plain.kept (turn_of entry.now)) }
     {
         let told = self.tell_all(tracks, report, own, entry)?;
         let played = all_taken(self.setup.asked(), tracks, entry.mixes.as_slice())?;
-        if !is_small_turn(entry) {
-            return Ok(false);
-        }
         let follows = self.follow(alloc, report, own, entry)?;
         Ok(told & played & follows)
     }
 
-    /// A turn, by the report that it loaded, over the blocks, which are told what it did. Answers whether it is legal. Memory is its only refusal, but for more turns than are counted.
+    /// A turn, by the report that it loaded, over the blocks, which are told what it did. Answers whether it is legal. Memory is its only refusal, also where the turns weigh more together than is counted: each weighs 1, and one more for each 64 looks that its longest track has beyond its first 64.
     pub fn turn(
         &mut self,
         alloc: Global,
@@ -328,12 +331,12 @@ impl NormalJudge {
         requires form { IsTurn (length tracks.old) (turn_of entry.now) }
         ensures judged { IfOk result (λ right. IsJudged self.new) }
         ensures same { IfOk result (λ right. (self.new.setup ≡ self.old.setup) × (self.new.handed ≡ true) × (length tracks.new ≡ length tracks.old)) }
-        ensures follows { IfOk result (λ right. entry.now.ended ≡ false → is_small_turn (turn_of entry.now) ≡ true → Follows (record self.old { handed = true }) (learnt_of report.now (all_known tracks.old)) (turn_of entry.now) self.new) }
+        ensures follows { IfOk result (λ right. entry.now.ended ≡ false → Follows (record self.old { handed = true }) (learnt_of report.now (all_known tracks.old)) (turn_of entry.now) self.new) }
         ensures ends { IfOk result (λ right. turn_of entry.now ≡ ended_turn → Ends self.old self.new × (tracks.new ≡ tracks.old)) }
         ensures told { IfOk result (λ right. entry.now.ended ≡ false → IsTold self.old.plain.setup (learnt_of report.now (all_known tracks.old)) self.old.plain.kept (turn_of entry.now) tracks.old tracks.new) }
         ensures right { IfOk result (λ right. IsTrue right ↔ IsRight self.old.plain.setup report.now tracks.old self.old.plain.kept (turn_of entry.now)) }
     {
-        if self.mixer.turns() >= MOST_TURNS {
+        if !self.has_room(turn_weight(entry)) {
             return Err(Memory);
         }
         self.has_hands = true;

@@ -7,6 +7,7 @@ ghost use Rattle.af_script.specs.Bounds.{most_buffer};
 ghost use Rattle.af_script.specs.Ops.{cells_of};
 ghost use Rattle.af_script.specs.declared.op.Op.{Op as OpSeen};
 ghost use Rattle.af_runs.specs.Sessions.{command_shape, stream_shape};
+ghost use Rattle.af_judge.specs.Blocks.{new_judged};
 ghost use Rattle.af_judge.specs.Tracks.{IsCallOf, KeepsTrack, Makes, SameServers, TurnEnds, blocks_told};
 
 use crate::block_judge::BlockJudge;
@@ -100,7 +101,9 @@ impl TrackJudge {
         commands: bool,
     ) -> TrackJudge
         requires { spec.now.frames ≤ most_buffer }
-        ensures { (ops : List OpSeen) (words : List ℕ) → KeepsTrack ops result (record { file = words; client = new_client ops; stream = new_side (stream_shape version spec.now); commands = new_side command_shape }) }
+        ensures kept { (ops : List OpSeen) (words : List ℕ) → KeepsTrack ops result (record { file = words; client = new_client ops; stream = new_side (stream_shape version spec.now); commands = new_side command_shape }) }
+        ensures blocks { (result.stream ≡ new_judged (stream_shape version spec.now) stream) × (result.commands ≡ new_judged command_shape commands) }
+        ensures wrap { (stream_shape version spec.now).wrap ≤ 2 ^ 31 }
     {
         let shape = stream_shape(version, spec);
         TrackJudge::of(alloc, shape, stream, commands)
@@ -110,7 +113,8 @@ impl TrackJudge {
     pub fn of(alloc: Global, shape: Shape, stream: bool, commands: bool) -> TrackJudge
         requires cells { shape.cells ≢ 0 }
         requires wrap { shape.wrap ≤ 2 ^ 31 }
-        ensures { (ops : List OpSeen) (words : List ℕ) → KeepsTrack ops result (record { file = words; client = new_client ops; stream = new_side shape; commands = new_side command_shape }) }
+        ensures kept { (ops : List OpSeen) (words : List ℕ) → KeepsTrack ops result (record { file = words; client = new_client ops; stream = new_side shape; commands = new_side command_shape }) }
+        ensures blocks { (result.stream ≡ new_judged shape stream) × (result.commands ≡ new_judged command_shape commands) }
     {
         TrackJudge {
             client: ClientJudge::new(shape, command_shape()),

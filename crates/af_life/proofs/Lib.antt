@@ -5,7 +5,7 @@ mod Reached
 pub mod Settles
 pub mod Smalls
 pub mod SmallTurns
-mod SmallTests
+pub mod Weights
 pub mod LooksSoFar
 pub mod LooksMade
 pub mod TurnForms

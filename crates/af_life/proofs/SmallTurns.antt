@@ -1,5 +1,5 @@
 -- A turn keeps the numbers of a mixer small.
-use Rattle.std.proofs.Common.{◌≡◌, ℕ, zero, suc, refl, ◌+◌, ◌*◌, ◌≤◌, Bool, true, false, if◌then◌else◌, ◌∙◌, length, arith}
+use Rattle.std.proofs.Common.{◌≡◌, ℕ, zero, suc, refl, ◌+◌, ◌*◌, ◌<◌, ◌≤◌, Bool, true, false, if◌then◌else◌, ◌∙◌, length, arith}
 use Rattle.af_base.specs.declared.state.Command.{Command}
 use Rattle.af_base.specs.declared.state.Push.{Push}
 use Rattle.af_base.specs.declared.state.Push.TheVariants.{Pushed, Clean, Busy}
@@ -8,7 +8,7 @@ use Rattle.af_life.specs.Kept.{Setup, asked, pipe_size, NormalKept, Learnt, trac
 use Rattle.af_life.specs.Edits.{after_ack, is_exit, must_leave, must_enter, let_go, lend, edited, edited_to, next_command, commanded_by, ordered, mutated, after_push}
 use Rattle.af_life.specs.Plays.{after_takes}
 use Rattle.af_life.specs.Turn.{after_tracks, after_edits, turn_after}
-use Rattle.af_life.specs.Small.{IsSmallState, IsEdited, IsSmall, IsSmallTurn, most_tracks}
+use Rattle.af_life.specs.Small.{IsSmallState, IsEdited, IsSmall, IsTurnUpTo, IsSmallTurn, most_tracks}
 use Rattle.af_life.proofs.Lives.{acked_len, served_len, takes_len, push_len, mutation_len}
 use Rattle.af_life.proofs.Smalls.{acked_small, all_served_small, edits_small, ordered_small, takes_small, weaker}
 
@@ -35,8 +35,8 @@ module _ (c : Setup) (t : ℕ) where
       by_pushed false = small.pushed
 
   -- the tracks were served
-  pub served : (k : Learnt) (e : Turn) (m : NormalKept) → IsSmall t c m → IsSmallTurn e → IsEdited (65 * t + 65) (most_tracks * t) (most_tracks * t) t (after_tracks c k e m)
-  served k e m small few = record { tracks = all_served_small (65 * t) (most_tracks * t) c k e.tracks m.tracks few.looks small.tracks (length m.tracks); draft = small.draft }
+  pub served : (w : ℕ) → 0 < w → (k : Learnt) (e : Turn) (m : NormalKept) → IsSmall t c m → IsTurnUpTo w e → IsEdited (65 * t + 65 * w) (most_tracks * t) (most_tracks * t) t (after_tracks c k e m)
+  served w some k e m small few = record { tracks = all_served_small (65 * t) (most_tracks * t) w some c k e.tracks m.tracks few.looks small.tracks (length m.tracks); draft = small.draft }
 
   -- the draft was edited, and its command set
   pub edits : (n m : ℕ) (k : Learnt) (x : NormalKept) → length x.tracks ≤ most_tracks → IsEdited n m (most_tracks * t) t x → IsEdited n m (most_tracks * t + most_tracks) t (edited_to c k x (length x.tracks))
@@ -75,50 +75,58 @@ module _ (c : Setup) (t : ℕ) where
   pub commanded_pushed : (k : Learnt) (room : ℕ) (x : NormalKept) → (commanded_by c room (edited_to c k x (length x.tracks))).pushed ≡ x.pushed
   commanded_pushed k room x = ordered_pushed _ (edited_to c k x (length x.tracks)) ∙ edited_pushed k x (length x.tracks)
 
-  module _ (k : Learnt) (e : Turn) (m : NormalKept) (small : IsSmall t c m) (few : IsSmallTurn e) where
+  module _ (w : ℕ) (some : 0 < w) (k : Learnt) (e : Turn) (m : NormalKept) (small : IsSmall t c m) (few : IsTurnUpTo w e) where
     pub whole : length (after_tracks c k e (after_ack e.ack m)).tracks ≡ length c.settings
     whole = served_len c k e.tracks (after_ack e.ack m).tracks (length (after_ack e.ack m).tracks) ∙ (acked e.ack m small).whole
 
     -- after the edits
-    pub edits_made : let x : NormalKept = after_tracks c k e (after_ack e.ack m) in IsEdited (65 * t + 65) (most_tracks * t) (most_tracks * t + most_tracks) t (edited_to c k x (length x.tracks))
-    edits_made = edits (65 * t + 65) (most_tracks * t) k (after_tracks c k e (after_ack e.ack m)) (let w = whole in let s = small.sizes.2 in omega arith) (served k e (after_ack e.ack m) (acked e.ack m small) few)
+    pub edits_made : let x : NormalKept = after_tracks c k e (after_ack e.ack m) in IsEdited (65 * t + 65 * w) (most_tracks * t) (most_tracks * t + most_tracks) t (edited_to c k x (length x.tracks))
+    edits_made = edits (65 * t + 65 * w) (most_tracks * t) k (after_tracks c k e (after_ack e.ack m)) (let l = whole in let s = small.sizes.2 in omega arith) (served w some k e (after_ack e.ack m) (acked e.ack m small) few)
 
     -- and the command
-    pub edited_small : IsEdited (65 * t + 65) (most_tracks * t) (most_tracks * t + most_tracks) (t + 1) (after_edits c k e m)
+    pub edited_weighed : IsEdited (65 * t + 65 * w) (most_tracks * t) (most_tracks * t + most_tracks) (t + 1) (after_edits c k e m)
     unfolding mutated
-    edited_small = commands (65 * t + 65) (most_tracks * t) (most_tracks * t + most_tracks) e.room _ edits_made
+    edited_weighed = commands (65 * t + 65 * w) (most_tracks * t) (most_tracks * t + most_tracks) e.room _ edits_made
 
     pub edited_few : (after_edits c k e m).pushed ≤ t
     unfolding mutated
     edited_few = let a : (after_edits c k e m).pushed ≡ (after_ack e.ack m).pushed = commanded_pushed k e.room (after_tracks c k e (after_ack e.ack m)) in
         let b = (acked e.ack m small).pushed in omega arith
 
-    goes_small : IsSmall (t + 1) c (after_takes c e.mixes (after_push e.push (after_edits c k e m)))
+    goes_small : IsSmall (t + w) c (after_takes c e.mixes (after_push e.push (after_edits c k e m)))
     goes_small =
-        let pushed = push_small (65 * t + 65) (most_tracks * t) (most_tracks * t + most_tracks) (t + 1) e.push (after_edits c k e m) edited_small in
-        let counted = takes_small (65 * t + 65) (most_tracks * t) (asked c) e.mixes (after_push e.push (after_edits c k e m)).tracks pushed.tracks in
+        let pushed = push_small (65 * t + 65 * w) (most_tracks * t) (most_tracks * t + most_tracks) (t + 1) e.push (after_edits c k e m) edited_weighed in
+        let counted = takes_small (65 * t + 65 * w) (most_tracks * t) (asked c) e.mixes (after_push e.push (after_edits c k e m)).tracks pushed.tracks in
         record {
           sizes = small.sizes;
           whole = takes_len (asked c) e.mixes (after_push e.push (after_edits c k e m)).tracks ∙ push_len e.push (after_edits c k e m) ∙ mutation_len c k e.room (after_tracks c k e (after_ack e.ack m)) ∙ whole;
-          tracks = (λ (i : ℕ). weaker (65 * t + 65) (most_tracks * t + length e.mixes) (65 * (t + 1)) (most_tracks * (t + 1)) _ (omega arith) (let f = few.mixes in omega arith) (counted i));
-          draft = record { generations = (λ (j : ℕ). let a = pushed.draft.generations j in omega arith); changes = (let a = pushed.draft.changes in omega arith); colds = pushed.draft.colds };
-          pushed = push_few e.push (after_edits c k e m) edited_few;
+          tracks = (λ (i : ℕ). weaker (65 * t + 65 * w) (most_tracks * t + length e.mixes) (65 * (t + w)) (most_tracks * (t + w)) _ (omega arith) (let f = few.mixes in omega arith) (counted i));
+          draft = record { generations = (λ (j : ℕ). let a = pushed.draft.generations j in omega arith); changes = (let a = pushed.draft.changes in omega arith); colds = (let a = pushed.draft.colds in omega arith) };
+          pushed = (let n = push_few e.push (after_edits c k e m) edited_few in omega arith);
         }
 
-    rests_small : IsSmall (t + 1) c (record m { ended = true })
+    rests_small : IsSmall (t + w) c (record m { ended = true })
     rests_small = record {
       sizes = small.sizes;
       whole = small.whole;
-      tracks = (λ (i : ℕ). weaker (65 * t) (most_tracks * t) (65 * (t + 1)) (most_tracks * (t + 1)) _ (omega arith) (omega arith) (small.tracks i));
+      tracks = (λ (i : ℕ). weaker (65 * t) (most_tracks * t) (65 * (t + w)) (most_tracks * (t + w)) _ (omega arith) (omega arith) (small.tracks i));
       draft = record { generations = (λ (j : ℕ). let a = small.draft.generations j in omega arith); changes = (let a = small.draft.changes in omega arith); colds = (let a = small.draft.colds in omega arith) };
       pushed = (let a = small.pushed in omega arith);
     }
 
-    either_small : (b : Bool) (x y : NormalKept) → IsSmall (t + 1) c x → IsSmall (t + 1) c y → IsSmall (t + 1) c (if b then x else y)
+    either_small : (b : Bool) (x y : NormalKept) → IsSmall (t + w) c x → IsSmall (t + w) c y → IsSmall (t + w) c (if b then x else y)
     either_small true x y h g = h
     either_small false x y h g = g
 
     -- and so after the whole turn
-    pub turn_small : IsSmall (t + 1) c (turn_after c k m e)
+    pub turn_weighed : IsSmall (t + w) c (turn_after c k m e)
     unfolding turn_after
-    turn_small = either_small e.ended _ _ rests_small goes_small
+    turn_weighed = either_small e.ended _ _ rests_small goes_small
+
+  -- the same of a turn that is no larger than those that a mixer makes
+  module _ (k : Learnt) (e : Turn) (m : NormalKept) (small : IsSmall t c m) (few : IsSmallTurn e) where
+    pub edited_small : IsEdited (65 * t + 65) (most_tracks * t) (most_tracks * t + most_tracks) (t + 1) (after_edits c k e m)
+    edited_small = edited_weighed 1 (omega arith) k e m small few
+
+    pub turn_small : IsSmall (t + 1) c (turn_after c k m e)
+    turn_small = turn_weighed 1 (omega arith) k e m small few

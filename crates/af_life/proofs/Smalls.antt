@@ -1,5 +1,5 @@
 -- The numbers of a mixer grow by little in each step of a turn.
-use Rattle.std.proofs.Common.{◌≡◌, ℕ, zero, suc, ◌+◌, ◌<◌, ◌≤◌, Bool, true, false, if◌then◌else◌, is_some, not, ap, List, [], ◌∷◌, length, map, fold, replicate, Option, Some, None, arith}
+use Rattle.std.proofs.Common.{◌≡◌, ℕ, zero, suc, ◌+◌, ◌*◌, ◌<◌, ◌≤◌, Bool, true, false, if◌then◌else◌, is_some, not, ap, List, [], ◌∷◌, length, map, fold, replicate, Option, Some, None, arith}
 use Rattle.std.specs.Prelude.{slice_set, slice_index_or}
 use Rattle.std.specs.List.{find, range_with_len, list_any}
 use Rattle.std.proofs.lemmas.List.{length-replicate}
@@ -115,29 +115,31 @@ part_small n m given low h looks s small =
     let few = commands_settle given h.flush_seen looks s in
     record { settled = (let a = small.settled in omega arith); own = same.own; slot = same.slot }
 
-pub served_small : (n m : ℕ) (c : Setup) (k : Learnt) (looks : List CommandLook) (tracks : List TrackKept) (i : ℕ) → length looks ≤ 64 → IsSmallTrack n m (track_at tracks i) → IsSmallTrack (n + 65) m (served c k looks tracks i)
-unfolding served
-served_small n m c k looks tracks i few small = let s : TrackKept = track_at tracks i in
-    either (IsSmallTrack (n + 65) m) s.life.ended _ _ (weaker n m (n + 65) m s (omega arith) (omega arith) small)
-    (weaker (n + 1 + length looks) m (n + 65) m _ (omega arith) (omega arith) (part_small (n + 1) m (slot_for c tracks i) (slot_low c tracks i) (heard k i s) looks (ready k i s) (ready_small n m k i s small)))
+-- as many commands as a turn of some weight settles of a track
+module _ (n m w : ℕ) (some : 0 < w) where
+  pub served_small : (c : Setup) (k : Learnt) (looks : List CommandLook) (tracks : List TrackKept) (i : ℕ) → length looks ≤ 64 * w → IsSmallTrack n m (track_at tracks i) → IsSmallTrack (n + 65 * w) m (served c k looks tracks i)
+  unfolding served
+  served_small c k looks tracks i few small = let s : TrackKept = track_at tracks i in
+      either (IsSmallTrack (n + 65 * w) m) s.life.ended _ _ (weaker n m (n + 65 * w) m s (omega arith) (omega arith) small)
+      (weaker (n + 1 + length looks) m (n + 65 * w) m _ (omega arith) (omega arith) (part_small (n + 1) m (slot_for c tracks i) (slot_low c tracks i) (heard k i s) looks (ready k i s) (ready_small n m k i s small)))
 
--- each track, once the first ones were served
-pub all_served_small : (n m : ℕ) (c : Setup) (k : Learnt) (seen : List TrackSeen) (tracks : List TrackKept) → ((i : ℕ) → length (seen_at seen i).looks ≤ 64) → AreSmall n m tracks
-    → (j : ℕ) → AreSmall (n + 65) m (served_to c k seen tracks j)
-all_served_small n m c k seen tracks few small zero = λ (i : ℕ). weaker n m (n + 65) m (track_at tracks i) (omega arith) (omega arith) (small i)
-all_served_small n m c k seen tracks few small (suc j) = set_all (IsSmallTrack (n + 65) m) (served_to c k seen tracks j) j _ (all_served_small n m c k seen tracks few small j)
-    (served_small n m c k (seen_at seen j).looks (served_to c k seen tracks j) j (few j) (small_there (track_at (served_to c k seen tracks j) j) (not_yet c k seen tracks j j (omega arith))))
-  where
-    small_there : (s : TrackKept) → s ≡ track_at tracks j → IsSmallTrack n m s
-    small_there s e = record {
-      settled = (let a = (small j).settled in let b : s.settled ≡ (track_at tracks j).settled = ap (λ (x : TrackKept). x.settled) e in omega arith);
-      own = (
-        (let a = (small j).own.0 in let b : s.own.fulls ≡ (track_at tracks j).own.fulls = ap (λ (x : TrackKept). x.own.fulls) e in omega arith),
-        (let a = (small j).own.1 in let b : s.own.partials ≡ (track_at tracks j).own.partials = ap (λ (x : TrackKept). x.own.partials) e in omega arith),
-        (let a = (small j).own.2 in let b : s.own.empties ≡ (track_at tracks j).own.empties = ap (λ (x : TrackKept). x.own.empties) e in omega arith),
-      );
-      slot = (let a = (small j).slot in let b : slot_number s ≡ slot_number (track_at tracks j) = ap slot_number e in omega arith);
-    }
+  -- each track, once the first ones were served
+  pub all_served_small : (c : Setup) (k : Learnt) (seen : List TrackSeen) (tracks : List TrackKept) → ((i : ℕ) → length (seen_at seen i).looks ≤ 64 * w) → AreSmall n m tracks
+      → (j : ℕ) → AreSmall (n + 65 * w) m (served_to c k seen tracks j)
+  all_served_small c k seen tracks few small zero = λ (i : ℕ). weaker n m (n + 65 * w) m (track_at tracks i) (omega arith) (omega arith) (small i)
+  all_served_small c k seen tracks few small (suc j) = set_all (IsSmallTrack (n + 65 * w) m) (served_to c k seen tracks j) j _ (all_served_small c k seen tracks few small j)
+      (served_small c k (seen_at seen j).looks (served_to c k seen tracks j) j (few j) (small_there (track_at (served_to c k seen tracks j) j) (not_yet c k seen tracks j j (omega arith))))
+    where
+      small_there : (s : TrackKept) → s ≡ track_at tracks j → IsSmallTrack n m s
+      small_there s e = record {
+        settled = (let a = (small j).settled in let b : s.settled ≡ (track_at tracks j).settled = ap (λ (x : TrackKept). x.settled) e in omega arith);
+        own = (
+          (let a = (small j).own.0 in let b : s.own.fulls ≡ (track_at tracks j).own.fulls = ap (λ (x : TrackKept). x.own.fulls) e in omega arith),
+          (let a = (small j).own.1 in let b : s.own.partials ≡ (track_at tracks j).own.partials = ap (λ (x : TrackKept). x.own.partials) e in omega arith),
+          (let a = (small j).own.2 in let b : s.own.empties ≡ (track_at tracks j).own.empties = ap (λ (x : TrackKept). x.own.empties) e in omega arith),
+        );
+        slot = (let a = (small j).slot in let b : slot_number s ≡ slot_number (track_at tracks j) = ap slot_number e in omega arith);
+      }
 
 -- ## The edits, the command and the push
 

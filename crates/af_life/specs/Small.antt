@@ -1,15 +1,15 @@
--- How large the numbers of a mixer become, so that none leaves its type. A turn settles a START that waited and one command a look, edits the draft once a track, and counts one look a take.
-use Rattle.std.specs.Prelude.{◌≡◌, ℕ, ◌*◌, ◌<◌, ◌≤◌, ◌&&◌, nat_le, Bool, List, length}
-use Rattle.std.specs.List.{list_all}
+-- How large the numbers of a mixer become, so that none leaves its type. A turn settles a START that waited and one command a look, edits the draft once a track, and counts one look a take. Turns are counted by their weight.
+use Rattle.std.specs.Prelude.{◌≡◌, ℕ, ◌+◌, ◌*◌, ◌-◌, ◌/◌, ◌<◌, ◌≤◌, max, List, length}
+use Rattle.std.specs.List.{fold}
 use Rattle.af_base.specs.declared.state.FastState.{FastState}
 use Rattle.af_base.specs.Log.{slots}
-use Rattle.af_base.specs.Turn.{Turn}
+use Rattle.af_base.specs.Turn.{Turn, TrackSeen}
 use Rattle.af_model.specs.StateQueue.{slot_of}
 use Rattle.af_life.specs.declared.kept.Counts.{Counts}
 use Rattle.af_life.specs.declared.kept.TrackKept.{TrackKept}
 use Rattle.af_life.specs.Kept.{Setup, NormalKept, track_at, track_in, slot_number}
 
--- how many tracks there are at most, and how many looks and takes a turn makes at most of a track
+-- how many tracks there are at most, and how many takes a turn makes at most
 abbrev pub most_tracks : ℕ
 most_tracks = 32
 
@@ -38,7 +38,7 @@ pub record IsEdited (commands looks edits idles : ℕ) (m : NormalKept) : Type 0
   pub tracks : AreSmall commands looks m.tracks
   pub draft : IsSmallState edits idles m.draft
 
--- a mixer after so many turns
+-- a mixer after turns of so much weight
 pub record IsSmall (turns : ℕ) (c : Setup) (m : NormalKept) : Type 0 where
   pub sizes : (c.frames ≤ 1024) × (c.normal ≤ 16) × (length c.settings ≤ most_tracks)
   pub whole : length m.tracks ≡ length c.settings
@@ -46,11 +46,19 @@ pub record IsSmall (turns : ℕ) (c : Setup) (m : NormalKept) : Type 0 where
   pub draft : IsSmallState (most_tracks * turns) turns m.draft
   pub pushed : m.pushed ≤ turns
 
--- an entry that holds no more than a turn makes
-pub record IsSmallTurn (e : Turn) : Type 0 where
-  pub looks : (i : ℕ) → length (track_in e i).looks ≤ 64
+-- an entry with at most so many takes, and at most 64 looks at each track for each unit of a weight
+pub record IsTurnUpTo (weight : ℕ) (e : Turn) : Type 0 where
+  pub looks : (i : ℕ) → length (track_in e i).looks ≤ 64 * weight
   pub mixes : length e.mixes ≤ most_tracks
 
--- the same as a test
-abbrev pub is_small_turn : Turn → Bool
-is_small_turn e = list_all (λ seen. nat_le (length seen.looks) 64) e.tracks && nat_le (length e.mixes) most_tracks
+-- an entry that holds no more than a turn makes
+abbrev pub IsSmallTurn : Turn → Type 0
+IsSmallTurn e = IsTurnUpTo 1 e
+
+-- the most looks at one track
+abbrev pub longest : List TrackSeen → ℕ
+longest turns = fold (λ most seen. max most (length seen.looks)) 0 turns
+
+-- what an entry weighs: 1, and one more for each 64 looks that the longest track has beyond its first 64; a turn that the mixer makes weighs 1
+unfoldable pub turn_weight : Turn → ℕ
+turn_weight e = 1 + (longest e.tracks - 1) / 64

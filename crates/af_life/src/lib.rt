@@ -21,7 +21,7 @@ pub use edits::{free_slot, next_command};
 pub use heard::NO_COUNTS;
 pub use kept::{Counts, Heard, Holder, Setting, TrackKept};
 pub use laws::a_drained_track_was_reached;
-pub use plain::{PlainMixer, is_small_turn, new_track};
+pub use plain::{PlainMixer, new_track, turn_weight};
 pub use serves::{is_found_shut, stored_over};
 pub use state::LifeState;
 pub use track::{Known, Life, RETRIES, fresh};

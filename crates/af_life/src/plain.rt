@@ -1,6 +1,6 @@
 //! A turn of the normal mixer over plain values: the definition as a program, slow and without blocks, queue or pipe.
-ghost use Rattle.std.specs.Prelude.{◌≡◌, ℕ, ◌+◌, ◌*◌, ◌-◌, ◌<◌, ◌≤◌, ◌^◌, if◌then◌else◌, length, map, nat_le, true, IfOk};
-ghost use Rattle.std.specs.List.{list_all};
+ghost use Rattle.std.specs.Prelude.{◌≡◌, ℕ, ◌+◌, ◌*◌, ◌-◌, ◌<◌, ◌≤◌, ◌^◌, if◌then◌else◌, length, map, max, IfOk};
+ghost use Rattle.std.specs.List.{fold};
 ghost use Rattle.af_base.specs.Command.{code_of};
 ghost use Rattle.af_base.specs.Log.{slots};
 ghost use Rattle.af_base.specs.Turn.{turn_of, take_seen};
@@ -13,7 +13,7 @@ ghost use Rattle.af_life.specs.Serves.{served, served_to};
 ghost use Rattle.af_life.specs.Edits.{welcomed, after_ack, let_go, lend, edited, edited_to, commanded_by, after_push};
 ghost use Rattle.af_life.specs.Plays.{after_take, after_takes};
 ghost use Rattle.af_life.specs.Turn.{after_tracks, after_edits, turn_after};
-ghost use Rattle.af_life.specs.Small.{AreUpTo, AreSmall, IsEdited, IsSmall, is_small_turn, IsSmallTurn, most_tracks};
+ghost use Rattle.af_life.specs.Small.{AreUpTo, AreSmall, IsEdited, IsSmall, turn_weight, most_tracks};
 ghost use Rattle.af_life.specs.Plain.{Plain, learnt_of};
 
 use crate::edits::{free_slot, next_command};
@@ -139,18 +139,22 @@ fn looks_at(entry: &TurnEntry, track: usize) -> &[CommandLook]
     }
 }
 
-// Whether no track has more looks than a turn makes.
-fn few_looks(turns: &[TrackTurn]) -> bool
-    ensures { result ≡ list_all (λ seen. nat_le (length seen.looks.items) 64) turns.now }
+// The most looks that a turn made at one track.
+fn longest(turns: &[TrackTurn]) -> usize
+    ensures { result ≡ fold (λ most seen. max most (length seen.looks.items)) 0 turns.now }
 {
-    turns.iter().all(|seen| seen.looks.as_slice().len() <= 64)
+    let mut most = 0;
+    for seen in turns {
+        most = most.max(seen.looks.as_slice().len());
+    }
+    most
 }
 
-/// Whether an entry holds no more looks at commands and no more takes than a turn makes.
-pub fn is_small_turn(entry: &TurnEntry) -> bool
-    ensures { result ≡ is_small_turn (turn_of entry.now) }
+/// What a turn weighs: 1, and one more for each 64 looks that the longest track has beyond its first 64.
+pub fn turn_weight(entry: &TurnEntry) -> usize
+    ensures { result ≡ turn_weight (turn_of entry.now) }
 {
-    few_looks(entry.tracks.as_slice()) && entry.mixes.as_slice().len() <= 32
+    1 + longest(entry.tracks.as_slice()).saturating_sub(1) / 64
 }
 
 impl PlainMixer {
@@ -209,7 +213,7 @@ impl PlainMixer {
         self.pushed
     }
 
-    /// How many turns were made.
+    /// How much the turns that were made weigh together.
     pub fn turns(&self) -> u32
         ensures { result ≡ self.now.turns }
     {
@@ -338,8 +342,7 @@ impl PlainMixer {
     // Each track has its part of the turn, one after the other.
     fn serve_all(&mut self, report: &Report, own: &[Heard], entry: &TurnEntry)
         requires small { IsSmall self.old.turns self.old.setup self.old.kept }
-        requires entry { IsSmallTurn (turn_of entry.now) }
-        requires turns { self.old.turns < 131072 }
+        requires turns { self.old.turns + turn_weight (turn_of entry.now) ≤ 131072 }
         requires own { length own.now ≡ length self.old.kept.tracks }
         ensures { self.new ≡ record self.old { kept = after_tracks self.old.setup (learnt_of report.now own.now) (turn_of entry.now) self.old.kept } }
     {
@@ -414,8 +417,8 @@ impl PlainMixer {
     // The turn went on: the tracks are served, the draft is edited and pushed, and the takes count.
     fn go_on(&mut self, report: &Report, own: &[Heard], entry: &TurnEntry)
         requires small { IsSmall self.old.turns self.old.setup self.old.kept }
-        requires entry { IsSmallTurn (turn_of entry.now) }
-        requires turns { self.old.turns < 131072 }
+        requires takes { length (turn_of entry.now).mixes ≤ most_tracks }
+        requires turns { self.old.turns + turn_weight (turn_of entry.now) ≤ 131072 }
         requires own { length own.now ≡ length self.old.kept.tracks }
         ensures { let k : Learnt = learnt_of report.now own.now in let e = turn_of entry.now in self.new ≡ record self.old { kept = after_takes self.old.setup e.mixes (after_push e.push (after_edits self.old.setup k e self.old.kept)) } }
     {
@@ -431,8 +434,8 @@ impl PlainMixer {
     #[tactic(auto, unfolding(crate::specs::Turn::turn_after))]
     fn advance(&mut self, report: &Report, own: &[Heard], entry: &TurnEntry)
         requires small { IsSmall self.old.turns self.old.setup self.old.kept }
-        requires entry { IsSmallTurn (turn_of entry.now) }
-        requires turns { self.old.turns < 131072 }
+        requires takes { length (turn_of entry.now).mixes ≤ most_tracks }
+        requires turns { self.old.turns + turn_weight (turn_of entry.now) ≤ 131072 }
         requires own { length own.now ≡ length self.old.kept.tracks }
         ensures { self.new ≡ record self.old { kept = turn_after self.old.setup (learnt_of report.now own.now) self.old.kept (turn_of entry.now) } }
     {
@@ -443,16 +446,17 @@ impl PlainMixer {
         self.go_on(report, own, entry);
     }
 
-    /// What a turn leaves, by its entry, the report that it loaded, and what each stream proxy knows that is home. It never asks whether the turn was legal.
+    /// What a turn leaves, by its entry, the report that it loaded, and what each stream proxy knows that is home. It never asks whether the turn was legal. A turn may hold any number of looks: it counts by its weight.
     pub fn turn(&mut self, report: &Report, own: &[Heard], entry: &TurnEntry)
         requires small { IsSmall self.old.turns self.old.setup self.old.kept }
-        requires entry { is_small_turn (turn_of entry.now) ≡ true }
-        requires turns { self.old.turns < 131072 }
+        requires takes { length (turn_of entry.now).mixes ≤ most_tracks }
+        requires turns { self.old.turns + turn_weight (turn_of entry.now) ≤ 131072 }
         requires own { length own.now ≡ length self.old.kept.tracks }
-        ensures turn { self.new ≡ record self.old { kept = turn_after self.old.setup (learnt_of report.now own.now) self.old.kept (turn_of entry.now); turns = self.old.turns + 1 } }
+        ensures turn { self.new ≡ record self.old { kept = turn_after self.old.setup (learnt_of report.now own.now) self.old.kept (turn_of entry.now); turns = self.old.turns + turn_weight (turn_of entry.now) } }
         ensures small { IsSmall self.new.turns self.new.setup self.new.kept }
     {
+        let weight = turn_weight(entry);
         self.advance(report, own, entry);
-        self.turns += 1;
+        self.turns += weight as u32;
     }
 }

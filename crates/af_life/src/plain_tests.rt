@@ -4,7 +4,7 @@ ghost use Rattle.af_life.specs.Small.{IsSmall};
 
 use crate::LifeState::{Absent, Active, Idle, Stopped, Stopping1, Stopping2};
 use crate::plain::NOTHING_HEARD;
-use crate::{Holder, LifeState, PlainMixer, Setting, TrackKept, is_small_turn};
+use crate::{Holder, LifeState, PlainMixer, Setting, TrackKept, turn_weight};
 use Holder::{Home, Lent, Returning};
 use Push::{Busy, Clean, Pushed};
 use af_base::{
@@ -150,7 +150,8 @@ fn turned(alloc: Global, mixer: &mut PlainMixer, step: Step) -> Result<bool, Mem
     slots[1] = step.report;
     let report = Report { cycle: 0, slots };
     let own = [NOTHING_HEARD; 3];
-    if !is_small_turn(&entry) || mixer.turns() >= 131072 || mixer.tracks().len() != own.len() {
+    let few = entry.mixes.as_slice().len() <= 32 && turn_weight(&entry) <= 1;
+    if !few || mixer.turns() >= 131072 || mixer.tracks().len() != own.len() {
         return Ok(false);
     }
     mixer.turn(&report, &own, &entry);

@@ -8,7 +8,7 @@ use crate::tests::{Others, Step, World};
 use af_base::{FastState, Memory, NormalTake, Push, SLOTS, Seen, Steps, TurnEntry};
 use af_life::{
     FLUSH, Heard, Known, LifeState, OPEN, PAUSE, PlainMixer, REMOVE, START, STOP, Setting,
-    TrackKept, is_small_turn, new_track, stored_over,
+    TrackKept, new_track, stored_over, turn_weight,
 };
 use af_link::{Links, no_slot};
 use af_model::{carries_item, first_state};
@@ -234,10 +234,8 @@ impl Beside {
         ensures { IsSmall self.new.plain.turns self.new.plain.setup self.new.plain.kept }
     {
         let entry = world.mixer.last();
-        if !is_small_turn(entry)
-            || self.plain.turns() >= 1000
-            || self.plain.tracks().len() != TRACKS
-        {
+        let few = entry.mixes.as_slice().len() <= 32 && turn_weight(entry) <= 1;
+        if !few || self.plain.turns() >= 1000 || self.plain.tracks().len() != TRACKS {
             return false;
         }
         let before = copy_of(self.plain.tracks());

@@ -13,7 +13,7 @@ use Rattle.af_script.specs.Generated.{repeated, generated_name, generated_ops, g
 use Rattle.af_script.specs.declared.op.Op.{Op}
 use Rattle.af_script.specs.declared.op.Op.TheVariants as op
 use Rattle.af_script.specs.declared.track.TrackSpec.{TrackSpec}
-use Rattle.af_session.specs.Works.{frames_to_come}
+use Rattle.af_party.specs.Works.{frames_to_come}
 use Rattle.af_player.specs.declared.status.Refusal.{Refusal}
 use Rattle.af_player.specs.declared.status.Stop.{Stop}
 use Rattle.af_player.specs.declared.status.Stop.TheVariants.{Refused, Over, Store, Memory}

@@ -10,7 +10,7 @@ use Rattle.af_script.specs.declared.op.Op.TheVariants as op
 use Rattle.af_script.specs.declared.track.TrackSpec.{TrackSpec}
 use Rattle.af_session.specs.Rendered.{HaveFiles, IsFileFor}
 use Rattle.af_session.specs.Rounds.{file_at, ops_at}
-use Rattle.af_session.specs.Works.{frames_to_come}
+use Rattle.af_party.specs.Works.{frames_to_come}
 use Rattle.af_player.specs.declared.status.Refusal.{Refusal}
 use Rattle.af_player.specs.Asked.{◌>>=◌, then_cons, track_in, tracks_in}
 use Rattle.af_player.specs.declared.status.Stop.{Stop}

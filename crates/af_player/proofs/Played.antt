@@ -3,7 +3,7 @@ use Rattle.std.proofs.Common.{◌≡◌, ℕ, List, Some, Result, Ok, Err, IsErr
 use Rattle.std.specs.declared.alloc.Global.{Global}
 use Rattle.af_model.specs.Journals.{JournalData}
 use Rattle.af_io.specs.Files.{Files, SetsFile}
-use Rattle.af_session.specs.declared.summary.Summary.{Summary}
+use Rattle.af_tally.specs.declared.summary.Summary.{Summary}
 use Rattle.af_session.specs.Ends.{EndsState}
 use Rattle.af_session.specs.Rendered.{HandsBack}
 use Rattle.af_session.specs.Shown.{summary_told}

@@ -5,7 +5,7 @@ use Rattle.af_io.specs.Files.{Files, SetsFile, LeavesFront}
 use Rattle.af_io.specs.Outputs.{with_file}
 use Rattle.af_journal.specs.Texts.{text_of}
 use Rattle.af_model.specs.Journals.{JournalData}
-use Rattle.af_session.specs.declared.summary.Summary.{Summary}
+use Rattle.af_tally.specs.declared.summary.Summary.{Summary}
 use Rattle.af_session.specs.Ends.{EndsState}
 use Rattle.af_session.specs.PlayedRuns.{HandsBackRun}
 use Rattle.af_session.specs.Shown.{summary_told}

@@ -9,7 +9,7 @@ use Rattle.af_model.specs.Journals.{JournalData}
 use Rattle.af_nblog.specs.declared.entries.Note.{Note}
 use Rattle.af_nblog.specs.LogText.{log_text}
 use Rattle.af_runs.specs.Pcm.{journal_pcm}
-use Rattle.af_session.specs.declared.summary.Summary.{Summary}
+use Rattle.af_tally.specs.declared.summary.Summary.{Summary}
 use Rattle.af_session.specs.Ends.{EndsState}
 use Rattle.af_session.specs.Logging.{IsLogOf}
 use Rattle.af_session.specs.PlayedRuns.{HandsBackRun}

@@ -2,7 +2,7 @@
 use Rattle.std.proofs.Common.{◌≡◌, ℕ, List, length, Result, Ok, Err, String, IfOk, IsErrAnd, IsErrOf, string_bytes, arith, refl, sym, subst}
 use Rattle.std.specs.declared.alloc.Global.{Global}
 use Rattle.af_io.specs.Files.{Files, SameFiles}
-use Rattle.af_audit.specs.Judged.{IsJudgement}
+use Rattle.af_audit.specs.Verdicts.{IsVerdict}
 use Rattle.af_audit.specs.declared.verdict.Refusal.TheVariants as refused
 use Rattle.af_audit.specs.declared.verdict.Verdict.{Verdict}
 use Rattle.af_audit.specs.declared.verdict.Verdict.TheVariants as verdict
@@ -22,15 +22,15 @@ use Rattle.af_player.proofs.Made.{IsCutOff-same}
 
 -- ## What is found
 
--- a judgement is never of a text
+-- a verdict is never of a text
 module _ (c : Case) (journal : JournalData) (reads : IsTextFor c.loaded.script c.text journal) where
-  found_in : (found : Verdict) → IsJudgement c.loaded.script c.loaded.files journal c.pcm found → IsJudgedIn c found
+  found_in : (found : Verdict) → IsVerdict c.loaded.script c.loaded.files journal c.pcm found → IsJudgedIn c found
   found_in verdict.Legal is = (journal, reads, is)
   found_in (verdict.Refused (refused.Text line)) none = absurd none
   found_in (verdict.Refused (refused.Round round party)) is = (journal, reads, is)
   found_in (verdict.Refused (refused.Pcm at)) is = (journal, reads, is)
 
-  pub JudgesTo-found : (result : Result (String Global) Stop) (found : Verdict) → IsJudgement c.loaded.script c.loaded.files journal c.pcm found → FoundTo result found → JudgesTo result c
+  pub JudgesTo-found : (result : Result (String Global) Stop) (found : Verdict) → IsVerdict c.loaded.script c.loaded.files journal c.pcm found → FoundTo result found → JudgesTo result c
   JudgesTo-found (Ok line) found is told = (told.0, subst (IsJudgedIn c) told.1 (found_in found is))
   JudgesTo-found (Err (Over (ending.Judged refusal))) found is told = subst (IsJudgedIn c) told (found_in found is)
   JudgesTo-found (Err (Over (ending.Limit cycles))) found is none = absurd none

@@ -10,7 +10,7 @@ use Rattle.af_script.specs.Generated.{generated_script}
 use Rattle.af_script.specs.Reading.{script_of}
 use Rattle.af_script.specs.declared.track.TrackSpec.{TrackSpec}
 use Rattle.af_script.specs.declared.fault.ScriptFault.{ScriptFault}
-use Rattle.af_session.specs.Works.{frames_to_come}
+use Rattle.af_party.specs.Works.{frames_to_come}
 use Rattle.af_player.specs.declared.status.Refusal.{Refusal}
 use Rattle.af_player.specs.declared.status.Refusal.TheVariants.{Usage, Script, File}
 use Rattle.af_player.specs.declared.status.Role.{Role}

@@ -3,12 +3,12 @@ use Rattle.std.specs.Prelude.{◌≡◌, ℕ, List, ◌++◌, codes}
 use Rattle.af_base.specs.declared.frame.Frame.{Frame}
 use Rattle.af_model.specs.Journals.{JournalData}
 use Rattle.af_script.specs.Data.{ScriptData}
-use Rattle.af_session.specs.declared.summary.Summary.{Summary}
+use Rattle.af_tally.specs.declared.summary.Summary.{Summary}
 use Rattle.af_session.specs.Ends.{EndsState}
 use Rattle.af_session.specs.Rendered.{HandsBack}
 use Rattle.af_session.specs.Shown.{summary_told}
 use Rattle.af_runs.specs.Pcm.{journal_pcm}
-use Rattle.af_session.specs.Summaries.{summary_text}
+use Rattle.af_tally.specs.Summaries.{summary_text}
 
 -- the line of a summary
 abbrev pub summary_line : Summary → List ℕ

@@ -4,7 +4,7 @@ use Rattle.std.specs.declared.alloc.Global.{Global}
 use Rattle.af_base.specs.declared.frame.Frame.{Frame}
 use Rattle.af_journal.specs.Readings.{HasReading, IsFirstBad}
 use Rattle.af_journal.specs.Texts.{text_of}
-use Rattle.af_audit.specs.Judged.{IsJudgement}
+use Rattle.af_audit.specs.Verdicts.{IsVerdict}
 use Rattle.af_audit.specs.declared.verdict.Refusal.TheVariants as refused
 use Rattle.af_audit.specs.declared.verdict.Verdict.{Verdict}
 use Rattle.af_audit.specs.declared.verdict.Verdict.TheVariants as verdict
@@ -25,7 +25,7 @@ IsTextFor script text journal = (journal.tracks ≡ length script.tracks) × (te
 
 -- the text is that of a journal of as many tracks as the script has, and this is what is found of that journal and the sound
 abbrev pub IsOfJournal : ScriptData → List (List Frame) → List ℕ → List ℕ → Verdict → Type 0
-IsOfJournal script files pcm text found = (journal : JournalData) × IsTextFor script text journal × IsJudgement script files journal pcm found
+IsOfJournal script files pcm text found = (journal : JournalData) × IsTextFor script text journal × IsVerdict script files journal pcm found
 
 -- What is found of a sound and the text of its journal: the first bad line of a text without a reading, and else what is found of its journal
 abbrev pub IsJudged : ScriptData → List (List Frame) → List ℕ → List ℕ → Verdict → Type 0

@@ -9,7 +9,7 @@ ghost use Rattle.af_player.specs.Status.{HasFault, IsNoUsage};
 use crate::load::{Loaded, load_script};
 use crate::status::Stop;
 use af_io::Store;
-use af_session::Summary;
+use af_tally::Summary;
 use std::alloc::{AllocError, Global};
 
 /// The line of a summary.

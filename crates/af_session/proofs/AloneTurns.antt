@@ -10,10 +10,10 @@ use Rattle.af_model.specs.Cycles.{is_mixed}
 use Rattle.af_fast.specs.Mixer.{MixerState}
 use Rattle.af_session.specs.Alone.{CyclesOn, CyclesOnce, FastTurned, most_cycles}
 use Rattle.af_session.specs.FastTurns.{TurnAdds}
-use Rattle.af_session.specs.Sound.{IsMixed, IsWhole, pcm_of}
+use Rattle.af_tally.specs.Sound.{IsMixed, IsWhole, pcm_of}
 use Rattle.af_runs.specs.Pcm.{written}
 use Rattle.af_session.proofs.FastAdds.{AddsOne, adds_last, adds_more, mix_adds, polled_keeps}
-use Rattle.af_session.proofs.Sounding.{grows_not}
+use Rattle.af_tally.proofs.Sounding.{grows_not}
 
 -- ## A chain
 

@@ -25,7 +25,7 @@ use Rattle.af_script.specs.declared.track.TrackSpec.{TrackSpec}
 use Rattle.af_session.specs.NewSession.{EndStates, AreNewEnds, IsNewSession, ends_of, tracks_of}
 use Rattle.af_session.specs.NewTracks.{AreNewTracks}
 use Rattle.af_runs.specs.Sessions.{script_setup, spec_setting}
-use Rattle.af_session.specs.Parties.{PartyState}
+use Rattle.af_party.specs.Parties.{PartyState}
 use Rattle.af_session.specs.Shares.{SharedState, AreLinksOf}
 use Rattle.af_session.specs.Together.{SessionState, AreTogether}
 

@@ -10,10 +10,10 @@ use Rattle.af_normal.specs.Meeting.{AreClientsOf}
 use Rattle.af_script.specs.declared.op.Op.{Op}
 use Rattle.af_script.specs.declared.op.TurnSpec.TheVariants as spec
 use Rattle.af_script.specs.declared.track.TrackSpec.{TrackSpec}
-use Rattle.af_session.specs.Parties.{PartyState, track_of}
+use Rattle.af_party.specs.Parties.{PartyState, track_of}
 use Rattle.af_session.specs.Rounds.{Given, IsReady, Turns, client_round, file_at, ops_at, ops_of}
 use Rattle.af_session.specs.Together.{SessionState}
-use Rattle.af_session.specs.Works.{CanWork}
+use Rattle.af_party.specs.Works.{CanWork}
 use Rattle.af_session.proofs.Ready.{ready_client}
 
 module _ (links : Links) (g : Given) (s : SessionState) (i : ℕ) (p : PartyState) (t : TrackSpec) (ops : List Op) (pcm file : List Frame) (lt : i < length s.clients)

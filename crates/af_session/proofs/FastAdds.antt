@@ -19,9 +19,9 @@ use Rattle.af_fast.specs.Mixer.{MixerState, adopted_states, is_over}
 use Rattle.af_fast.specs.Mixing.{AddsCycle, Adopts, MixesOnce, Writes}
 use Rattle.af_session.specs.FastTurns.{IsCycle, IsFastTurn, TurnAdds, Turned, WritesCycle}
 use Rattle.af_session.specs.Met.{Met}
-use Rattle.af_session.specs.Sound.{Grows, IsMixed, IsWhole, pcm_of}
+use Rattle.af_tally.specs.Sound.{Grows, IsMixed, IsWhole, pcm_of}
 use Rattle.af_session.specs.Together.{SessionState}
-use Rattle.af_session.proofs.Sounding.{log_grows, grows_not, grows_on, same_if}
+use Rattle.af_tally.proofs.Sounding.{log_grows, grows_not, grows_on, same_if}
 
 -- ## Where the frames of a new entry stand
 

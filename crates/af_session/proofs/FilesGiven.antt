@@ -9,7 +9,7 @@ use Rattle.af_script.specs.declared.op.Op.TheVariants as op
 use Rattle.af_script.specs.declared.track.TrackSpec.{TrackSpec}
 use Rattle.af_session.specs.Rendered.{IsFileFor}
 use Rattle.af_session.specs.Rounds.{Given, file_at, ops_at, ops_of}
-use Rattle.af_session.specs.Works.{frames_to_come}
+use Rattle.af_party.specs.Works.{frames_to_come}
 
 -- ## Ops
 

@@ -11,13 +11,13 @@ use Rattle.af_script.specs.declared.op.Op.{Op}
 use Rattle.af_script.specs.declared.op.TurnSpec.{TurnSpec}
 use Rattle.af_session.specs.NewSession.{IsNewSession, tracks_of}
 use Rattle.af_session.specs.NewTracks.{IsTrackAt}
-use Rattle.af_session.specs.Parties.{PartyState}
+use Rattle.af_party.specs.Parties.{PartyState}
 use Rattle.af_session.specs.Rendered.{HaveFiles, Rendered, Renders, Runs}
 use Rattle.af_session.specs.Rounds.{Given, IsReady, file_at, ops_at, ops_of}
 use Rattle.af_session.specs.Shares.{SharedState}
-use Rattle.af_session.specs.Sound.{pcm_of}
+use Rattle.af_tally.specs.Sound.{pcm_of}
 use Rattle.af_session.specs.Together.{SessionState, AreTogether}
-use Rattle.af_session.specs.Works.{CanWork, frames_to_come}
+use Rattle.af_party.specs.Works.{CanWork, frames_to_come}
 use Rattle.af_session.proofs.FastAdds.{whole_new}
 
 module _ (script : ScriptData) (shared : SharedState) (s : SessionState) (new : IsNewSession script shared s) (files : List (List Frame)) where

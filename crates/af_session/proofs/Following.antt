@@ -28,11 +28,11 @@ use Rattle.af_fast.specs.Mixer.{IsInOrder, MixerState, is_over}
 use Rattle.af_fast.specs.Mixing.{AddsCycle, Adopts, MixesOnce, Writes}
 use Rattle.af_session.specs.Met.{Met}
 use Rattle.af_session.specs.Shown.{Follows, HasPlaces, entries_written, entry_written, frames_written, shown_at, shows, use_of}
-use Rattle.af_session.specs.Sound.{IsWhole}
-use Rattle.af_session.specs.Summaries.{EntryUsed, Shown, with_entry, with_written}
-use Rattle.af_session.specs.Tallies.{Tallied, IsTally, Keeps, most_looks}
+use Rattle.af_tally.specs.Sound.{IsWhole}
+use Rattle.af_tally.specs.Summaries.{EntryUsed, Shown, with_entry, with_written}
+use Rattle.af_tally.specs.Tallies.{Tallied, IsTally, Keeps, most_looks}
 use Rattle.af_session.specs.Together.{SessionState}
-use Rattle.af_session.proofs.Sounding.{takes_stay}
+use Rattle.af_tally.proofs.Sounding.{takes_stay}
 
 -- ## States
 

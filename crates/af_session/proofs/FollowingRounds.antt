@@ -22,14 +22,14 @@ use Rattle.af_normal.proofs.LegalLists.{get_set_same}
 use Rattle.af_script.specs.declared.op.TurnSpec.{TurnSpec}
 use Rattle.af_script.specs.declared.op.TurnSpec.TheVariants as spec
 use Rattle.af_session.specs.Met.{Met}
-use Rattle.af_session.specs.Parties.{PartyState}
+use Rattle.af_party.specs.Parties.{PartyState}
 use Rattle.af_session.specs.Rounds.{calls_in, client_round, end_party, fast_round, normal_round, round_told, still_round, with_ends}
 use Rattle.af_session.specs.Shown.{Follows, FollowsRound, HasPlaces, calls_over, shown_at, shows, turn_in, turns_over}
-use Rattle.af_session.specs.Summaries.{Shown, with_calls, with_turn}
-use Rattle.af_session.specs.Tallies.{IsTally, Keeps, Tallied}
+use Rattle.af_tally.specs.Summaries.{Shown, with_calls, with_turn}
+use Rattle.af_tally.specs.Tallies.{IsTally, Keeps, Tallied}
 use Rattle.af_session.specs.Together.{SessionState}
 use Rattle.af_session.proofs.Following.{shown_met}
-use Rattle.af_session.proofs.Sounding.{map_same}
+use Rattle.af_tally.proofs.Sounding.{map_same}
 
 -- the calls of all clients, round by round
 abbrev pub AllCalls : Type 0

@@ -4,7 +4,7 @@ use Rattle.std.specs.List.{list_all}
 use Rattle.std.proofs.lemmas.Bool.{eqb-false}
 use Rattle.af_model.specs.Cycles.{has_exit}
 use Rattle.af_model.specs.Journals.{RoundNoted}
-use Rattle.af_session.specs.Parties.{PartyState}
+use Rattle.af_party.specs.Parties.{PartyState}
 use Rattle.af_session.specs.PlayedRuns.{GoesOn, all_ended}
 use Rattle.af_session.specs.Rounds.{Given}
 use Rattle.af_session.specs.SideBySide.{IsRoundOfAll}

@@ -8,7 +8,7 @@ use Rattle.af_base.specs.Log.{Logged}
 use Rattle.af_base.specs.Sample.{IsFrame}
 use Rattle.af_model.specs.Journals.{EntrySeen, RoundNoted, RoundsNoted, cycles_of, entries_of, entries_seen, frames_of, journal_of, rounds_seen, taken_by}
 use Rattle.af_model.specs.JournalForm.{AreEntries, IsJournal, IsRound, IsWhole}
-use Rattle.af_session.specs.Sound.{pcm_of}
+use Rattle.af_tally.specs.Sound.{pcm_of}
 use Rattle.af_runs.specs.Pcm.{entries_pcm, journal_pcm}
 use Rattle.af_session.proofs.RoundForms.{AreNoted, IsNoted}
 

@@ -1,9 +1,3 @@
-mod MadeCalls
-mod WorkLeft
-mod CanWorkOn
-mod Legal
-mod StepMade
-mod TurnMade
 mod EndsMeet
 mod MetAway
 mod MetSlots
@@ -12,13 +6,11 @@ mod MetStays
 mod MetTracks
 mod FastAdds
 mod FastChains
-mod Sounding
 pub mod Sizes
 pub mod NewLines
 pub mod NewWork
 pub mod MoreTracks
 pub mod Begins
-mod Tallying
 pub mod Ready
 mod ClientRounds
 mod NormalRounds

@@ -11,7 +11,7 @@ use Rattle.af_normal.proofs.LegalLists.{get_set_same, get_set_other}
 use Rattle.af_server.specs.Order.{ServerState}
 use Rattle.af_stateq.specs.Mutates.{at}
 use Rattle.af_session.specs.Met.{MeetsAway, Proxies, Spot, SpotMet, TrackMet, item_at, slot_for, spot_of}
-use Rattle.af_session.specs.Parties.{PartyState}
+use Rattle.af_party.specs.Parties.{PartyState}
 use Rattle.af_session.proofs.MetSlots.{held_other}
 
 -- at home

@@ -6,8 +6,8 @@ use Rattle.af_normal.specs.Meeting.{MeetsStream, client_knows}
 use Rattle.af_script.specs.declared.op.Op.{Op}
 use Rattle.af_server.specs.Order.{ServerState}
 use Rattle.af_session.specs.Met.{MeetsAway, Spot, SpotMet, TrackMet}
-use Rattle.af_session.specs.Parties.{PartyState}
-use Rattle.af_session.specs.Works.{CanWork}
+use Rattle.af_party.specs.Parties.{PartyState}
+use Rattle.af_party.specs.Works.{CanWork}
 
 -- the proxy learnt something, and is as before in all else
 abbrev pub HasLearnt : ClientState → ClientState → Type 0

@@ -12,7 +12,7 @@ use Rattle.af_normal.proofs.LegalLists.{get_set_same, get_set_other}
 use Rattle.af_server.specs.Order.{ServerState}
 use Rattle.af_stateq.specs.Mutates.{at}
 use Rattle.af_session.specs.Met.{ItemStays, Proxies, Spot, TrackMet, TracksMet, slot_for, spot_of}
-use Rattle.af_session.specs.Parties.{PartyState}
+use Rattle.af_party.specs.Parties.{PartyState}
 use Rattle.af_session.specs.Together.{AreTogether}
 
 -- before any meeting

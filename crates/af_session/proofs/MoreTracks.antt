@@ -8,7 +8,7 @@ use Rattle.af_normal.specs.Making.{TrackList, setting_of, with_track}
 use Rattle.af_normal.specs.declared.make.TrackSetup.{TrackSetup}
 use Rattle.af_script.specs.declared.track.TrackSpec.{TrackSpec}
 use Rattle.af_session.specs.NewTracks.{IsNewTrack, IsTrackAt, AreNewTracks}
-use Rattle.af_session.specs.Parties.{PartyState}
+use Rattle.af_party.specs.Parties.{PartyState}
 
 -- the last of a list
 pub at_last : {X : Type 0} (xs : List X) (x : X) (n : ℕ) → length xs ≡ n → slice_get (xs ++ x ∷ []) n ≡ Some x

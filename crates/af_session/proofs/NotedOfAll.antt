@@ -7,7 +7,7 @@ use Rattle.af_base.specs.Log.{Logged}
 use Rattle.af_base.specs.Turn.{turn_of}
 use Rattle.af_normal.specs.State.{NormalState}
 use Rattle.af_session.specs.Met.{Met}
-use Rattle.af_session.specs.Parties.{PartyState}
+use Rattle.af_party.specs.Parties.{PartyState}
 use Rattle.af_session.specs.Rounds.{end_party, with_ends}
 use Rattle.af_session.specs.SideBySide.{all_noted}
 use Rattle.af_session.specs.Together.{SessionState}

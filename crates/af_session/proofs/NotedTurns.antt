@@ -16,11 +16,11 @@ use Rattle.af_base.specs.Log.{Logged}
 use Rattle.af_fast.specs.Mixer.{IsInOrder, MixerState}
 use Rattle.af_session.specs.Met.{Met}
 use Rattle.af_session.specs.Rounds.{with_ends}
-use Rattle.af_session.specs.Parties.{PartyState}
+use Rattle.af_party.specs.Parties.{PartyState}
 use Rattle.af_session.specs.Shown.{Follows, FollowsRound, HasPlaces, calls_over, shown_at, shows}
 use Rattle.af_session.specs.SideBySide.{all_noted, with_all_calls, with_turn_if}
-use Rattle.af_session.specs.Summaries.{Shown, calls_of, with_calls, with_turn}
-use Rattle.af_session.specs.Tallies.{IsTally, Tallied}
+use Rattle.af_tally.specs.Summaries.{Shown, calls_of, with_calls, with_turn}
+use Rattle.af_tally.specs.Tallies.{IsTally, Tallied}
 use Rattle.af_session.specs.Together.{SessionState}
 use Rattle.af_session.proofs.ExitSeen.{mixers_stay}
 use Rattle.af_session.proofs.Following.{shown_met}

@@ -16,8 +16,8 @@ use Rattle.af_session.specs.PlayedRuns.{AtFault, AtLimit, HandedBack, HandsBackR
 use Rattle.af_session.specs.Rendered.{HasStoreCause, fault_of, is_limit}
 use Rattle.af_session.specs.Shown.{released_by, shown_by, shown_in, summary_told}
 use Rattle.af_session.specs.Spelled.{NoneOlder}
-use Rattle.af_session.specs.Summaries.{Shown, summary_of}
-use Rattle.af_session.specs.Tallies.{IsTally, Tallied}
+use Rattle.af_tally.specs.Summaries.{Shown, summary_of}
+use Rattle.af_tally.specs.Tallies.{IsTally, Tallied}
 use Rattle.af_session.specs.Together.{SessionState}
 use Rattle.af_session.proofs.Outgoing.{cause_ok}
 use Rattle.af_session.proofs.ShownWhole.{is_told}

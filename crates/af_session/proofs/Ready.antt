@@ -15,12 +15,12 @@ use Rattle.af_normal.proofs.LegalLists.{get_set_same, get_set_other}
 use Rattle.af_script.specs.declared.op.Op.{Op}
 use Rattle.af_session.specs.FastTurns.{IsFastTurn, WritesCycle}
 use Rattle.af_session.specs.Met.{Met, proxies_of, spot_of}
-use Rattle.af_session.specs.Parties.{PartyState}
+use Rattle.af_party.specs.Parties.{PartyState}
 use Rattle.af_session.specs.Rounds.{Given, IsReady, end_party, file_at, ops_at, with_ends}
-use Rattle.af_session.specs.Sound.{IsWhole}
+use Rattle.af_tally.specs.Sound.{IsWhole}
 use Rattle.af_session.specs.Together.{SessionState, AreTogether}
-use Rattle.af_session.specs.Works.{CanWork}
-use Rattle.af_session.proofs.CanWorkOn.{work_end}
+use Rattle.af_party.specs.Works.{CanWork}
+use Rattle.af_party.proofs.CanWorkOn.{work_end}
 use Rattle.af_session.proofs.FastAdds.{met_keeps, whole_met}
 use Rattle.af_session.proofs.MetStays.{command_learnt, work_met}
 use Rattle.af_session.proofs.MetTracks.{still_together}

@@ -11,11 +11,11 @@ use Rattle.af_link.specs.declared.links.Links.{Links}
 use Rattle.af_normal.specs.LegalTurned.{IsLegal}
 use Rattle.af_normal.specs.Meeting.{AreClientsOf}
 use Rattle.af_normal.specs.State.{NormalState, setup_of}
-use Rattle.af_session.specs.Parties.{PartyState}
+use Rattle.af_party.specs.Parties.{PartyState}
 use Rattle.af_session.specs.Rounds.{Given, IsReady, file_at, ops_at}
 use Rattle.af_session.specs.SideBySide.{AllPlayed, CanCycle, CanMixOn, CanTurn, ClientPlayed, HasCycledOn, HasMixedOn, HasTurned, NormalPlayed}
 use Rattle.af_session.specs.Together.{SessionState}
-use Rattle.af_session.specs.Works.{CanWork}
+use Rattle.af_party.specs.Works.{CanWork}
 
 -- ## Lists that are related place by place
 

@@ -9,7 +9,7 @@ use Rattle.af_life.specs.Kept.{Outside}
 use Rattle.af_normal.specs.LegalTurned.{IsLegal}
 use Rattle.af_normal.specs.State.{NormalState}
 use Rattle.af_session.specs.Alone.{CyclesOn, CyclesOnce, FastTurned, most_cycles}
-use Rattle.af_session.specs.Parties.{PartyState}
+use Rattle.af_party.specs.Parties.{PartyState}
 use Rattle.af_session.specs.Rounds.{Given, end_party, with_ends}
 use Rattle.af_session.specs.SideBySide.{IsRoundOfAll}
 use Rattle.af_session.specs.Together.{SessionState}

@@ -19,13 +19,13 @@ use Rattle.af_script.specs.Data.{ScriptData}
 use Rattle.af_session.specs.Alone.{CyclesOn, CyclesOnce, FastTurned, most_cycles}
 use Rattle.af_session.specs.NewSession.{IsNewSession}
 use Rattle.af_session.specs.Noted.{HasFrames, NotesFrames}
-use Rattle.af_session.specs.Parties.{PartyState}
+use Rattle.af_party.specs.Parties.{PartyState}
 use Rattle.af_session.specs.PlayedRuns.{IsRunOfAll, RunsOfAll}
 use Rattle.af_session.specs.Rounds.{Given, IsReady}
 use Rattle.af_session.specs.Shares.{SharedState}
 use Rattle.af_session.specs.Shown.{shown_at, shown_in}
 use Rattle.af_session.specs.SideBySide.{ClientPlayed, IsRoundOfAll, all_noted}
-use Rattle.af_session.specs.Tallies.{IsTally, Tallied}
+use Rattle.af_tally.specs.Tallies.{IsTally, Tallied}
 use Rattle.af_session.specs.Together.{SessionState}
 use Rattle.af_session.proofs.ExitSeen.{mixers_stay}
 use Rattle.af_session.proofs.FastAdds.{polled_keeps}

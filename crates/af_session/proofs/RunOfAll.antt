@@ -16,7 +16,7 @@ use Rattle.af_session.specs.PlayedRuns.{GoesOn, IsRunOfAll, Plays, RunsOfAll}
 use Rattle.af_session.specs.Rounds.{Given}
 use Rattle.af_session.specs.Shares.{SharedState}
 use Rattle.af_session.specs.SideBySide.{IsRoundOfAll}
-use Rattle.af_session.specs.Sound.{pcm_of}
+use Rattle.af_tally.specs.Sound.{pcm_of}
 use Rattle.af_session.specs.Together.{SessionState}
 use Rattle.af_session.proofs.ExitSeen.{Knowing}
 use Rattle.af_session.proofs.FirstRound.{frames_first, silent_first}

@@ -17,7 +17,7 @@ use Rattle.af_session.specs.Ends.{EndsState}
 use Rattle.af_session.specs.Met.{MeetsAway, Spot, SpotMet, TrackMet}
 use Rattle.af_session.specs.NewSession.{IsNewSession, tracks_of}
 use Rattle.af_session.specs.NewTracks.{IsTrackAt}
-use Rattle.af_session.specs.Parties.{PartyState, track_of}
+use Rattle.af_party.specs.Parties.{PartyState, track_of}
 use Rattle.af_session.specs.PlayedRuns.{HandsBackRun, IsRunOfAll}
 use Rattle.af_session.specs.Rounds.{Given, end_party, file_at, ops_at}
 use Rattle.af_session.specs.Shares.{SharedState}

@@ -23,15 +23,15 @@ use Rattle.af_script.specs.Data.{ScriptData}
 use Rattle.af_script.specs.declared.op.TurnSpec.{TurnSpec}
 use Rattle.af_session.specs.Met.{Met}
 use Rattle.af_session.specs.NewSession.{IsNewSession}
-use Rattle.af_session.specs.Parties.{PartyState}
+use Rattle.af_party.specs.Parties.{PartyState}
 use Rattle.af_session.specs.Ends.{EndsState}
 use Rattle.af_session.specs.Rendered.{Runs}
 use Rattle.af_session.specs.Rounds.{Given, IsReady, IsRound, IsTurnRun}
 use Rattle.af_session.specs.Shares.{SharedState}
 use Rattle.af_session.specs.Shown.{HasPlaces, calls_over, released_by, shown_at, shown_by, shown_in, shows, summary_told}
-use Rattle.af_session.specs.declared.summary.Summary.{Summary}
-use Rattle.af_session.specs.Summaries.{Shown, nothing_shown, summary_of}
-use Rattle.af_session.specs.Tallies.{IsTally, Tallied}
+use Rattle.af_tally.specs.declared.summary.Summary.{Summary}
+use Rattle.af_tally.specs.Summaries.{Shown, nothing_shown, summary_of}
+use Rattle.af_tally.specs.Tallies.{IsTally, Tallied}
 use Rattle.af_session.specs.Together.{SessionState}
 use Rattle.af_session.proofs.Following.{shows_more}
 use Rattle.af_session.proofs.FollowingRounds.{empty_at, no_call, ends_keep, shows_tracks}

@@ -16,10 +16,10 @@ use Rattle.af_stateq.specs.Laws.{pushed_states}
 use Rattle.af_session.specs.Ends.{EndsState}
 use Rattle.af_session.specs.Hostile.{IsSpared, IsTame, PokesSpareOthers, SparesSoFar, all_calls, all_turns, is_spared_in_turn, none_corrupt}
 use Rattle.af_session.specs.NewSession.{IsNewSession}
-use Rattle.af_session.specs.Parties.{PartyState}
+use Rattle.af_party.specs.Parties.{PartyState}
 use Rattle.af_session.specs.Shares.{SharedState}
 use Rattle.af_session.specs.Shown.{calls_over, shown_by, shown_in, shows}
-use Rattle.af_session.specs.Summaries.{Shown, calls_of, has_no_poke, is_lawful as is_unpoked}
+use Rattle.af_tally.specs.Summaries.{Shown, calls_of, has_no_poke, is_lawful as is_unpoked}
 use Rattle.af_session.specs.Together.{SessionState}
 use Rattle.af_session.proofs.FollowingRounds.{shows_tracks}
 use Rattle.af_session.proofs.ShownWhole.{shown_journal}

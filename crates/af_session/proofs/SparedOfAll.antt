@@ -12,11 +12,11 @@ use Rattle.af_model.specs.Journals.{RoundNoted}
 use Rattle.af_normal.specs.LegalTurned.{IsLegal}
 use Rattle.af_server.specs.Order.{ServerState}
 use Rattle.af_session.specs.Hostile.{IsTame, SparesSoFar, is_spared_in_turn, none_corrupt}
-use Rattle.af_session.specs.Parties.{PartyState, track_of}
+use Rattle.af_party.specs.Parties.{PartyState, track_of}
 use Rattle.af_session.specs.Rounds.{Given, IsReady, file_at, ops_at}
 use Rattle.af_session.specs.Shown.{turn_in}
 use Rattle.af_session.specs.SideBySide.{ClientPlayed, IsRoundOfAll}
-use Rattle.af_session.specs.Summaries.{has_no_poke}
+use Rattle.af_tally.specs.Summaries.{has_no_poke}
 use Rattle.af_session.specs.Together.{SessionState}
 use Rattle.af_session.proofs.OpenCalls.{AreOpen, AreTame, open_turn, tame_turn}
 use Rattle.af_session.proofs.ReadyOfAll.{zip_at}

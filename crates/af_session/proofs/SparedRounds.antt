@@ -29,10 +29,10 @@ use Rattle.af_server.specs.Order.{IsInOrder as IsServerInOrder, ServerState, ser
 use Rattle.af_session.specs.FastTurns.{IsCycle, IsFastTurn}
 use Rattle.af_session.specs.Hostile.{IsTame, SparesSoFar, all_calls, all_turns, is_spared_in_turn, none_corrupt}
 use Rattle.af_session.specs.Met.{Met, Spot, SpotMet, TrackMet, proxies_of, spot_of}
-use Rattle.af_session.specs.Parties.{PartyState, track_of}
+use Rattle.af_party.specs.Parties.{PartyState, track_of}
 use Rattle.af_session.specs.Rounds.{Given, IsReady, IsRound, NormalTurned, fast_round, file_at, no_calls, normal_round, ops_at, still_round, with_ends}
 use Rattle.af_session.specs.Shown.{calls_over, turn_in, turns_over}
-use Rattle.af_session.specs.Summaries.{has_no_poke}
+use Rattle.af_tally.specs.Summaries.{has_no_poke}
 use Rattle.af_session.specs.Together.{SessionState}
 use Rattle.af_session.proofs.FollowingRounds.{EndsKeep, calls_more, empty_at, ends_keep, no_call, turns_more}
 use Rattle.af_session.proofs.MetOpen.{IsPartyAsBefore, clients_ended, clients_met, open_met, open_spot, party_met}

@@ -39,7 +39,7 @@ use Rattle.af_normal.proofs.OrderTurn.{seen_past}
 use Rattle.af_server.specs.Order.{ServerState, server_kept_of}
 use Rattle.af_server.specs.Slot.{listed}
 use Rattle.af_session.specs.Hostile.{is_spared_in_turn, none_shut}
-use Rattle.af_session.specs.Summaries.{take_look, turn_looks}
+use Rattle.af_tally.specs.Summaries.{take_look, turn_looks}
 use Rattle.af_session.proofs.OneTake.{one_take, taken_is_due}
 use Rattle.af_session.proofs.OpenLooks.{kept_more, open_commands, open_cycle, shut_after}
 

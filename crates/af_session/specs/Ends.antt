@@ -2,7 +2,7 @@
 use Rattle.std.specs.Prelude.{ℕ, List, slice_get, Option, option_map}
 use Rattle.af_client.specs.Order.{ClientState}
 use Rattle.af_normal.specs.State.{NormalState}
-use Rattle.af_session.specs.Parties.{PartyState}
+use Rattle.af_party.specs.Parties.{PartyState}
 use Rattle.af_session.specs.Together.{SessionState}
 
 -- the clients and the normal mixer

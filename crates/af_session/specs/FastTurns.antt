@@ -9,7 +9,7 @@ use Rattle.af_model.specs.Cycles.{is_mixed}
 use Rattle.af_fast.specs.Mixer.{MixerState}
 use Rattle.af_fast.specs.Mixing.{Adopts, MixesOnce}
 use Rattle.af_session.specs.Met.{Met}
-use Rattle.af_session.specs.Sound.{Grows, IsMixed}
+use Rattle.af_tally.specs.Sound.{Grows, IsMixed}
 use Rattle.af_runs.specs.Pcm.{written}
 use Rattle.af_session.specs.Together.{SessionState}
 

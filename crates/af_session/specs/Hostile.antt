@@ -8,9 +8,9 @@ use Rattle.af_life.specs.Kept.{track_in}
 use Rattle.af_life.specs.Obeys.{is_shut}
 use Rattle.af_model.specs.History.{is_lawful as is_tame}
 use Rattle.af_model.specs.Journals.{RoundNoted}
-use Rattle.af_session.specs.Parties.{PartyState}
+use Rattle.af_party.specs.Parties.{PartyState}
 use Rattle.af_session.specs.Shown.{calls_over, turns_over}
-use Rattle.af_session.specs.Summaries.{Look, Shown, calls_of, has_no_poke, is_lawful, turn_looks}
+use Rattle.af_tally.specs.Summaries.{Look, Shown, calls_of, has_no_poke, is_lawful, turn_looks}
 use Rattle.af_session.specs.Together.{SessionState}
 
 -- a write or a send found that the words of its block don't fit it

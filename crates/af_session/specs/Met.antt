@@ -16,7 +16,7 @@ use Rattle.af_normal.specs.Mixing.{stream_at}
 use Rattle.af_normal.specs.State.{NormalState}
 use Rattle.af_server.specs.Order.{ServerState}
 use Rattle.af_stateq.specs.Mutates.{at}
-use Rattle.af_session.specs.Parties.{PartyState}
+use Rattle.af_party.specs.Parties.{PartyState}
 use Rattle.af_session.specs.Together.{SessionState}
 
 -- ## The ends

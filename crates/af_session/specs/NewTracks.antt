@@ -17,8 +17,8 @@ use Rattle.af_normal.specs.Mixing.{stream_at}
 use Rattle.af_normal.specs.declared.make.TrackSetup.{TrackSetup}
 use Rattle.af_script.specs.declared.op.Op.{Op}
 use Rattle.af_script.specs.declared.track.TrackSpec.{TrackSpec}
-use Rattle.af_session.specs.Parties.{PartyState, track_of}
-use Rattle.af_session.specs.Works.{CanWork, frames_to_come}
+use Rattle.af_party.specs.Parties.{PartyState, track_of}
+use Rattle.af_party.specs.Works.{CanWork, frames_to_come}
 
 -- the track of a client that has done nothing, with the file of these frames
 abbrev pub first_track : ℕ → TrackSpec → List Frame → Track

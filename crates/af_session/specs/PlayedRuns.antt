@@ -6,7 +6,7 @@ use Rattle.af_io.specs.Files.{Files, SameFiles, LeavesFront}
 use Rattle.af_model.specs.Journals.{JournalData, RoundNoted, journal_of}
 use Rattle.af_script.specs.Data.{ScriptData}
 use Rattle.af_session.specs.NewSession.{IsNewSession}
-use Rattle.af_session.specs.Parties.{PartyState}
+use Rattle.af_party.specs.Parties.{PartyState}
 use Rattle.af_session.specs.Ends.{EndsState, ends_from}
 use Rattle.af_session.specs.declared.rendering.Played.{Played}
 use Rattle.af_session.specs.declared.rendering.SessionFault.{SessionFault}
@@ -14,7 +14,7 @@ use Rattle.af_session.specs.declared.rendering.SessionFault.TheVariants as fault
 use Rattle.af_session.specs.Rounds.{Given}
 use Rattle.af_session.specs.Shares.{SharedState}
 use Rattle.af_session.specs.SideBySide.{IsRoundOfAll}
-use Rattle.af_session.specs.Sound.{pcm_of}
+use Rattle.af_tally.specs.Sound.{pcm_of}
 use Rattle.af_session.specs.Together.{SessionState}
 
 -- ## When a run goes on

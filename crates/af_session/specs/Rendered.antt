@@ -15,9 +15,9 @@ use Rattle.af_session.specs.declared.rendering.SessionFault.TheVariants as fault
 use Rattle.af_session.specs.NewSession.{IsNewSession}
 use Rattle.af_session.specs.Rounds.{Given, IsTurnRun, ops_at, file_at}
 use Rattle.af_session.specs.Shares.{SharedState}
-use Rattle.af_session.specs.Sound.{pcm_of}
+use Rattle.af_tally.specs.Sound.{pcm_of}
 use Rattle.af_session.specs.Together.{SessionState}
-use Rattle.af_session.specs.Works.{frames_to_come}
+use Rattle.af_party.specs.Works.{frames_to_come}
 
 -- a file has the frames that these ops write, and not too many
 pub record IsFileFor (ops : List Op) (file : List Frame) : Type 0 where

@@ -14,10 +14,10 @@ use Rattle.af_script.specs.declared.op.TurnSpec.TheVariants as spec
 use Rattle.af_script.specs.declared.track.TrackSpec.{TrackSpec}
 use Rattle.af_session.specs.FastTurns.{IsFastTurn}
 use Rattle.af_session.specs.Met.{Met}
-use Rattle.af_session.specs.Parties.{PartyState, track_of}
-use Rattle.af_session.specs.Sound.{IsWhole}
+use Rattle.af_party.specs.Parties.{PartyState, track_of}
+use Rattle.af_tally.specs.Sound.{IsWhole}
 use Rattle.af_session.specs.Together.{SessionState, AreTogether}
-use Rattle.af_session.specs.Works.{CanWork}
+use Rattle.af_party.specs.Works.{CanWork}
 
 -- what the clients are given: the tracks of the script, and the frames of their files
 pub record Given : Type 0 where

@@ -15,11 +15,11 @@ use Rattle.af_model.specs.Journals.{JournalData, RoundNoted, RoundsNoted, entrie
 use Rattle.af_fast.specs.Mixer.{MixerState}
 use Rattle.af_server.specs.Order.{ServerState}
 use Rattle.af_stateq.specs.Laws.{polled_states, pushed_states}
-use Rattle.af_session.specs.declared.summary.Summary.{Summary}
-use Rattle.af_session.specs.Parties.{PartyState}
+use Rattle.af_tally.specs.declared.summary.Summary.{Summary}
+use Rattle.af_party.specs.Parties.{PartyState}
 use Rattle.af_session.specs.Ends.{EndsState}
-use Rattle.af_session.specs.Summaries.{EntryUsed, Shown, summary_of}
-use Rattle.af_session.specs.Tallies.{Tallied, IsTally}
+use Rattle.af_tally.specs.Summaries.{EntryUsed, Shown, summary_of}
+use Rattle.af_tally.specs.Tallies.{Tallied, IsTally}
 
 -- ## Of rounds and a log
 

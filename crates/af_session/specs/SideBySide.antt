@@ -15,14 +15,14 @@ use Rattle.af_normal.specs.Order.{IsInOrder as IsNormalInOrder}
 use Rattle.af_normal.specs.State.{NormalState}
 use Rattle.af_session.specs.Alone.{FastTurned}
 use Rattle.af_session.specs.Met.{Met}
-use Rattle.af_session.specs.Parties.{PartyState, track_of}
+use Rattle.af_party.specs.Parties.{PartyState, track_of}
 use Rattle.af_session.specs.Rounds.{Given, file_at, ops_at, with_ends}
 use Rattle.af_session.specs.Shown.{Follows, HasPlaces}
-use Rattle.af_session.specs.Sound.{IsWhole, pcm_of}
-use Rattle.af_session.specs.Summaries.{Shown, with_calls, with_turn}
-use Rattle.af_session.specs.Tallies.{Tallied}
+use Rattle.af_tally.specs.Sound.{IsWhole, pcm_of}
+use Rattle.af_tally.specs.Summaries.{Shown, with_calls, with_turn}
+use Rattle.af_tally.specs.Tallies.{Tallied}
 use Rattle.af_session.specs.Together.{SessionState}
-use Rattle.af_session.specs.Works.{CanWork}
+use Rattle.af_party.specs.Works.{CanWork}
 
 -- ## The turns
 

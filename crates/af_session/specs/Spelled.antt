@@ -12,7 +12,7 @@ use Rattle.af_model.specs.Journals.{EntrySeen, JournalData, RoundSeen, entries_o
 use Rattle.af_model.specs.Spelled.{Kind, stream, commands, ClientStep, called, met_server, client_spelled}
 use Rattle.af_stateq.specs.Laws.{pushed_states}
 use Rattle.af_session.specs.Ends.{EndsState}
-use Rattle.af_session.specs.Parties.{PartyState}
+use Rattle.af_party.specs.Parties.{PartyState}
 
 -- ## The clients' calls
 

@@ -5,7 +5,7 @@ use Rattle.af_link.specs.declared.links.Links.{Links}
 use Rattle.af_normal.specs.Meeting.{AreClientsOf}
 use Rattle.af_normal.specs.Order.{IsInOrder as IsNormalInOrder}
 use Rattle.af_normal.specs.State.{NormalState}
-use Rattle.af_session.specs.Parties.{PartyState}
+use Rattle.af_party.specs.Parties.{PartyState}
 
 -- the clients in order of tracks, the normal mixer and the fast mixer
 pub record SessionState : Type 0 where

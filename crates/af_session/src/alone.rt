@@ -8,11 +8,11 @@ ghost use Rattle.af_runs.specs.Pcm.{written};
 
 use crate::fast_turns::{is_mixed, mix_noted, push_written};
 use crate::logging::Scribe;
-use crate::tally::Tally;
 use af_base::{Cycle, Frame, Items, Steps};
 use af_cblk::Block;
 use af_fast::FastMixer;
 use af_link::Links;
+use af_tally::Tally;
 use std::sync::ledger::Ledger;
 
 /// The most cycles of a turn.

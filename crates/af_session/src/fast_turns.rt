@@ -6,20 +6,19 @@ ghost use Rattle.af_fast.specs.Mixing.{MixesOnce};
 ghost use Rattle.af_model.specs.Cycles.{is_mixed};
 ghost use Rattle.af_session.specs.FastTurns.{IsCycle, Turned};
 ghost use Rattle.af_session.specs.Shown.{Follows, HasPlaces, frames_written};
-ghost use Rattle.af_session.specs.Sound.{IsWhole, pcm_of};
+ghost use Rattle.af_tally.specs.Sound.{IsWhole, pcm_of};
 ghost use Rattle.af_runs.specs.Pcm.{written};
-ghost use Rattle.af_session.specs.Summaries.{Shown, with_entry, with_written};
-ghost use Rattle.af_session.specs.Tallies.{IsTally, Keeps, most_looks};
+ghost use Rattle.af_tally.specs.Summaries.{Shown, with_entry, with_written};
+ghost use Rattle.af_tally.specs.Tallies.{IsTally, Keeps, most_looks};
 ghost use Rattle.af_session.specs.Together.{AreTogether};
 
 use crate::meetings::meet;
-use crate::party::Party;
-use crate::sound::push_pcm;
-use crate::tally::Tally;
 use af_base::{Cycle, FastState, Frame, Items, Steps};
 use af_fast::FastMixer;
 use af_link::Links;
 use af_normal::NormalMixer;
+use af_party::Party;
+use af_tally::{Tally, push_pcm};
 use std::sync::ledger::Ledger;
 
 // Whether a cycle mixes.

@@ -1,7 +1,7 @@
 //! Whether the files serve the tracks of a script.
 ghost use Rattle.std.specs.Prelude.{◌≤◌, [], ◌∷◌, ◌≡◌, IsTrue};
 ghost use Rattle.af_session.specs.Rendered.{HaveFiles, IsFileFor};
-ghost use Rattle.af_session.specs.Works.{frames_to_come};
+ghost use Rattle.af_party.specs.Works.{frames_to_come};
 
 use af_base::Frame;
 use af_io::Pcm;

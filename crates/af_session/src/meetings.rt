@@ -10,13 +10,13 @@ ghost use Rattle.af_stateq.specs.Mutates.{at};
 ghost use Rattle.af_session.specs.Met.{EndsMet, MeetsAway, Met, TrackMet, item_at, proxies_of, slot_for, spot_of};
 ghost use Rattle.af_session.specs.Together.{AreTogether};
 
-use crate::party::Party;
 use af_base::{FastState, SLOTS, Steps};
 use af_client::Client;
 use af_fast::FastMixer;
 use af_link::{Links, meet_flag};
 use af_model::carries_item;
 use af_normal::{NormalMixer, TrackHand};
+use af_party::Party;
 use std::sync::ledger::Ledger;
 
 // The ends of the queue, of the report and of the pipe meet.

@@ -1,7 +1,7 @@
 //! The parties of a session.
-use crate::party::Party;
 use af_fast::FastMixer;
 use af_normal::NormalMixer;
+use af_party::Party;
 use std::marker::Model;
 
 /// The parties of a session: the clients in order of tracks, the normal mixer and the fast mixer.

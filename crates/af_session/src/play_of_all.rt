@@ -16,11 +16,11 @@ ghost use Rattle.af_session.specs.PlayedRuns.{AtFault, AtLimit, HandedBack, Hand
 ghost use Rattle.af_session.specs.Rendered.{HasStoreCause, HaveFiles};
 ghost use Rattle.af_session.specs.Shares.{AreLinksOf};
 ghost use Rattle.af_session.specs.Shown.{released_by, shown_by, shown_in, summary_told};
-ghost use Rattle.af_session.specs.Sound.{pcm_of};
+ghost use Rattle.af_tally.specs.Sound.{pcm_of};
 ghost use Rattle.af_runs.specs.Pcm.{journal_pcm};
 ghost use Rattle.af_session.specs.Spelled.{CallsStandOnce, NoneOlder, PushesStandOnce};
-ghost use Rattle.af_session.specs.Summaries.{Shown, nothing_shown, summary_of};
-ghost use Rattle.af_session.specs.Tallies.{IsTally};
+ghost use Rattle.af_tally.specs.Summaries.{Shown, nothing_shown, summary_of};
+ghost use Rattle.af_tally.specs.Tallies.{IsTally};
 ghost use Rattle.af_session.specs.Together.{AreTogether};
 
 use crate::logging::Logging;
@@ -28,11 +28,11 @@ use crate::making::make;
 use crate::parties::Parties;
 use crate::rendering::{Played, SessionFault, hand_back, hand_over, make_room, make_tally, sum_up};
 use crate::shared::Shared;
-use crate::tally::Tally;
 use af_base::{Frame, Items};
 use af_io::{Gate, Pcm, Store, StoreError};
 use af_model::Rounds;
 use af_script::Script;
+use af_tally::Tally;
 use std::alloc::Global;
 use std::thread::Threads;
 

@@ -16,22 +16,22 @@ ghost use Rattle.af_session.specs.Rounds.{IsReady};
 ghost use Rattle.af_session.specs.Shares.{SharedState};
 ghost use Rattle.af_session.specs.Shown.{FollowsRound, HasPlaces, shown_at};
 ghost use Rattle.af_session.specs.SideBySide.{IsRoundOfAll, all_noted};
-ghost use Rattle.af_session.specs.Sound.{pcm_of};
-ghost use Rattle.af_session.specs.Summaries.{nothing_shown};
-ghost use Rattle.af_session.specs.Tallies.{IsTally};
+ghost use Rattle.af_tally.specs.Sound.{pcm_of};
+ghost use Rattle.af_tally.specs.Summaries.{nothing_shown};
+ghost use Rattle.af_tally.specs.Tallies.{IsTally};
 ghost use Rattle.af_session.specs.Together.{SessionState};
 
 use crate::logging::Logging;
 use crate::noting::{copied_turn, know_frames};
 use crate::parties::Parties;
-use crate::party::Party;
 use crate::playing::send_out;
-use crate::tally::Tally;
 use af_base::{ClientCall, Frame, Items, Memory};
 use af_io::{Gate, Pcm, Store, StoreError};
 use af_link::Links;
 use af_model::Rounds;
+use af_party::Party;
 use af_script::TrackSpec;
+use af_tally::Tally;
 use std::alloc::Global;
 use std::thread::Threads;
 

@@ -6,17 +6,17 @@ ghost use Rattle.af_script.specs.declared.op.TurnSpec.TheVariants as spec;
 ghost use Rattle.af_session.specs.Met.{Met};
 ghost use Rattle.af_session.specs.Rounds.{IsReady, IsRound, Turns, end_party, round_told, with_ends};
 ghost use Rattle.af_session.specs.Shown.{FollowsRound, HasPlaces};
-ghost use Rattle.af_session.specs.Sound.{pcm_of};
+ghost use Rattle.af_tally.specs.Sound.{pcm_of};
 
 use crate::fast_turns::fast_turn;
 use crate::meetings::meet;
 use crate::parties::Parties;
-use crate::party::Party;
-use crate::tally::Tally;
 use af_base::{Frame, Items, Steps};
 use af_io::Pcm;
 use af_link::Links;
+use af_party::Party;
 use af_script::{TrackSpec, TurnSpec};
+use af_tally::Tally;
 use std::sync::ledger::Ledger;
 
 // Every client of these ends.

@@ -8,15 +8,15 @@ ghost use Rattle.af_session.specs.Shown.{HasPlaces};
 
 use crate::alone::turn_alone;
 use crate::logging::{Logging, Scribe};
-use crate::party::Party;
-use crate::tally::Tally;
 use af_base::{Frame, Items, Steps};
 use af_cblk::Block;
 use af_fast::FastMixer;
 use af_io::{Gate, Pcm};
 use af_link::Links;
 use af_normal::NormalMixer;
+use af_party::Party;
 use af_script::TrackSpec;
+use af_tally::Tally;
 use std::marker::Brand;
 use std::sync::ledger::{Blank, Ledger};
 use std::thread::{Threads, join_mut};

@@ -1,9 +1,9 @@
 use Rattle.std.proofs.Common.{length, sym, subst, ◌∙◌}
 use Rattle.af_base.specs.Log.{Logged}
 use Rattle.af_session.specs.Shown.{HasPlaces}
-use Rattle.af_session.specs.Sound.{IsWhole}
-use Rattle.af_session.specs.Summaries.{Shown}
-use Rattle.af_session.specs.Tallies.{IsTally}
+use Rattle.af_tally.specs.Sound.{IsWhole}
+use Rattle.af_tally.specs.Summaries.{Shown}
+use Rattle.af_tally.specs.Tallies.{IsTally}
 use Rattle.af_session.proofs.FastAdds.{mix_adds, polled_keeps}
 use Rattle.af_session.proofs.Following.{shown_adopted}
 use Rattle.af_session.proofs.alone.cycle_once.Goals as goal

@@ -1,6 +1,6 @@
 use Rattle.std.proofs.Common.{◌≡◌, ℕ, ◌*◌, ◌≤◌, ◌++◌, false, List, length}
 use Rattle.af_session.specs.Shown.{Follows, HasPlaces}
-use Rattle.af_session.specs.Sound.{IsWhole}
+use Rattle.af_tally.specs.Sound.{IsWhole}
 use Rattle.af_session.specs.Together.{AreTogether}
 use Rattle.af_session.proofs.FastChains.{GoesTo}
 use Rattle.af_session.proofs.fast_turns.fast_cycles.Given as goal

@@ -5,7 +5,7 @@ use Rattle.af_fast.specs.Mixer.{MixerState}
 use Rattle.af_normal.specs.Meeting.{AreClientsOf}
 use Rattle.af_normal.specs.State.{NormalState}
 use Rattle.af_session.specs.Met.{Proxies, TracksMet, proxies_of}
-use Rattle.af_session.specs.Parties.{PartyState}
+use Rattle.af_party.specs.Parties.{PartyState}
 use Rattle.af_session.proofs.EndsMeet.{still_met}
 use Rattle.af_session.proofs.MetTracks.{items_by_number, met_by_number, one_met, others_by_number, still_together}
 use Rattle.af_session.proofs.meetings.meet.Goals as goal

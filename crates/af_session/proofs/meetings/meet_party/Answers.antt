@@ -1,9 +1,9 @@
 use Rattle.std.proofs.Common.{◌≡◌, ◌<◌, length, slice_set, false, is_some, sym, ap, subst, ◌∙◌, arith}
-use Rattle.af_session.specs.contracts.party.Party.{the_view}
+use Rattle.af_party.specs.contracts.party.Party.{the_view}
 use Rattle.af_normal.specs.Mixing.{stream_at}
 use Rattle.af_normal.proofs.MetEnds.{hand_order}
 use Rattle.af_session.specs.Met.{Proxies, TrackMet, proxies_of, slot_for, spot_of}
-use Rattle.af_session.specs.Parties.{PartyState}
+use Rattle.af_party.specs.Parties.{PartyState}
 use Rattle.af_session.proofs.MetSpot.{met_away, others_away}
 use Rattle.af_session.proofs.meetings.meet_party.Goals as goal
 

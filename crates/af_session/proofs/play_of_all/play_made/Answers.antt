@@ -3,7 +3,7 @@ use Rattle.std.proofs.lemmas.Result.{on_err_weaker}
 use Rattle.af_io.specs.Files.{LeavesFront}
 use Rattle.af_io.proofs.Steps.{LeavesFront-created}
 use Rattle.af_session.specs.PlayedRuns.{LeavesRun}
-use Rattle.af_session.specs.Sound.{pcm_of}
+use Rattle.af_tally.specs.Sound.{pcm_of}
 use Rattle.af_session.proofs.RunOfAll.{plays_none}
 use Rattle.af_session.proofs.Outgoing.{then_cause}
 use Rattle.af_session.proofs.play_of_all.play_made.Goals as goal

@@ -9,7 +9,7 @@ use Rattle.af_session.specs.Logging.{TellsLog}
 use Rattle.af_session.specs.PlayedRuns.{HandsBackRun, LeavesRun, all_ended}
 use Rattle.af_session.specs.Spelled.{CallsStandOnce, PushesStandOnce}
 use Rattle.af_runs.specs.Pcm.{journal_pcm}
-use Rattle.af_session.specs.Sound.{pcm_of}
+use Rattle.af_tally.specs.Sound.{pcm_of}
 use Rattle.af_session.specs.Together.{SessionState}
 use Rattle.af_session.proofs.JournalSound.{journal_sounds}
 use Rattle.af_session.proofs.LogEnds.{tells_log}

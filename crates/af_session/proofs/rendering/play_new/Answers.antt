@@ -3,7 +3,7 @@ use Rattle.std.proofs.lemmas.Result.{on_err_weaker}
 use Rattle.af_io.specs.Files.{LeavesFront}
 use Rattle.af_io.proofs.Steps.{LeavesFront-created}
 use Rattle.af_session.specs.Rendered.{LeavesSound}
-use Rattle.af_session.specs.Sound.{pcm_of}
+use Rattle.af_tally.specs.Sound.{pcm_of}
 use Rattle.af_session.proofs.FirstRound.{rendered_none}
 use Rattle.af_session.proofs.Outgoing.{then_cause}
 use Rattle.af_session.proofs.rendering.play_new.Goals as goal

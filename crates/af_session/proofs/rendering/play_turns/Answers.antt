@@ -11,9 +11,9 @@ use Rattle.af_session.specs.Hostile.{SparesSoFar}
 use Rattle.af_session.specs.Rendered.{Runs}
 use Rattle.af_session.specs.Rounds.{Given, IsReady}
 use Rattle.af_session.specs.Shown.{shown_at}
-use Rattle.af_session.specs.Sound.{pcm_of}
-use Rattle.af_session.specs.Summaries.{nothing_shown}
-use Rattle.af_session.specs.Tallies.{IsTally, Tallied}
+use Rattle.af_tally.specs.Sound.{pcm_of}
+use Rattle.af_tally.specs.Summaries.{nothing_shown}
+use Rattle.af_tally.specs.Tallies.{IsTally, Tallied}
 use Rattle.af_session.specs.Together.{SessionState}
 use Rattle.af_session.proofs.FirstRound.{empty_first, frames_first, ready_first, rendered, silent_first}
 use Rattle.af_session.proofs.ShownWhole.{on_ok_both, released_few, tally_end}

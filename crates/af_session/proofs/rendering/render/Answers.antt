@@ -5,7 +5,7 @@ use Rattle.af_io.specs.Files.{SetsFile}
 use Rattle.af_model.specs.Journals.{RoundsNoted, journal_of}
 use Rattle.af_session.specs.Ends.{EndsState}
 use Rattle.af_session.specs.Rendered.{LeavesSound}
-use Rattle.af_session.specs.Sound.{pcm_of}
+use Rattle.af_tally.specs.Sound.{pcm_of}
 use Rattle.af_runs.specs.Pcm.{journal_pcm}
 use Rattle.af_session.proofs.JournalSound.{journal_sounds}
 use Rattle.af_session.proofs.ShownWhole.{is_told, tally_tracks}

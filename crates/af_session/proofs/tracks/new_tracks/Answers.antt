@@ -4,7 +4,7 @@ use Rattle.std.proofs.lemmas.Option.{slice_get_read}
 use Rattle.af_cblk.specs.Sides.{Made}
 use Rattle.af_normal.specs.Making.{TrackList}
 use Rattle.af_session.specs.NewTracks.{AreNewTracks}
-use Rattle.af_session.specs.Parties.{PartyState}
+use Rattle.af_party.specs.Parties.{PartyState}
 use Rattle.af_session.proofs.MoreTracks.{one_track_more}
 use Rattle.af_session.proofs.tracks.new_tracks.Goals as goal
 

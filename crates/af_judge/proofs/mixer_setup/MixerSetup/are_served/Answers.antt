@@ -4,7 +4,7 @@ use Rattle.af_base.specs.Turn.{TrackSeen, track_seen}
 use Rattle.af_life.specs.Kept.{Learnt, seen_at}
 use Rattle.af_life.specs.Plain.{learnt_of}
 use Rattle.af_life.specs.Serves.{LegalTrack, served_to}
-use Rattle.af_judge.proofs.ServedAll.{seen_is, few_looks, one_more, as_many, slot_there, settled_few, next, legal_so}
+use Rattle.af_judge.proofs.ServedAll.{seen_is, looks_are, one_more, as_many, slot_is, settled_is, next, legal_so}
 use Rattle.af_judge.proofs.mixer_setup.MixerSetup.are_served.Goals as goal
 
 there : (c : goal.After-index-turns-i) → c.loop-i.i < length c.args.tracks.items
@@ -19,12 +19,12 @@ is_due-requires-clause-track c =
     let t = there c in let s = c.requires.sizes in (omega (arith, l, t), omega (arith, t, s), omega (arith, t, s))
 
 pub is_due-requires-clause-slot : goal.is_due-requires-clause-slot
-is_due-requires-clause-slot c = slot_there c.args.self.now (learnt_of c.args.report.now c.args.own.now) (map track_seen c.args.turns.now) c.args.tracks.items c.deref.result.now c.loop-i.i (c.deref.ensures.value ∙ c.loop-i.invariant.so_far) _ _ c.requires.small
+is_due-requires-clause-slot c = let a = slot_is c.args.self.now (learnt_of c.args.report.now c.args.own.now) (map track_seen c.args.turns.now) c.args.tracks.items c.deref.result.now c.loop-i.i (c.deref.ensures.value ∙ c.loop-i.invariant.so_far) in let b = c.requires.slots c.loop-i.i in omega (arith, a, b)
 
 pub is_due-requires-clause-room : goal.is_due-requires-clause-room
 is_due-requires-clause-room c =
-    let a = settled_few c.args.self.now (learnt_of c.args.report.now c.args.own.now) (map track_seen c.args.turns.now) c.args.tracks.items c.deref.result.now c.loop-i.i (c.deref.ensures.value ∙ c.loop-i.invariant.so_far) _ _ c.requires.small in
-    let b = few_looks c.args.turns.now c.loop-i.i c.index-turns-i.result _ (in_turns c) c.index-turns-i.is refl (c.requires.looks c.loop-i.i) in omega (arith, a, b)
+    let a = settled_is c.args.self.now (learnt_of c.args.report.now c.args.own.now) (map track_seen c.args.turns.now) c.args.tracks.items c.deref.result.now c.loop-i.i (c.deref.ensures.value ∙ c.loop-i.invariant.so_far) in
+    let b = looks_are c.args.turns.now c.loop-i.i c.index-turns-i.result _ (in_turns c) c.index-turns-i.is refl in let r = c.requires.room c.loop-i.i in omega (arith, a, b, r)
 
 pub served-requires-clause-track : goal.served-requires-clause-track
 served-requires-clause-track c =
@@ -32,14 +32,14 @@ served-requires-clause-track c =
     let t = c.loop-i-test.true in let e = c.len-i-end.ensures in let s = c.requires.sizes in (omega (arith, l, t, e), omega (arith, t, e, s), omega (arith, t, e, s))
 
 pub served-requires-clause-slot : goal.served-requires-clause-slot
-served-requires-clause-slot c = slot_there c.args.self.now (learnt_of c.args.report.now c.args.own.now) (map track_seen c.args.turns.now) c.args.tracks.items c.deref-in-loop-i.result.now c.loop-i.i (c.deref-in-loop-i.ensures.value ∙ c.loop-i.invariant.so_far) _ _ c.requires.small
+served-requires-clause-slot c = let a = slot_is c.args.self.now (learnt_of c.args.report.now c.args.own.now) (map track_seen c.args.turns.now) c.args.tracks.items c.deref-in-loop-i.result.now c.loop-i.i (c.deref-in-loop-i.ensures.value ∙ c.loop-i.invariant.so_far) in let b = c.requires.slots c.loop-i.i in omega (arith, a, b)
 
 pub served-requires-clause-room : goal.served-requires-clause-room
 served-requires-clause-room c =
-    let a = settled_few c.args.self.now (learnt_of c.args.report.now c.args.own.now) (map track_seen c.args.turns.now) c.args.tracks.items c.deref-in-loop-i.result.now c.loop-i.i (c.deref-in-loop-i.ensures.value ∙ c.loop-i.invariant.so_far) _ _ c.requires.small in
+    let a = settled_is c.args.self.now (learnt_of c.args.report.now c.args.own.now) (map track_seen c.args.turns.now) c.args.tracks.items c.deref-in-loop-i.result.now c.loop-i.i (c.deref-in-loop-i.ensures.value ∙ c.loop-i.invariant.so_far) in
     let t = c.loop-i-test.true in let e = c.len-i-end.ensures in let s = c.requires.sizes in
-    let l = few_looks c.args.turns.now c.loop-i.i c.index-turns-i-in-loop-i.result c.as_slice.result.now (omega (arith, t, e, s)) c.index-turns-i-in-loop-i.is (c.as_slice.ensures ∙ sym (ap (λ (x : TrackTurn). x.looks.items) c.index-turns-i-in-loop-i.is)) (c.requires.looks c.loop-i.i) in
-    omega (arith, a, l)
+    let l = looks_are c.args.turns.now c.loop-i.i c.index-turns-i-in-loop-i.result c.as_slice.result.now (omega (arith, t, e, s)) c.index-turns-i-in-loop-i.is (c.as_slice.ensures ∙ sym (ap (λ (x : TrackTurn). x.looks.items) c.index-turns-i-in-loop-i.is)) in let r = c.requires.room c.loop-i.i in
+    omega (arith, a, l, r)
 
 pub loop-i-preserved : goal.loop-i-preserved
 loop-i-preserved c =

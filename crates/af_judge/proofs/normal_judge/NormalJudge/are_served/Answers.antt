@@ -1,13 +1,20 @@
-use Rattle.std.proofs.Common.{ap, ◌∙◌, length}
+use Rattle.std.proofs.Common.{ap, ◌∙◌, List, length, map}
+use Rattle.af_base.specs.declared.turn.TrackTurn.{TrackTurn}
+use Rattle.af_base.specs.Turn.{track_seen, turn_of}
 use Rattle.af_life.specs.Plain.{learnt_of}
 use Rattle.af_life.specs.Edits.{after_ack}
 use Rattle.af_life.proofs.Lives.{acked_len}
 use Rattle.af_judge.specs.NormalJudged.{NormalJudged}
-use Rattle.af_judge.proofs.NormalKept.{found_small, served_so}
+use Rattle.af_judge.proofs.NormalKept.{found_room, found_slots, served_so}
 use Rattle.af_judge.proofs.normal_judge.NormalJudge.are_served.Goals as goal
 
-pub are_served-requires-clause-small : goal.are_served-requires-clause-small
-are_served-requires-clause-small c = found_small c.args.self.now.plain.turns c.args.self.now.plain.setup c.args.self.now.plain.kept c.args.entry.now.ack c.in_ok-found.found.items c.requires.judged.small c.requires.turns c.in_ok-found.ensures
+pub are_served-requires-clause-slots : goal.are_served-requires-clause-slots
+are_served-requires-clause-slots c = found_slots c.args.self.now.plain.turns c.args.self.now.plain.setup c.args.self.now.plain.kept c.args.entry.now.ack c.in_ok-found.found.items c.requires.judged.small c.in_ok-found.ensures
+
+pub are_served-requires-clause-room : goal.are_served-requires-clause-room
+are_served-requires-clause-room c =
+    found_room c.args.self.now.plain.turns c.args.self.now.plain.setup c.args.self.now.plain.kept (turn_of c.args.entry.now) c.in_ok-found.found.items (map track_seen c.as_slice.result.now) c.requires.judged.small c.requires.turns c.in_ok-found.ensures
+    (ap (λ (ts : List TrackTurn). map track_seen ts) c.as_slice.ensures)
 
 pub returns : goal.returns
 returns c =

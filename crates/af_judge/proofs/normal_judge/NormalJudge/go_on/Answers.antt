@@ -1,4 +1,4 @@
-use Rattle.std.proofs.Common.{◌≡◌, ◌↔◌, ℕ, map, true≢false, IsTrue, sym, ap, ◌∙◌, subst, List, arith}
+use Rattle.std.proofs.Common.{◌≡◌, ◌↔◌, ℕ, map, IsTrue, ap, ◌∙◌, subst, List}
 use Rattle.std.specs.List.{AllByRecursion}
 use Rattle.af_base.specs.declared.turn.NormalTake.{NormalTake}
 use Rattle.af_life.specs.declared.kept.Heard.{Heard}
@@ -6,18 +6,9 @@ use Rattle.af_base.specs.Turn.{turn_of, take_seen}
 use Rattle.af_life.specs.Kept.{Learnt, asked}
 use Rattle.af_life.specs.Plain.{learnt_of}
 use Rattle.af_judge.specs.NormalJudged.{NormalJudged}
-use Rattle.af_judge.specs.NormalTold.{IsRightTake, RightTurn, all_known}
+use Rattle.af_judge.specs.NormalTold.{IsRightTake}
 use Rattle.af_judge.proofs.NormalRight.{right_so}
-use Rattle.af_judge.proofs.NormalSmall.{right_small}
 use Rattle.af_judge.proofs.normal_judge.NormalJudge.go_on.Goals as goal
-
-pub returns-then-not-is_small_turn-clause-right : goal.returns-then-not-is_small_turn-clause-right
-returns-then-not-is_small_turn-clause-right c =
-    let w = c.requires.judged.small.whole in let s = c.requires.judged.small.sizes.2 in (
-      (λ f. absurd (true≢false (sym f))),
-      (λ (r : RightTurn c.args.self.now.plain.setup c.args.report.now c.args.tracks.now c.args.self.now.plain.kept (turn_of c.args.entry.now)).
-          absurd (true≢false (sym (right_small c.args.self.now.plain.setup (learnt_of c.args.report.now (all_known c.args.tracks.now)) c.args.self.now.plain.kept (turn_of c.args.entry.now) (omega (arith, w, s)) r.begins.whole r.serves) ∙ (sym c.is_small_turn.ensures ∙ c.if-not-is_small_turn.true)))),
-    )
 
 pub returns-clause-right : goal.returns-clause-right
 returns-clause-right c =

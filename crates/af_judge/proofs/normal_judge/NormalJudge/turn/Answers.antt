@@ -1,11 +1,18 @@
-use Rattle.std.proofs.Common.{◌≡◌, ◌↔◌, Bool, true, IsTrue, MatchBool, sym, ap, subst}
+use Rattle.std.proofs.Common.{◌≡◌, ◌↔◌, Bool, true, IsTrue, MatchBool, length, sym, ap, subst, arith}
 use Rattle.std.specs.Prelude.{IfOk}
 use Rattle.af_base.specs.Turn.{turn_of, ended_turn}
 use Rattle.af_life.specs.Plain.{Plain}
 use Rattle.af_life.specs.Turn.{ends_now}
 use Rattle.af_judge.specs.NormalJudged.{NormalJudged}
 use Rattle.af_judge.specs.NormalTold.{RightTurn}
+use Rattle.af_judge.proofs.NormalKept.{takes_so}
 use Rattle.af_judge.proofs.normal_judge.NormalJudge.turn.Goals as goal
+
+pub go_on-requires-clause-entry : goal.go_on-requires-clause-entry
+go_on-requires-clause-entry c =
+    let w = c.requires.judged.small.whole in let few = c.requires.judged.small.sizes.2 in let many = c.requires.tracks in
+    let takes = takes_so (length c.args.tracks.now) (turn_of c.args.entry.now) c.requires.form (omega (arith, w, few, many)) in
+    (c.if-entry.false, takes.0, takes.1)
 
 pub returns-clause-right : goal.returns-clause-right
 returns-clause-right c =

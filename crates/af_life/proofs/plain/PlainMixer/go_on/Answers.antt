@@ -5,10 +5,11 @@ use Rattle.af_life.specs.Kept.{Learnt}
 use Rattle.af_life.specs.Edits.{after_ack, edited_to, commanded_by, mutated, after_push}
 use Rattle.af_life.specs.Plays.{after_takes}
 use Rattle.af_life.specs.Turn.{after_tracks, after_edits}
-use Rattle.af_life.specs.Small.{AreSmall, IsSmall, IsEdited, most_tracks}
+use Rattle.af_life.specs.Small.{AreSmall, IsSmall, IsEdited, turn_weight, most_tracks}
 use Rattle.af_life.specs.Plain.{Plain, learnt_of}
-use Rattle.af_life.proofs.SmallTurns.{acked, served, whole, edits_made, edited_small, edited_few, push_small}
+use Rattle.af_life.proofs.SmallTurns.{acked, served, whole, edits_made, edited_weighed, edited_few, push_small}
 use Rattle.af_life.proofs.Smalls.{weaker}
+use Rattle.af_life.proofs.Weights.{some_weight, up_to_weight}
 use Rattle.af_life.proofs.plain.PlainMixer.go_on.Goals as goal
 
 -- ## The steps of the turn, one after the other
@@ -35,12 +36,24 @@ module _ (k : Learnt) (e : Turn) where
 pub serve_all-requires-clause-small : goal.serve_all-requires-clause-small
 serve_all-requires-clause-small c = subst (λ (p : Plain). IsSmall p.turns p.setup p.kept) (sym c.see_ack.ensures) (acked c.args.self.now.setup c.args.self.now.turns c.args.entry.now.ack c.args.self.now.kept c.requires.small)
 
+pub edit_all-requires-clause-turns : goal.edit_all-requires-clause-turns
+unfolding acks serves
+edit_all-requires-clause-turns c =
+    let k : Learnt = learnt_of c.args.report.now c.args.own.now in let e : Turn = turn_of c.args.entry.now in let p : Plain = c.args.self.now in
+    let is : c.serve_all.new.self ≡ serves k e (acks k e p) = c.serve_all.ensures ∙ ap (serves k e) c.see_ack.ensures in
+    let same = ap (λ (q : Plain). q.turns) is in
+    let turns = c.requires.turns in let some = some_weight e in
+    omega arith
+
+pub serve_all-requires-clause-turns : goal.serve_all-requires-clause-turns
+serve_all-requires-clause-turns c = let same = ap (λ (q : Plain). q.turns) c.see_ack.ensures in let turns = c.requires.turns in omega arith
+
 pub edit_all-requires-clause-sizes : goal.edit_all-requires-clause-sizes
 unfolding acks serves
 edit_all-requires-clause-sizes c =
     let k : Learnt = learnt_of c.args.report.now c.args.own.now in let e : Turn = turn_of c.args.entry.now in let p : Plain = c.args.self.now in
     let is : c.serve_all.new.self ≡ serves k e (acks k e p) = c.serve_all.ensures ∙ ap (serves k e) c.see_ack.ensures in
-    let w = whole p.setup p.turns k e p.kept c.requires.small c.requires.entry in
+    let w = whole p.setup p.turns (turn_weight e) (some_weight e) k e p.kept c.requires.small (up_to_weight e c.requires.takes) in
     let tracks = ap (λ (q : Plain). length q.kept.tracks) is in
     let settings = ap (λ (q : Plain). length q.setup.settings) is in
     let own = c.requires.own in
@@ -53,10 +66,10 @@ unfolding acks serves
 edit_all-requires-clause-small c =
     let k : Learnt = learnt_of c.args.report.now c.args.own.now in let e : Turn = turn_of c.args.entry.now in let p : Plain = c.args.self.now in
     let is : c.serve_all.new.self ≡ serves k e (acks k e p) = c.serve_all.ensures ∙ ap (serves k e) c.see_ack.ensures in (
-      65 * p.turns + 65,
+      65 * p.turns + 65 * turn_weight e,
       most_tracks * p.turns,
-      subst (λ (q : Plain). IsEdited (65 * p.turns + 65) (most_tracks * p.turns) (most_tracks * q.turns) q.turns q.kept) (sym is)
-          (served p.setup p.turns k e (after_ack e.ack p.kept) (acked p.setup p.turns e.ack p.kept c.requires.small) c.requires.entry),
+      subst (λ (q : Plain). IsEdited (65 * p.turns + 65 * turn_weight e) (most_tracks * p.turns) (most_tracks * q.turns) q.turns q.kept) (sym is)
+          (served p.setup p.turns (turn_weight e) (some_weight e) k e (after_ack e.ack p.kept) (acked p.setup p.turns e.ack p.kept c.requires.small) (up_to_weight e c.requires.takes)),
     )
 
 pub order-requires-clause-colds : goal.order-requires-clause-colds
@@ -65,8 +78,8 @@ order-requires-clause-colds c =
     let k : Learnt = learnt_of c.args.report.now c.args.own.now in let e : Turn = turn_of c.args.entry.now in let p : Plain = c.args.self.now in
     let is : c.edit_all.new.self ≡ edits k e (serves k e (acks k e p)) = c.edit_all.ensures ∙ ap (edits k e) (c.serve_all.ensures ∙ ap (serves k e) c.see_ack.ensures) in
     let same = ap (λ (q : Plain). q.kept.draft.cold_gen) is in
-    let few = (edits_made p.setup p.turns k e p.kept c.requires.small c.requires.entry).draft.colds in
-    let turns = c.requires.turns in
+    let few = (edits_made p.setup p.turns (turn_weight e) (some_weight e) k e p.kept c.requires.small (up_to_weight e c.requires.takes)).draft.colds in
+    let turns = c.requires.turns in let some = some_weight e in
     omega arith
 
 pub push-requires : goal.push-requires
@@ -76,8 +89,8 @@ push-requires c =
     let is : c.order.new.self ≡ orders k e (edits k e (serves k e (acks k e p))) =
     c.order.ensures ∙ ap (orders k e) (c.edit_all.ensures ∙ ap (edits k e) (c.serve_all.ensures ∙ ap (serves k e) c.see_ack.ensures)) in
     let same = ap (λ (q : Plain). q.kept.pushed) is in
-    let few : (after_edits p.setup k e p.kept).pushed ≤ p.turns = edited_few p.setup p.turns k e p.kept c.requires.small c.requires.entry in
-    let turns = c.requires.turns in
+    let few : (after_edits p.setup k e p.kept).pushed ≤ p.turns = edited_few p.setup p.turns (turn_weight e) (some_weight e) k e p.kept c.requires.small (up_to_weight e c.requires.takes) in
+    let turns = c.requires.turns in let some = some_weight e in
     record { room = omega arith }
 
 pub count_all-requires-clause-room : goal.count_all-requires-clause-room
@@ -86,9 +99,9 @@ count_all-requires-clause-room c =
     let k : Learnt = learnt_of c.args.report.now c.args.own.now in let e : Turn = turn_of c.args.entry.now in let p : Plain = c.args.self.now in
     let is : c.push.new.self ≡ pushes k e (orders k e (edits k e (serves k e (acks k e p)))) =
     c.push.ensures ∙ ap (pushes k e) (c.order.ensures ∙ ap (orders k e) (c.edit_all.ensures ∙ ap (edits k e) (c.serve_all.ensures ∙ ap (serves k e) c.see_ack.ensures))) in
-    let n : ℕ = 65 * p.turns + 65 in
-    let turns = c.requires.turns in
-    let small = (push_small p.setup p.turns n (most_tracks * p.turns) (most_tracks * p.turns + most_tracks) (p.turns + 1) e.push (after_edits p.setup k e p.kept) (edited_small p.setup p.turns k e p.kept c.requires.small c.requires.entry)).tracks in (
+    let n : ℕ = 65 * p.turns + 65 * turn_weight e in
+    let turns = c.requires.turns in let some = some_weight e in
+    let small = (push_small p.setup p.turns n (most_tracks * p.turns) (most_tracks * p.turns + most_tracks) (p.turns + 1) e.push (after_edits p.setup k e p.kept) (edited_weighed p.setup p.turns (turn_weight e) (some_weight e) k e p.kept c.requires.small (up_to_weight e c.requires.takes))).tracks in (
       n,
       subst (λ (q : Plain). AreSmall n (2 ^ 30) q.kept.tracks) (sym is) (λ (i : ℕ). weaker n (most_tracks * p.turns) n (2 ^ 30) _ (omega arith) (omega arith) (small i)),
     )

@@ -5,6 +5,7 @@ use Rattle.af_life.specs.declared.kept.TrackKept.{TrackKept}
 use Rattle.af_life.specs.Kept.{track_at, slot_number}
 use Rattle.af_life.specs.Plain.{Plain, learnt_of}
 use Rattle.af_life.proofs.Lives.{served_len, not_yet}
+use Rattle.af_life.proofs.Weights.{looks_up_to}
 use Rattle.af_life.proofs.plain.PlainMixer.serve_all.Goals as goal
 
 -- the tracks are as many as at first
@@ -29,7 +30,7 @@ served-requires-clause-slot c = let e = ap slot_number (track_is c) in let s = (
 
 pub served-requires-clause-room : goal.served-requires-clause-room
 served-requires-clause-room c = let e = ap (λ (t : TrackKept). t.settled) (track_is c) in let s = (c.requires.small.tracks c.loop-i.i).settled in
-    let few = c.requires.entry.looks c.loop-i.i in let looks = ap (λ (ls : List CommandLook). length ls) c.looks_at.ensures in let n = c.requires.turns in omega arith
+    let few = looks_up_to (turn_of c.args.entry.now) c.loop-i.i in let looks = ap (λ (ls : List CommandLook). length ls) c.looks_at.ensures in let n = c.requires.turns in omega arith
 
 pub index_mut-requires : goal.index_mut-requires
 index_mut-requires c =

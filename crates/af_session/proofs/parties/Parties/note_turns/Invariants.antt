@@ -1,8 +1,8 @@
 use Rattle.std.proofs.Common.{map}
-use Rattle.af_session.specs.Parties.{PartyState}
+use Rattle.af_party.specs.Parties.{PartyState}
 use Rattle.af_session.specs.SideBySide.{with_all_calls}
-use Rattle.af_session.specs.Summaries.{Shown}
-use Rattle.af_session.specs.Tallies.{IsTally, Keeps}
+use Rattle.af_tally.specs.Summaries.{Shown}
+use Rattle.af_tally.specs.Tallies.{IsTally, Keeps}
 use Rattle.af_session.proofs.parties.Parties.note_turns.Given as goal
 
 abbrev pub invariant-loop-i : goal.invariant-loop-i

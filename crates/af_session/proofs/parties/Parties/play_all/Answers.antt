@@ -11,8 +11,8 @@ use Rattle.af_session.specs.Rendered.{Runs}
 use Rattle.af_session.specs.Rounds.{Given}
 use Rattle.af_base.specs.declared.state.FastState.{FastState}
 use Rattle.af_session.specs.Shown.{shown_at}
-use Rattle.af_session.specs.Sound.{pcm_of}
-use Rattle.af_session.specs.Tallies.{IsTally}
+use Rattle.af_tally.specs.Sound.{pcm_of}
+use Rattle.af_tally.specs.Tallies.{IsTally}
 use Rattle.af_session.proofs.ShownWhole.{places_first, tally_first}
 use Rattle.af_session.specs.Together.{SessionState}
 use Rattle.af_session.proofs.JournalSound.{journal_form, journal_whole}

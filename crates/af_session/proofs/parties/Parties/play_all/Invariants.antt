@@ -5,8 +5,8 @@ use Rattle.af_session.specs.Rendered.{Runs}
 use Rattle.af_session.specs.Rounds.{IsReady}
 use Rattle.af_base.specs.declared.state.FastState.{FastState}
 use Rattle.af_session.specs.Shown.{HasPlaces, shown_at}
-use Rattle.af_session.specs.Sound.{pcm_of}
-use Rattle.af_session.specs.Tallies.{IsTally}
+use Rattle.af_tally.specs.Sound.{pcm_of}
+use Rattle.af_tally.specs.Tallies.{IsTally}
 use Rattle.af_session.proofs.RoundForms.{AreNoted}
 use Rattle.af_session.proofs.parties.Parties.play_all.Given as goal
 

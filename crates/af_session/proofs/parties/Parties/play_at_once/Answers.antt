@@ -4,7 +4,7 @@ use Rattle.af_session.specs.Logging.{HasBothLogged, IsScribe}
 use Rattle.af_session.specs.Rounds.{Given, IsReady}
 use Rattle.af_session.specs.Shown.{HasPlaces}
 use Rattle.af_session.specs.SideBySide.{AllPlayed, CanCycle, CanMixOn, HasNotedOn}
-use Rattle.af_session.specs.Sound.{pcm_of}
+use Rattle.af_tally.specs.Sound.{pcm_of}
 use Rattle.af_session.specs.Together.{SessionState}
 use Rattle.af_session.proofs.ReadyOfAll.{all_can, can_cycle, can_mix, few_clients, played_by_all, ready_of_all}
 use Rattle.af_session.proofs.parties.Parties.play_at_once.Goals as goal

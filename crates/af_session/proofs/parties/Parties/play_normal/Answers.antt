@@ -5,8 +5,8 @@ use Rattle.af_model.specs.Journals.{RoundNoted}
 use Rattle.af_script.specs.declared.op.TurnSpec.TheVariants as spec
 use Rattle.af_session.specs.Rounds.{Given, IsReady, Turns, round_told}
 use Rattle.af_session.specs.Shown.{FollowsRound}
-use Rattle.af_session.specs.Summaries.{Shown, with_turn}
-use Rattle.af_session.specs.Tallies.{IsTally}
+use Rattle.af_tally.specs.Summaries.{Shown, with_turn}
+use Rattle.af_tally.specs.Tallies.{IsTally}
 use Rattle.af_session.specs.Together.{SessionState}
 use Rattle.af_session.proofs.FollowingRounds.{follows_ended, follows_normal}
 use Rattle.af_session.proofs.NormalRounds.{goes_on, stays_ended}

@@ -12,8 +12,8 @@ use Rattle.af_session.specs.PlayedRuns.{GoesOn, RunsOfAll}
 use Rattle.af_session.specs.Rounds.{Given, IsReady}
 use Rattle.af_session.specs.Shown.{HasPlaces, shown_at}
 use Rattle.af_session.specs.SideBySide.{all_noted}
-use Rattle.af_session.specs.Sound.{pcm_of}
-use Rattle.af_session.specs.Tallies.{IsTally}
+use Rattle.af_tally.specs.Sound.{pcm_of}
+use Rattle.af_tally.specs.Tallies.{IsTally}
 use Rattle.af_session.specs.Together.{SessionState}
 use Rattle.af_session.proofs.ExitSeen.{round_knows}
 use Rattle.af_session.proofs.FirstRound.{empty_first}

@@ -6,8 +6,8 @@ use Rattle.af_session.specs.Logging.{LogsPlay}
 use Rattle.af_session.specs.PlayedRuns.{RunsOfAll}
 use Rattle.af_session.specs.Rounds.{IsReady}
 use Rattle.af_session.specs.Shown.{HasPlaces, shown_at}
-use Rattle.af_session.specs.Sound.{pcm_of}
-use Rattle.af_session.specs.Tallies.{IsTally}
+use Rattle.af_tally.specs.Sound.{pcm_of}
+use Rattle.af_tally.specs.Tallies.{IsTally}
 use Rattle.af_session.proofs.ExitSeen.{Knowing}
 use Rattle.af_session.proofs.RoundForms.{AreNoted}
 use Rattle.af_session.proofs.RoundsLeft.{IsGoing}

@@ -3,13 +3,13 @@ use Rattle.std.proofs.lemmas.List.{length-append}
 use Rattle.af_base.specs.declared.log.CycleEntry.{CycleEntry}
 use Rattle.af_base.specs.Log.{Logged, slots}
 use Rattle.af_base.specs.Turn.{turn_of}
-use Rattle.af_session.specs.Parties.{PartyState}
+use Rattle.af_party.specs.Parties.{PartyState}
 use Rattle.af_session.specs.Rounds.{Given, IsReady}
 use Rattle.af_session.specs.Shown.{HasPlaces}
 use Rattle.af_session.specs.SideBySide.{all_noted, with_all_calls, with_turn_if}
-use Rattle.af_session.specs.Sound.{pcm_of}
-use Rattle.af_session.specs.Summaries.{Shown}
-use Rattle.af_session.specs.Tallies.{IsTally}
+use Rattle.af_tally.specs.Sound.{pcm_of}
+use Rattle.af_tally.specs.Summaries.{Shown}
+use Rattle.af_tally.specs.Tallies.{IsTally}
 use Rattle.af_session.specs.Together.{SessionState}
 use Rattle.af_session.proofs.AloneTurns.{turned_adds}
 use Rattle.af_session.proofs.FollowingRounds.{places_more}

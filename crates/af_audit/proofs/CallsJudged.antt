@@ -1,0 +1,110 @@
+-- The calls of a round are judged one client after the other.
+use Rattle.std.proofs.Common.{◌≡◌, ◌⊎◌, inl, inr, ℕ, ◌+◌, ◌<◌, ◌≤◌, Bool, true, false, MatchBool, List, [], length, map, set, Option, Some, None, IfSome, arith, sym, subst, ◌∙◌}
+use Rattle.std.specs.Prelude.{slice_index_or}
+use Rattle.std.proofs.lemmas.List.{length-set, get_or-set_same, get_or-set_other, get_or_default}
+use Rattle.af_base.specs.declared.event.ClientCall.{ClientCall}
+use Rattle.af_base.specs.declared.frame.Frame.{Frame}
+use Rattle.af_base.specs.Sample.{packed_word}
+use Rattle.af_judge.specs.declared.track_judge.TrackJudge.{TrackJudge}
+use Rattle.af_judge.specs.NormalTold.{IsTrackAt}
+use Rattle.af_judge.specs.Tracks.{KeepsTrack, SameServers}
+use Rattle.af_runs.specs.ClientTurns.{LegalClientTurn, Track, after_calls}
+use Rattle.af_runs.specs.Sessions.{no_spec}
+use Rattle.af_script.specs.declared.op.Op.{Op}
+use Rattle.af_script.specs.declared.track.TrackSpec.{TrackSpec}
+use Rattle.af_audit.specs.RunKept.{AreSides, CallsJudged, LeastBelow, found_after}
+use Rattle.af_audit.proofs.LeastOnes.{all_more}
+
+pub no_calls : (specs : List TrackSpec) (files : List (List Frame)) (calls : ℕ → List ClientCall) (tracks : List TrackJudge) → CallsJudged 0 specs files calls tracks tracks None
+no_calls specs files calls tracks = record {
+  servers = λ i t k lt. absurd (omega (arith, lt));
+  others = λ i t low at. at;
+  turns = λ run sides i lt. absurd (omega (arith, lt));
+  kept = λ run sides i k lt. absurd (omega (arith, lt));
+}
+
+pub less_or : (i n : ℕ) → i < n + 1 → (i < n) ⊎ (i ≡ n)
+less_or i n lt = grind (arith, lt)
+
+-- the track at a place of a list is one
+pub one-track : (tracks : List TrackJudge) (i : ℕ) (t u : TrackJudge) → IsTrackAt tracks i t → IsTrackAt tracks i u → t ≡ u
+one-track tracks i t u a b = a.1 ∙ (get_or_default tracks i t u a.0 ∙ sym b.1)
+
+-- the track that was put there
+pub put-track : (tracks : List TrackJudge) (i : ℕ) (k u : TrackJudge) → IsTrackAt (set tracks i k) i u → u ≡ k
+put-track tracks i k u a = a.1 ∙ get_or-set_same tracks i k u (let x = a.0 in let l = length-set tracks i k in omega (arith, x, l))
+
+-- and those at other places
+pub other-track : (tracks : List TrackJudge) (i j : ℕ) (k u : TrackJudge) → (j ≡ i → ⊥) → IsTrackAt (set tracks i k) j u → IsTrackAt tracks j u
+other-track tracks i j k u ne a = ((let x = a.0 in let l = length-set tracks i k in omega (arith, x, l)), a.1 ∙ get_or-set_other tracks i j k u ne)
+
+-- the least one, after one more
+pub least_found_more : (P : ℕ → Type 0) (at x : ℕ) → LeastBelow P at (Some x) → LeastBelow P (at + 1) (Some x)
+least_found_more P at x h = ((let a = h.0 in omega (arith, a)), h.1, h.2)
+
+pub least_right_more : (P : ℕ → Type 0) (at : ℕ) → LeastBelow P at None → P at → LeastBelow P (at + 1) None
+least_right_more P at h p = all_more P at h p
+
+pub least_wrong_more : (P : ℕ → Type 0) (at : ℕ) → LeastBelow P at None → (P at → ⊥) → LeastBelow P (at + 1) (Some at)
+least_wrong_more P at h p = ((let x : at < at + 1 = omega arith in x), p, h)
+
+pub least_after : (P : ℕ → Type 0) (at : ℕ) (found : Option ℕ) (right : Bool) → LeastBelow P at found → MatchBool right (P at) (P at → ⊥) → LeastBelow P (at + 1) (found_after found right at)
+least_after P at (Some x) right h p = least_found_more P at x h
+least_after P at None true h p = least_right_more P at h p
+least_after P at None false h p = least_wrong_more P at h p
+
+pub few_after : (at n : ℕ) (found : Option ℕ) (right : Bool) → IfSome found (λ i. i < n) → at < n → IfSome (found_after found right at) (λ i. i < n)
+few_after at n (Some x) right h lt = h
+few_after at n None true h lt = tt
+few_after at n None false h lt = lt
+
+-- what a client's turn answers, by its ops, its file and its calls
+abbrev pub TurnAnswer : TrackJudge → TrackJudge → Bool → List Op → List ℕ → List ClientCall → Type 0
+TurnAnswer t k legal ops file calls = (u : Track) → u.file ≡ file → KeepsTrack ops t u → MatchBool legal (LegalClientTurn u calls × KeepsTrack ops k (after_calls u calls)) (LegalClientTurn u calls → ⊥)
+
+pub moved_answer : (t k : TrackJudge) (legal : Bool) (o p : List Op) (f g : List ℕ) (x y : List ClientCall) → o ≡ p → f ≡ g → x ≡ y → TurnAnswer t k legal o f x → TurnAnswer t k legal p g y
+moved_answer t k legal o p f g x y a b d h = subst (λ (n : List Op). TurnAnswer t k legal n g y) a (subst (λ (n : List ℕ). TurnAnswer t k legal o n y) b (subst (λ (n : List ClientCall). TurnAnswer t k legal o f n) d h))
+
+pub here-at : (tracks : List TrackJudge) (i : ℕ) (d : TrackJudge) → i < length tracks → IsTrackAt tracks i (slice_index_or tracks i d)
+here-at tracks i d lt = (lt, get_or_default tracks i d (slice_index_or tracks i d) lt)
+
+module _ (specs : List TrackSpec) (files : List (List Frame)) (calls : ℕ → List ClientCall) (before now : List TrackJudge) (at : ℕ) (t k : TrackJudge) (here : IsTrackAt now at t) where
+  -- what a client's turn answers
+  Answers : Bool → Type 0
+  Answers legal = (u : Track) → u.file ≡ map packed_word (slice_index_or files at []) → KeepsTrack (slice_index_or specs at no_spec).ops t u → MatchBool legal (LegalClientTurn u (calls at) × KeepsTrack (slice_index_or specs at no_spec).ops k (after_calls u (calls at))) (LegalClientTurn u (calls at) → ⊥)
+
+  -- what is kept of the tracks, whatever is found
+  pub more : (legal : Bool) (found next : Option ℕ) → length now ≡ length before → CallsJudged at specs files calls before now found → SameServers t k
+      → ((u : Track) → u.file ≡ map packed_word (slice_index_or files at []) → KeepsTrack (slice_index_or specs at no_spec).ops t u → MatchBool legal (LegalClientTurn u (calls at) × KeepsTrack (slice_index_or specs at no_spec).ops k (after_calls u (calls at))) (LegalClientTurn u (calls at) → ⊥))
+      → next ≡ found_after found legal at → CallsJudged (at + 1) specs files calls before (set now at k) next
+  more legal found next many h same answers least = record {
+    servers = λ i u v lt a b. elim (less_or i at lt) [
+      | inl less ↦ h.servers i u v less a (other-track now at i k v (λ e. omega (arith, less, e)) b)
+      | inr is ↦ servers_here u v (subst (λ n. IsTrackAt before n u) is a) (subst (λ n. IsTrackAt (set now at k) n v) is b)
+    ];
+    others = λ i u low a. h.others i u (omega (arith, low)) (other-track now at i k u (λ e. omega (arith, low, e)) a);
+    turns = λ run sides. subst (LeastBelow (λ i. LegalClientTurn (run i) (calls i)) (at + 1)) (sym least) (least_after (λ i. LegalClientTurn (run i) (calls i)) at found legal (h.turns run sides) (legal_here run sides legal (answers (run at) (sides.file at inside) (sides.kept at t before_here))));
+    kept = λ run sides i v lt a legal_turn. elim (less_or i at lt) [
+      | inl less ↦ h.kept run sides i v less (other-track now at i k v (λ e. omega (arith, less, e)) a) legal_turn
+      | inr is ↦ subst (λ n. KeepsTrack (slice_index_or specs n no_spec).ops v (after_calls (run n) (calls n))) (sym is)
+          (subst (λ x. KeepsTrack (slice_index_or specs at no_spec).ops x (after_calls (run at) (calls at))) (sym (put-track now at k v (subst (λ n. IsTrackAt (set now at k) n v) is a)))
+          (kept_here run legal (answers (run at) (sides.file at inside) (sides.kept at t before_here)) (subst (λ n. LegalClientTurn (run n) (calls n)) is legal_turn)))
+    ];
+  }
+    where
+      inside : at < length before
+      inside = (let x = here.0 in omega (arith, x, many))
+
+      before_here : IsTrackAt before at t
+      before_here = h.others at t (let x : at ≤ at = omega arith in x) here
+
+      servers_here : (u v : TrackJudge) → IsTrackAt before at u → IsTrackAt (set now at k) at v → SameServers u v
+      servers_here u v a b = subst (λ x. SameServers x v) (one-track before at t u before_here a) (subst (λ x. SameServers t x) (sym (put-track now at k v b)) same)
+
+      legal_here : (run : ℕ → Track) → AreSides specs files before run → (b : Bool) → MatchBool b (LegalClientTurn (run at) (calls at) × KeepsTrack (slice_index_or specs at no_spec).ops k (after_calls (run at) (calls at))) (LegalClientTurn (run at) (calls at) → ⊥) → MatchBool b (LegalClientTurn (run at) (calls at)) (LegalClientTurn (run at) (calls at) → ⊥)
+      legal_here run sides true x = x.0
+      legal_here run sides false x = x
+
+      kept_here : (run : ℕ → Track) (b : Bool) → MatchBool b (LegalClientTurn (run at) (calls at) × KeepsTrack (slice_index_or specs at no_spec).ops k (after_calls (run at) (calls at))) (LegalClientTurn (run at) (calls at) → ⊥) → LegalClientTurn (run at) (calls at) → KeepsTrack (slice_index_or specs at no_spec).ops k (after_calls (run at) (calls at))
+      kept_here run true x l = x.1
+      kept_here run false x l = absurd (x l)

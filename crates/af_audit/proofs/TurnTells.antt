@@ -1,0 +1,54 @@
+-- A turn is told: the report that it loads, what it leaves of the mixer, the looks at the queue, and the pipe.
+use Rattle.std.specs.Prelude.{◌↔◌, IsTrue, slice_index_or}
+use Rattle.std.proofs.Common.{◌≡◌, ℕ, ◌+◌, ◌-◌, ◌<◌, ◌≤◌, ◌&&◌, not, min, Bool, List, length, take, drop, sym, ap, subst, ◌∙◌, arith}
+use Rattle.std.proofs.lemmas.List.{length-drop, length-take-le, take-take}
+use Rattle.af_base.specs.declared.log.CycleEntry.{CycleEntry}
+use Rattle.af_base.specs.declared.report.Report.{Report}
+use Rattle.af_base.specs.declared.state.FastState.{FastState}
+use Rattle.af_base.specs.Turn.{Turn}
+use Rattle.af_judge.specs.declared.track_judge.TrackJudge.{TrackJudge}
+use Rattle.af_judge.specs.FastKept.{FastKept}
+use Rattle.af_judge.specs.Foresight.{entries_foreseen, foreseen, servers_at}
+use Rattle.af_judge.specs.NormalJudged.{NormalJudged}
+use Rattle.af_judge.specs.NormalTold.{IsRight}
+use Rattle.af_judge.specs.QueueNumbers.{turn_steps, with_steps}
+use Rattle.af_judge.specs.TurnJudged.{TurnJudged}
+use Rattle.af_audit.specs.declared.run_judge.RunJudge.{RunJudge}
+use Rattle.af_audit.specs.RoundTold.{IsReportOf, TurnTold, pipe_turned, report_turned}
+
+module _ (log : List CycleEntry) (first count : ℕ) (inside : first + count ≤ length log) where
+  -- the entries still to come
+  abbrev own : List CycleEntry
+  own = take count (drop first log)
+
+  -- as many as come before a number
+  ahead_part : (n : ℕ) → take (min count n) (drop first log) ≡ take (min (length own) n) own
+  ahead_part n = sym (take-take (min count n) count (drop first log) (omega arith)) ∙ ap (λ (k : ℕ). take (min k n) own) (sym (length-take-le count (drop first log) (let l = length-drop first log in omega (arith, l, inside))))
+
+  -- the report that a turn loads
+  pub report_so : (f : FastKept) (states xs : List FastState) (tracks : List TrackJudge) (number : ℕ) (report : Report) → states ≡ xs → (number ≤ f.before.cycle → report ≡ f.before)
+      → (f.before.cycle < number → f.told.report.cycle < number → report ≡ (entries_foreseen states (take (min count (number - f.told.report.cycle)) (drop first log)) (foreseen (servers_at tracks) f.told)).told.report)
+      → (f.before.cycle < number → number ≤ f.told.report.cycle → report ≡ slice_index_or f.reports (number - f.before.cycle - 1) f.before) → IsReportOf f xs tracks own number report
+  report_so f states xs tracks number report same before ahead told = record {
+    before = before;
+    ahead = λ past behind. ahead past behind ∙ (λ i. (entries_foreseen (same i) (ahead_part (number - f.told.report.cycle) i) (foreseen (servers_at tracks) f.told)).told.report);
+    told = told;
+  }
+
+-- all of a turn
+pub turn_so : (j k : RunJudge) (tracks after : List TrackJudge) (later : List CycleEntry) (e : Turn) (report : Report) (legal ended right : Bool) (next : NormalJudged) (states : List FastState)
+    → IsReportOf j.fast j.normal.states tracks later e.cycle report → IsTrue legal ↔ IsRight j.normal.plain.setup report tracks j.normal.plain.kept e
+    → ended ≡ j.normal.plain.kept.ended → right ≡ (legal && not ended) → TurnJudged report e tracks after j.normal next
+    → states ≡ j.normal.states → k ≡ record j { normal = next; fast = record j.fast { queue = with_steps (turn_steps (length states) e.ended e.ack e.push) j.fast.queue; pipe = pipe_turned next.setup e j.fast.pipe }; report = report_turned e j.report }
+    → TurnTold j tracks later e right k after
+turn_so j k tracks after later e report legal ended right next states report_is legal_is ended_is right_is judged states_is kept = record {
+  report = report;
+  report_is = report_is;
+  legal = legal;
+  legal_is = legal_is;
+  right_is = right_is ∙ ap (λ (b : Bool). legal && not b) ended_is;
+  mixer = subst (TurnJudged report e tracks after j.normal) (sym (ap (λ (r : RunJudge). r.normal) kept)) judged;
+  fast = ap (λ (r : RunJudge). r.fast) kept ∙ (λ i. record j.fast { queue = with_steps (turn_steps (length (states_is i)) e.ended e.ack e.push) j.fast.queue; pipe = pipe_turned (judged.same.0 i) e j.fast.pipe });
+  reported = ap (λ (r : RunJudge). r.report) kept;
+  cycles = ap (λ (r : RunJudge). r.cycles) kept;
+}

@@ -1,0 +1,46 @@
+-- What some entries of a log leave, told one after the other, and when all are right.
+use Rattle.std.specs.Prelude.{◌≡◌, ℕ, ◌+◌, ◌<◌, ◌≤◌, false, MatchBool, fold, List, [], ◌∷◌}
+use Rattle.af_base.specs.declared.frame.Frame.{Frame}
+use Rattle.af_base.specs.declared.log.CycleEntry.{CycleEntry}
+use Rattle.af_base.specs.declared.state.FastState.{FastState}
+use Rattle.af_model.specs.JournalForm.{IsEntry}
+use Rattle.af_model.specs.Journals.{EntrySeen, taken_by}
+use Rattle.af_judge.specs.declared.track_judge.TrackJudge.{TrackJudge}
+use Rattle.af_judge.specs.Entries.{StandsIn}
+use Rattle.af_judge.specs.FastKept.{EndsAsTurn, FastKept, IsEntryRight, entry_told, entry_tracks}
+
+-- the fast mixer and the tracks
+pub record Playing : Type 0 where
+  pub fast : FastKept
+  pub tracks : List TrackJudge
+
+abbrev pub playing : FastKept → List TrackJudge → Playing
+playing fast tracks = record { fast = fast; tracks = tracks }
+
+-- after an entry
+unfoldable pub entry_leaves : List FastState → List Frame → CycleEntry → Playing → Playing
+entry_leaves states frames entry p = record { fast = entry_told states frames entry p.tracks p.fast; tracks = entry_tracks states frames entry p.fast p.tracks }
+
+-- after some, one after the other
+abbrev pub entries_leave : List FastState → List Frame → List CycleEntry → Playing → Playing
+entries_leave states frames entries p = fold (λ q entry. entry_leaves states frames entry q) p entries
+
+-- an entry is right after what was told
+unfoldable pub IsRightAfter : List FastState → List Frame → CycleEntry → Playing → Type 0
+IsRightAfter states frames entry p = IsEntryRight states frames entry p.fast p.tracks
+
+-- each of some is, after those before it
+abbrev pub AreEntriesRight : List FastState → List Frame → List CycleEntry → Playing → Type 0
+AreEntriesRight states frames [] p = Unit {0}
+AreEntriesRight states frames (entry ∷ entries) p = IsRightAfter states frames entry p × AreEntriesRight states frames entries (entry_leaves states frames entry p)
+
+-- each of some entries has its form from this place in the log's frames on, and its frames stand there
+abbrev pub AreFormed : List Frame → ℕ → List EntrySeen → Type 0
+AreFormed frames place [] = Unit {0}
+AreFormed frames place (e ∷ es) = StandsIn frames e × IsEntry place e.entry × AreFormed frames (place + taken_by e.entry) es
+
+-- So many entries of a log from a place on may follow, by a script of so many cycles: there is room for them, none come after the end, and else they are a turn
+pub record MayEnter (f : FastKept) (cycles : ℕ) (entries : List CycleEntry) (first count : ℕ) : Type 0 where
+  pub room : f.told.report.cycle < cycles
+  pub within : f.told.report.cycle + count ≤ cycles
+  pub turn : MatchBool f.ended (count ≡ 0) (EndsAsTurn entries first count 16 false)

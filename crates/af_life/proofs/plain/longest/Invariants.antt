@@ -1,0 +1,7 @@
+use Rattle.std.proofs.Common.{◌≡◌, take, length}
+use Rattle.std.specs.Prelude.{max}
+use Rattle.std.specs.List.{fold}
+use Rattle.af_life.proofs.plain.longest.Given as goal
+
+abbrev pub invariant-loop-seen : goal.invariant-loop-seen
+invariant-loop-seen l = l.most ≡ fold (λ most seen. max most (length seen.looks.items)) 0 (take l.seen-index l.turns)

@@ -1,0 +1,133 @@
+-- The calls of a turn, one after the other.
+use Rattle.std.proofs.Common.{◌≡◌, ◌⊎◌, inl, inr, ℕ, ◌-◌, ◌≤◌, ◌||◌, Bool, true, false, if◌then◌else◌, MatchBool, fold, List, [], ◌∷◌, ◌++◌, length, Option, Some, None, refl, ap, sym, ◌∙◌, subst, arith}
+use Rattle.af_base.specs.declared.event.ClientCall.{ClientCall}
+use Rattle.af_base.specs.declared.event.ClientCall.TheVariants as call
+use Rattle.af_script.specs.declared.op.Op.{Op}
+use Rattle.af_runs.specs.declared.want.Want.{Want}
+use Rattle.af_runs.specs.declared.want.Want.TheVariants as want
+use Rattle.af_runs.specs.Clients.{Client, after_answer, asked_first, at_next_turn, begins, begun, next_want, rest_of, rested, wants_of}
+use Rattle.af_runs.specs.ClientTurns.{AreCalls, IsMade, IsWanted, LegalClientTurn, Track, after_call, answered, asked_by, commands_sent, most_calls, side_of, wanted_of, with_call}
+use Rattle.af_party.specs.Asking.{flushed_by, written_by}
+use Rattle.af_party.specs.Turning.{WantsNext}
+use Rattle.af_party.proofs.MadeCalls.{few_written}
+use Rattle.af_party.proofs.WorkLeft.{flush_of}
+
+-- these calls lead from a track to another
+abbrev pub AreMade : Track → List ClientCall → Track → Type 0
+AreMade t [] u = u ≡ t
+AreMade t (answer ∷ calls) u = (wanted : Want) × (wanted_of t ≡ Some wanted) × IsMade t wanted answer × AreMade (after_call t answer) calls u
+
+-- one call more
+pub made_more : (t u v : Track) (calls : List ClientCall) (wanted : Want) (answer : ClientCall) → AreMade t calls u → wanted_of u ≡ Some wanted → IsMade u wanted answer → v ≡ after_call u answer
+    → AreMade t (calls ++ answer ∷ []) v
+made_more t u v [] wanted answer made is does goes =
+    let P : Track → Type 0 = λ x. (w : Want) × (wanted_of x ≡ Some w) × IsMade x w answer × (v ≡ after_call x answer) in
+    subst P made (wanted, is, does, goes)
+made_more t u v (c ∷ calls) wanted answer made is does goes = (made.0, made.1, made.2, made_more (after_call t c) u v calls wanted answer made.3 is does goes)
+
+-- they lead where they go
+pub made_fold : (t u : Track) (calls : List ClientCall) → AreMade t calls u → u ≡ fold after_call t calls
+made_fold t u [] made = made
+made_fold t u (c ∷ calls) made = made_fold (after_call t c) u calls made.3
+
+-- the calls of a turn that ends where nothing is wanted, or where no call is left
+pub made_calls : (left : ℕ) (t u : Track) (calls : List ClientCall) → AreMade t calls u → length calls ≤ left → (left ≡ length calls) ⊎ (wanted_of u ≡ None) → AreCalls left t calls
+made_calls left t u [] made few ends = elim ends [ inl e ↦ inl e | inr none ↦ inr (ap wanted_of (sym made) ∙ none) ]
+made_calls left t u (c ∷ calls) made few ends = (
+  omega (arith, few),
+  made.0,
+  made.1,
+  made.2,
+  made_calls (left - 1) (after_call t c) u calls made.3 (omega (arith, few)) (elim ends [ inl e ↦ inl (omega (arith, e)) | inr none ↦ inr none ]),
+)
+
+-- ## A client that has ended
+
+begins-halts : (c : Client) (wants : List Want) (ops : List Op) → ((begins c wants ops).waiting || (begins c wants ops).ended) ≡ (c.waiting || c.ended)
+begins-halts c (w ∷ wants) ops = refl
+begins-halts c [] [] = refl
+begins-halts c [] (o ∷ ops) = begins-halts c (wants_of c.mode o) ops
+
+halts-none : (c : Client) → (c.waiting || c.ended) ≡ true → next_want c ≡ None
+halts-none c h = let P : Bool → Option Want = λ b. if b then None else asked_first c.due in ap P h
+
+-- a client that waits or has ended wants nothing
+pub halted_none : (c : Client) → (c.waiting || c.ended) ≡ true → next_want (begun c) ≡ None
+halted_none c h = halts-none (begun c) (begins-halts c c.due c.ops ∙ h)
+
+or-true : (a b : Bool) → b ≡ true → (a || b) ≡ true
+or-true true b h = refl
+or-true false b h = h
+
+none-made : (t : Track) (calls : List ClientCall) → wanted_of t ≡ None → AreCalls most_calls t calls → calls ≡ []
+none-made t [] none h = refl
+none-made t (c ∷ calls) none h = absurd (let e = none in let f = h.2 in let x : ⊥ = cc in x)
+
+legal-by : (b : Bool) (t : Track) (calls : List ClientCall) → AreCalls most_calls t calls → (b ≡ true → calls ≡ []) → MatchBool b (calls ≡ []) (AreCalls most_calls t calls)
+legal-by true t calls made none = none refl
+legal-by false t calls made none = made
+
+-- the turn is legal
+pub legal_turn : (t : Track) (calls : List ClientCall) → AreCalls most_calls t calls → LegalClientTurn t calls
+legal_turn t calls made = legal-by t.client.ended t calls made (λ h. none-made t calls (halted_none t.client (or-true t.client.waiting t.client.ended h)) made)
+
+-- ## The end of a turn
+
+begins-again : (c : Client) (wants : List Want) (ops : List Op) → begun (begins c wants ops) ≡ begins c wants ops
+begins-again c (w ∷ wants) ops = refl
+begins-again c [] [] = refl
+begins-again c [] (o ∷ ops) = begins-again c (wants_of c.mode o) ops
+
+-- an op that was begun is begun
+pub begun_again : (c : Client) → begun (begun c) ≡ begun c
+begun_again c = begins-again c c.due c.ops
+
+-- the end of a turn of a client that goes on
+goes-end : (c : Client) → (c.waiting || c.ended) ≡ false → at_next_turn false c ≡ (let d = begun c in record d { due = rested d.due })
+goes-end c h = ap (λ (b : Bool). if b || false then record c { waiting = false } else (let d = begun c in record d { due = rested d.due })) h
+
+-- it is the same after the next op was begun
+pub end_begun : (c : Client) → (c.waiting || c.ended) ≡ false → at_next_turn false (begun c) ≡ at_next_turn false c
+end_begun c h = goes-end (begun c) (begins-halts c c.due c.ops ∙ h) ∙ ap (λ (d : Client). let r : Client = record d { due = rested d.due } in r) (begun_again c) ∙ sym (goes-end c h)
+
+-- what is wanted, as the program finds it
+pub wants_next : (o : Option Want) (c d : Client) → o ≡ next_want d → d ≡ begun c → (c.waiting || c.ended) ≡ false → WantsNext c o d
+wants_next None c d is begins goes = (ap next_want (sym begins) ∙ sym is, ap (at_next_turn false) begins ∙ end_begun c goes)
+wants_next (Some w) c d is begins goes = (ap next_want (sym begins) ∙ sym is, begins)
+
+-- ## A call, as the program notes it
+
+answer-some : (t : Track) (answer : ClientCall) (wanted : Want) → wanted_of t ≡ Some wanted
+    → answered t answer ≡ after_answer (commands_sent (with_call t answer)) wanted (rest_of (begun t.client).due) (begun t.client) answer
+answer-some t answer wanted is =
+    ap (λ (o : Option Want). elim o as (λ x. Client) [ None ↦ t.client | Some w ↦ after_answer (commands_sent (with_call t answer)) w (rest_of (begun t.client).due) (begun t.client) answer ]) is
+
+-- u is the track of the sides after the call, with any client, and c the client that the program notes
+pub call_noted : (t u : Track) (answer : ClientCall) (wanted : Want) (sent : ℕ) (c : Client) → wanted_of t ≡ Some wanted → u ≡ with_call t answer → sent ≡ commands_sent u
+    → c ≡ after_answer sent wanted (rest_of (begun t.client).due) (begun t.client) answer → (record u { client = c }) ≡ after_call t answer
+call_noted t u answer wanted sent c is sides count noted =
+    let noted' : c ≡ answered t answer =
+    noted ∙ ap (λ (n : ℕ). after_answer n wanted (rest_of (begun t.client).due) (begun t.client) answer) (count ∙ ap commands_sent sides) ∙ sym (answer-some t answer wanted is) in
+    λ i. record (sides i) { client = noted' i }
+
+-- ## What a call writes and flushes
+
+-- a wanted call writes and flushes no more than was asked for
+flush-wanted : (t : Track) (w : Want) (n : ℕ) → IsWanted t w (call.Flush n) → 1 ≤ flush_of w
+flush-wanted t (want.Send sending) n h = absurd (let e : ⊥ = cc in e)
+flush-wanted t want.Settled n h = absurd (let e : ⊥ = cc in e)
+flush-wanted t want.Drained n h = absurd (let e : ⊥ = cc in e)
+flush-wanted t want.Flush n h = omega arith
+flush-wanted t (want.Gain left right) n h = absurd (let e : ⊥ = cc in e)
+flush-wanted t (want.Write count) n h = absurd (let e : ⊥ = cc in e)
+flush-wanted t want.Clear n h = absurd (let e : ⊥ = cc in e)
+flush-wanted t (want.Poke in_command word value) n h = absurd (let e : ⊥ = cc in e)
+flush-wanted t want.Rest n h = absurd h
+flush-wanted t want.Leave n h = absurd (let e : ⊥ = cc in e)
+
+pub few_flushed : (t : Track) (w : Want) (a : ClientCall) → IsWanted t w a → flushed_by a ≤ flush_of w
+few_flushed t w (call.Flush n) h = flush-wanted t w n h
+few_flushed t w _ h = omega arith
+
+pub few_put : (t : Track) (w : Want) (a : ClientCall) → IsMade t w a → written_by a ≤ asked_by w
+few_put t w a h = few_written (side_of t a) (asked_by w) a h.1

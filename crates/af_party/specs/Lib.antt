@@ -1,0 +1,4 @@
+pub mod Asking
+pub mod Parties
+pub mod Turning
+pub mod Works

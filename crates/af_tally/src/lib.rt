@@ -1,0 +1,14 @@
+//! What is counted of a run as it goes on: its tally, its summary, and the bytes of its sound.
+#![tactic(auto)]
+
+mod sound;
+#[cfg(test)]
+mod sound_tests;
+mod summary;
+mod tally;
+#[cfg(test)]
+mod tally_tests;
+
+pub use sound::push_pcm;
+pub use summary::Summary;
+pub use tally::{Tally, TrackTally};
