@@ -1,4 +1,4 @@
-use Rattle.std.proofs.Common.{◌≡◌, ◌≤◌, ℕ, List, None, Some, false, true, inl, refl, sym, ap, subst, ◌∙◌}
+use Rattle.std.proofs.Common.{ℕ, Some, false, inl, refl, subst}
 use Rattle.af_io.specs.Files.{SetsFile}
 use Rattle.af_model.specs.Journals.{JournalData}
 use Rattle.af_nblog.specs.NoteEnds.{accepted}
@@ -68,8 +68,8 @@ play_with-requires-clause-log g c = λ κs lives.
     let begins = subst (λ (n : ℕ). BeginsLog (Some c.args.room) n c.in_ok-logging.logging) c.cycles.ensures.value c.in_ok-logging.ensures in
     (Some c.args.room, begins)
 
-pub write-requires-in-Ok : goal.write-requires-in-Ok
-write-requires-in-Ok g c =
+pub write-requires : goal.write-requires
+write-requires g c =
     let begins = subst (λ (n : ℕ). BeginsLog (Some c.args.room) n c.in_ok-logging.logging) c.cycles.ensures.value c.in_ok-logging.ensures in
     record { told = (c.args.script.now.frames, c.args.room, c.in-Ok.played.journal, c.in-Ok.ensures.log (Some c.args.room) begins) }
 
