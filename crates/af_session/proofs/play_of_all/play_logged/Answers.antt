@@ -73,7 +73,7 @@ write-requires g c =
     let begins = subst (λ (n : ℕ). BeginsLog (Some c.args.room) n c.in_ok-logging.logging) c.cycles.ensures.value c.in_ok-logging.ensures in
     record { told = (c.args.script.now.frames, c.args.room, c.in-Ok.played.journal, c.in-Ok.ensures.log (Some c.args.room) begins) }
 
-pub returns-in-Ok-clause-log : goal.returns-in_ok-write-in-Ok-clause-log
+pub returns-in-Ok-clause-log : goal.returns-in-Ok-clause-log
 returns-in-Ok-clause-log g c =
     let begins = subst (λ (n : ℕ). BeginsLog (Some c.args.room) n c.in_ok-logging.logging) c.cycles.ensures.value c.in_ok-logging.ensures in
     let h = c.in-Ok.ensures.log (Some c.args.room) begins in
