@@ -2,7 +2,7 @@
 ghost use Rattle.std.specs.Prelude.{◌≡◌, ◌++◌, ◌∷◌, [], map, flat_map, length, string_bytes, IfOk, ◌<◌, ◌^◌};
 ghost use Rattle.af_base.specs.Sample.{packed_word};
 ghost use Rattle.af_base.specs.Turn.{take_seen, track_seen, turn_of};
-ghost use Rattle.af_journal.specs.Lines.{hex_word, numbers};
+ghost use Rattle.af_journal.specs.Lines.{hex_byte, hex_digit, hex_word, numbers};
 ghost use Rattle.af_journal.specs.Texts.{GoesOn, command_words, each_from, look_lines, take_lines, track_lines, turn_lines, words_after};
 
 use crate::line::Line;
@@ -17,12 +17,34 @@ pub(crate) fn add(text: &mut String, line: Line) -> Result<(), Memory>
     Ok(())
 }
 
-// Adds the eight digits of a word.
+// The lower-case hexadecimal digit of a number below 16.
+fn digit_of(number: u8) -> char
+    requires { number < 16 }
+    ensures { result ≡ hex_digit number }
+{
+    char::from(if number < 10 {
+        b'0' + number
+    } else {
+        b'a' + (number - 10)
+    })
+}
+
+// Adds the two digits of a byte.
+fn add_byte(text: &mut String, byte: u8) -> Result<(), Memory>
+    ensures { IfOk result (λ _. string_bytes text.new ≡ string_bytes text.old ++ hex_byte byte) }
+{
+    text.push(digit_of(byte / 16))?;
+    text.push(digit_of(byte % 16))?;
+    Ok(())
+}
+
+// Adds the eight digits of a word. They are written by hand, since most of a journal's text is frames.
 fn add_word(text: &mut String, word: u32) -> Result<(), Memory>
     ensures { IfOk result (λ _. string_bytes text.new ≡ string_bytes text.old ++ hex_word word) }
 {
-    let [first, second, third, fourth] = word.to_be_bytes();
-    write!(text, "{first:02x}{second:02x}{third:02x}{fourth:02x}")?;
+    for byte in word.to_be_bytes() {
+        add_byte(text, byte)?;
+    }
     Ok(())
 }
 

@@ -1,8 +1,7 @@
 use Rattle.std.proofs.Common.{rules}
-use Rattle.std.proofs.lemmas.Fmt.{hex_byte}
 use Rattle.af_journal.specs.Lines.{hex_word}
 use Rattle.af_journal.proofs.turn.add_word.Goals as goal
 
 pub returns : goal.returns
 unfolding hex_word
-returns c = search (rules, hex_byte)
+returns c = search rules
