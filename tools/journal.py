@@ -432,13 +432,13 @@ def opened(words, usage):
         for name in words[1:]:
             with open(name, encoding="utf-8", newline="") as file:
                 text = file.read()
-            if log is None and is_log(text):
-                log = read_log(text, rounds)
-            elif script is None:
-                script = tomllib.loads(text)
-            else:
+            if (log if is_log(text) else script) is not None:
                 print(usage, file=sys.stderr)
                 return None
+            if is_log(text):
+                log = read_log(text, rounds)
+            else:
+                script = tomllib.loads(text)
         name = words[0]
         story = Story(rounds, script, log)
     except BadLine as bad:
