@@ -7,7 +7,7 @@ ghost use Rattle.af_session.specs.SideBySide.{CanCycle, CanMixOn, CanTurn, HasCy
 ghost use Rattle.af_session.specs.Shown.{HasPlaces};
 
 use crate::alone::turn_alone;
-use crate::logging::{Logging, Scribe};
+use crate::logging::{Auditor, Logging, Scribe};
 use af_base::{Frame, Items, Steps};
 use af_cblk::Block;
 use af_fast::FastMixer;
@@ -176,7 +176,47 @@ fn clients_turns<R: Threads + Sync, G: Gate>(
     }
 }
 
-// The turns of the fast mixer and of the party that reads the log, each on a thread of its own where a log is kept. The reading party has the number behind the mixer's.
+// The turns of the fast mixer and of the party that reads its log, each on a thread of its own. The reading party has the number behind the mixer's.
+fn fast_and_auditor<R: Threads + Sync, G: Gate>(
+    rt: &R,
+    fast: &mut FastMixer,
+    links: &Links<'_>,
+    buffer: &mut [Frame],
+    bytes: &mut Items<u8>,
+    tally: &mut Tally,
+    log: &Option<Block>,
+    scribe: &mut Scribe,
+    auditor: &mut Auditor,
+    party: u32,
+    gate: &G,
+)
+    requires can { CanCycle links.now fast.old }
+    requires buffer { length buffer.old ≡ fast.old.frames }
+    requires room { length bytes.old.items + 64 * fast.old.frames ≤ bytes.old.room }
+    requires places { (n : ℕ) × (tracks : ℕ) × (n ≤ 100000) × HasPlaces n tracks (length fast.old.log.entries) tally.old }
+    requires log { IsScribe log.now (length fast.old.log.entries) scribe.old }
+    requires auditor { IsAuditor log.now auditor.old }
+    requires party { party < 2 ^ 31 + 1 }
+    ensures turned { HasCycledOn links.now fast.old fast.new bytes.old bytes.new }
+    ensures noted { HasNotedOn fast.old fast.new tally.old tally.new }
+    ensures logged { HasLogged (length fast.old.log.entries) fast.new scribe.old scribe.new }
+    ensures audited { HasAudited auditor.old auditor.new }
+{
+    let last = party + 1;
+    join_mut(
+        rt,
+        &mut ||
+            requires { CanCycle links.now fast.now × (length buffer.now ≡ fast.now.frames) × (length bytes.now.items + 64 * fast.now.frames ≤ bytes.now.room) × ((n : ℕ) × (tracks : ℕ) × (n ≤ 100000) × HasPlaces n tracks (length fast.now.log.entries) tally.now) × IsScribe log.now (length fast.now.log.entries) scribe.now }
+            ensures { HasCycledOn links.entry.now fast.entry.now fast.exit.now bytes.entry.now bytes.exit.now × HasNotedOn fast.entry.now fast.exit.now tally.entry.now tally.exit.now × HasLogged (length fast.entry.now.log.entries) fast.exit.now scribe.entry.now scribe.exit.now }
+        { fast_turn(fast, links, buffer, bytes, tally, log, scribe, party, gate) },
+        &mut ||
+            requires { IsAuditor log.now auditor.now }
+            ensures { HasAudited auditor.entry.now auditor.exit.now }
+        { auditor.turn(log, last, gate) },
+    );
+}
+
+// The turns of the fast mixer and, where a log is kept, of the party that reads it.
 fn fast_and_log<R: Threads + Sync, G: Gate>(
     rt: &R,
     fast: &mut FastMixer,
@@ -206,21 +246,11 @@ fn fast_and_log<R: Threads + Sync, G: Gate>(
     } = logging;
     if log.is_none() {
         fast_turn(fast, links, buffer, bytes, tally, log, scribe, party, gate);
-        return;
+    } else {
+        fast_and_auditor(
+            rt, fast, links, buffer, bytes, tally, log, scribe, auditor, party, gate,
+        );
     }
-    let log = &*log;
-    let last = party + 1;
-    join_mut(
-        rt,
-        &mut ||
-            requires { CanCycle links.now fast.now × (length buffer.now ≡ fast.now.frames) × (length bytes.now.items + 64 * fast.now.frames ≤ bytes.now.room) × ((n : ℕ) × (tracks : ℕ) × (n ≤ 100000) × HasPlaces n tracks (length fast.now.log.entries) tally.now) × IsScribe log.now (length fast.now.log.entries) scribe.now }
-            ensures { HasCycledOn links.entry.now fast.entry.now fast.exit.now bytes.entry.now bytes.exit.now × HasNotedOn fast.entry.now fast.exit.now tally.entry.now tally.exit.now × HasLogged (length fast.entry.now.log.entries) fast.exit.now scribe.entry.now scribe.exit.now }
-        { fast_turn(fast, links, buffer, bytes, tally, log, scribe, party, gate) },
-        &mut ||
-            requires { IsAuditor log.now auditor.now }
-            ensures { HasAudited auditor.entry.now auditor.exit.now }
-        { auditor.turn(log, last, gate) },
-    );
 }
 
 // The turns of both mixers, each on a thread of its own. Their parties have the numbers behind those of the clients.
@@ -257,7 +287,7 @@ fn mixers_turns<R: Threads + Sync, G: Gate>(
             ensures { HasMixedOn links.entry.now normal.entry.now normal.exit.now }
         { normal_turn(normal, links, clients, gate) },
         &mut ||
-            requires { IsSync R.row × CanCycle links.now fast.now × (length buffer.now ≡ fast.now.frames) × (length bytes.now.items + 64 * fast.now.frames ≤ bytes.now.room) × ((n : ℕ) × (tracks : ℕ) × (n ≤ 100000) × HasPlaces n tracks (length fast.now.log.entries) tally.now) × IsScribe logging.now.log (length fast.now.log.entries) logging.now.scribe × IsAuditor logging.now.log logging.now.auditor }
+            requires { IsSync R.row × CanCycle links.now fast.now × (length buffer.now ≡ fast.now.frames) × (length bytes.now.items + 64 * fast.now.frames ≤ bytes.now.room) × ((n : ℕ) × (tracks : ℕ) × (n ≤ 100000) × HasPlaces n tracks (length fast.now.log.entries) tally.now) × IsScribe logging.now.log (length fast.now.log.entries) logging.now.scribe × IsAuditor logging.now.log logging.now.auditor × (last < 2 ^ 31 + 1) }
             ensures { HasCycledOn links.entry.now fast.entry.now fast.exit.now bytes.entry.now bytes.exit.now × HasNotedOn fast.entry.now fast.exit.now tally.entry.now tally.exit.now × HasBothLogged (length fast.entry.now.log.entries) fast.exit.now logging.entry.now logging.exit.now }
         { fast_and_log(rt, fast, links, buffer, bytes, tally, logging, last, gate) },
     );
