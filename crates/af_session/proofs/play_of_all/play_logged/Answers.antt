@@ -68,13 +68,13 @@ play_with-requires-clause-log g c = λ κs lives.
     let begins = subst (λ (n : ℕ). BeginsLog (Some c.args.room) n c.in_ok-logging.logging) c.cycles.ensures.value c.in_ok-logging.ensures in
     (Some c.args.room, begins)
 
-pub write-requires-in-Ok : goal.write-requires-in-Ok
-write-requires-in-Ok g c =
+pub write-requires : goal.write-requires
+write-requires g c =
     let begins = subst (λ (n : ℕ). BeginsLog (Some c.args.room) n c.in_ok-logging.logging) c.cycles.ensures.value c.in_ok-logging.ensures in
     record { told = (c.args.script.now.frames, c.args.room, c.in-Ok.played.journal, c.in-Ok.ensures.log (Some c.args.room) begins) }
 
-pub returns-in-Ok-clause-log : goal.returns-in-Ok-clause-log
-returns-in-Ok-clause-log g c =
+pub returns-in_ok-write-in-Ok-clause-log : goal.returns-in_ok-write-in-Ok-clause-log
+returns-in_ok-write-in-Ok-clause-log g c =
     let begins = subst (λ (n : ℕ). BeginsLog (Some c.args.room) n c.in_ok-logging.logging) c.cycles.ensures.value c.in_ok-logging.ensures in
     let h = c.in-Ok.ensures.log (Some c.args.room) begins in
     (accepted h.ends.writer, h.ends.writer.refused, h.is_log, c.in_ok-write-in-Ok.ensures.written c.args.script.now.frames c.args.room c.in-Ok.played.journal h, h.none)

@@ -1,4 +1,4 @@
-use Rattle.std.proofs.Common.{◌≡◌, ◌-◌, ◌≤◌, [], Option, Some, length}
+use Rattle.std.proofs.Common.{◌≡◌, ℕ, ◌-◌, ◌≤◌, [], Option, Some, length}
 use Rattle.af_io.specs.Files.{Files, SetsFile}
 use Rattle.af_base.specs.declared.state.FastState.{FastState}
 use Rattle.af_session.specs.Hostile.{SparesSoFar}

@@ -118,10 +118,10 @@ returns-clause-sound g c = λ before same.
     c.play_at_once.ensures.sound before same ∙ ap (λ (l : Logged). pcm_of c.args.self.now.fast.frames l) (sym kept.2)
 
 pub play_at_once-requires-clause-log : goal.play_at_once-requires-clause-log
-play_at_once-requires-clause-log g c = has_scribe c.requires.log.0 c.args.self.now.fast c.requires.log.1 c.args.logging.now c.requires.log.2
+play_at_once-requires-clause-log g c = λ κs lives. has_scribe c.requires.log.0 c.args.self.now.fast c.requires.log.1 c.args.logging.now c.requires.log.2
 
 pub play_at_once-requires-clause-auditor : goal.play_at_once-requires-clause-auditor
-play_at_once-requires-clause-auditor g c = has_auditor c.requires.log.0 c.args.self.now.fast c.requires.log.1 c.args.logging.now c.requires.ready.2.together.fast.0.room.entries.0 c.requires.log.2
+play_at_once-requires-clause-auditor g c = λ κs lives. has_auditor c.requires.log.0 c.args.self.now.fast c.requires.log.1 c.args.logging.now c.requires.ready.2.together.fast.0.room.entries.0 c.requires.log.2
 
 pub meet_in-requires-clause-log : goal.meet_in-requires-clause-log
 meet_in-requires-clause-log g c = are_ends c.requires.log.0 c.args.self.now.fast c.play_at_once.new.self.fast c.requires.log.1 c.args.logging.now c.play_at_once.new.logging c.requires.log.2 c.play_at_once.ensures.logged
