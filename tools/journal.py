@@ -1,7 +1,8 @@
 """Reads the text of a journal as docs/FORMATS.md states it, and tells what happened to each track, round by round.
 
     rounds = read(text)                 the rounds, or BadLine with the number of the first line that doesn't fit
-    story = Story(rounds, script)       rows by round and track; the script (a tree of TOML) may be None
+    log = read_log(text, rounds)        the notes of a trace's log, each held against its entry, or BadLine
+    story = Story(rounds, script, log)  rows by round and track; the script (a tree of TOML) and the log may be None
 
 Python 3.11 or later, the standard library alone.
 """
@@ -221,6 +222,58 @@ def read_entries(lines):
     return entries
 
 
+# ---------------------------------------------------------------- the log
+
+class Log:
+    """The notes of a trace: `accepted` and `refused` by round."""
+
+    def __init__(self, rounds):
+        self.accepted, self.refused = [0] * len(rounds), [0] * len(rounds)
+
+
+def is_log(text):
+    """Whether a text begins as a log does, and so not as a script."""
+    first = text.split("\n")[0]
+    return "=" not in first and (first[:1].isdigit() or first.startswith("refused "))
+
+
+def read_log(text, rounds):
+    """The log of a journal's rounds. Its places rise, each note is that of its entry, and no entry is left out of the count."""
+    lines, log = Lines(text), Log(rounds)
+    entries = [(at, entry) for at, one in enumerate(rounds) for entry in one.entries]
+    missing = [True] * len(entries)
+    last = -1
+    while lines.mark() is not None and lines.mark() != "refused":
+        place = read_note(lines, entries, last)
+        last, missing[place] = place, False
+        log.accepted[entries[place][0]] += 1
+    if lines.mark() is None:
+        raise lines.bad("the line of what was refused is due")
+    (refused,) = lines.numbers(U64)
+    if refused != sum(missing):
+        raise BadLine(lines.at, f"{sum(missing)} entries have no note")
+    if lines.mark() is not None:
+        raise lines.bad("no line is due behind the refused")
+    for (at, _), without in zip(entries, missing):
+        log.refused[at] += without
+    return log
+
+
+def read_note(lines, entries, last):
+    """The place of the next note."""
+    words = [lines.mark(), *lines.next()]
+    if len(words) != 6:
+        raise BadLine(lines.at, "6 numbers are due")
+    place, state, kind, fulls, partials, empties = (lines.number(*of) for of in zip(words, (U64, U64, 3, SLOTS, SLOTS, SLOTS)))
+    if not last < place < len(entries):
+        raise BadLine(lines.at, "places rise, and are those of entries")
+    entry = entries[place][1]
+    seen = [look.seen for _, _, _, _, look in entry.slots[1:]]
+    if (state, kind, fulls + partials, empties) != (entry.state, entry.kind, seen.count("f"), seen.count("e")):
+        raise BadLine(lines.at, f"no note of entry {place}")
+    return place
+
+
 # ---------------------------------------------------------------- the story of each track
 
 class Row:
@@ -248,8 +301,8 @@ class Kept:
 class Story:
     """The rows, by round and track: `rows[round][track]`. `pushed[round]` and `adopted[round]` number the states."""
 
-    def __init__(self, rounds, script=None):
-        self.rounds, self.script = rounds, script
+    def __init__(self, rounds, script=None, log=None):
+        self.rounds, self.script, self.log = rounds, script, log
         named = [track for one in rounds for track in one.calls] + [track for one in rounds if type(one.turn) is Turn for track in one.turn.looks]
         self.tracks = len(script["track"]) if script else max(named, default=-1) + 1
         buffered = {track for one in rounds if type(one.turn) is Turn for track, _, _ in one.turn.mixes}
@@ -367,20 +420,29 @@ class Story:
 
 
 def opened(words, usage):
-    """The story of the journal that the words name, with the script that they may name; None with its reason told."""
-    if not 1 <= len(words) <= 2 or words[0].startswith("-"):
+    """The story of the journal that the words name, with the log and the script that they may name; None with its reason told."""
+    if not 1 <= len(words) <= 3 or words[0].startswith("-"):
         print(usage, file=sys.stderr)
         return None
+    name = words[0]
     try:
-        with open(words[0], encoding="ascii", newline="") as file:
-            text = file.read()
-        script = None
-        if len(words) == 2:
-            with open(words[1], "rb") as file:
-                script = tomllib.load(file)
-        story = Story(read(text), script)
+        with open(name, encoding="ascii", newline="") as file:
+            rounds = read(file.read())
+        script = log = None
+        for name in words[1:]:
+            with open(name, encoding="utf-8", newline="") as file:
+                text = file.read()
+            if (log if is_log(text) else script) is not None:
+                print(usage, file=sys.stderr)
+                return None
+            if is_log(text):
+                log = read_log(text, rounds)
+            else:
+                script = tomllib.loads(text)
+        name = words[0]
+        story = Story(rounds, script, log)
     except BadLine as bad:
-        print(f"{words[0]}: {bad}", file=sys.stderr)
+        print(f"{name}: {bad}", file=sys.stderr)
         return None
     except (OSError, UnicodeDecodeError, tomllib.TOMLDecodeError, IndexError) as fault:
         print(f"can't read: {fault}", file=sys.stderr)

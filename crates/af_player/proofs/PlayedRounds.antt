@@ -25,7 +25,7 @@ module _ (ended : Bool) (l : Loaded) (journal : JournalData) (ends : EndsState) 
   abbrev bytes : List ℕ
   bytes = journal_pcm l.script.frames journal
 
-  pub is_play : (line : List ℕ) → line ≡ run_line ended l.script journal ends → IsPlay ended l.script l.files bytes (text_of journal) line
+  is_play : (line : List ℕ) → line ≡ run_line ended l.script journal ends → IsPlay ended l.script l.files bytes (text_of journal) line
   is_play line is = record { journal = journal; ends = ends; run = back; bytes_are = refl; text_is = refl; line_is = is }
 
   module _ (target name : List ℕ) (old mid : Files) (set : SetsFile old target (Some bytes) mid) where

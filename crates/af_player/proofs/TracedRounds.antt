@@ -1,5 +1,5 @@
 -- A script that was played in rounds with a log: its journal, its log and its line.
-use Rattle.std.proofs.Common.{◌≡◌, ◌∙◌, ℕ, Bool, true, false, List, [], ◌∷◌, Some, Ok, Err, String, string_bytes, ap, inl, inr, refl, subst, sym}
+use Rattle.std.proofs.Common.{◌≡◌, ◌∙◌, ℕ, Bool, true, false, List, [], ◌∷◌, ◌++◌, Some, Ok, Err, String, string_bytes, ap, inl, inr, refl, subst, sym}
 use Rattle.std.specs.declared.alloc.Global.{Global}
 use Rattle.af_io.specs.Files.{Files, SetsFile, LeavesFront}
 use Rattle.af_io.specs.Outputs.{with_file, with_files}
@@ -24,7 +24,11 @@ use Rattle.af_player.specs.Sessions.{summary_line}
 use Rattle.af_player.specs.Status.{stop_of}
 use Rattle.af_player.specs.Traces.{IsTrace, IsTraced, LeavesLog}
 use Rattle.af_player.proofs.Made.{Makes-unwritten, files_are}
-use Rattle.af_player.proofs.PlayedRounds.{is_play, line_told, played, text_left}
+use Rattle.af_player.proofs.PlayedRounds.{line_told, played, text_left}
+
+-- what a list that was empty holds behind what was appended
+pub appended : (held new empty more : List ℕ) → held ≡ new → new ≡ empty ++ more → empty ≡ [] → held ≡ more
+appended held new empty more is grown none = is ∙ grown ∙ ap (λ (xs : List ℕ). xs ++ more) none
 
 module _ (l : Loaded) (room : ℕ) (journal : JournalData) (ends : EndsState) (back : HandsBackRun true l.script l.files journal ends) (notes : List Note) (refused : ℕ) (log_of : IsLogOf l.script.frames room journal notes refused) where
   abbrev bytes : List ℕ
@@ -34,7 +38,7 @@ module _ (l : Loaded) (room : ℕ) (journal : JournalData) (ends : EndsState) (b
   told = log_text notes refused
 
   is_trace : (line : List ℕ) → line ≡ run_line true l.script journal ends → IsTrace l.script l.files room bytes (text_of journal) told line
-  is_trace line is = record { play = is_play true l journal ends back line is; notes = notes; refused = refused; log_of = log_of; log_is = refl }
+  is_trace line is = record { play = record { journal = journal; ends = ends; run = back; bytes_are = refl; text_is = refl; line_is = is }; notes = notes; refused = refused; log_of = log_of; log_is = refl }
 
   module _ (target name log : List ℕ) (old mid next : Files) (set : SetsFile old target (Some bytes) mid) (text : SetsFile mid name (Some (text_of journal)) next) where
     both : with_files old (record { name = target; bytes = bytes } ∷ record { name = name; bytes = text_of journal } ∷ []) ≡ next

@@ -15,7 +15,7 @@ use Rattle.af_player.specs.Requests.{Trace}
 use Rattle.af_player.specs.Status.{stop_of}
 use Rattle.af_player.proofs.Played.{Makes-memory}
 use Rattle.af_player.proofs.PlayedRounds.{some_play_line}
-use Rattle.af_player.proofs.TracedRounds.{Makes-cut_log, Makes-traced, journal_unwritten, log_unwritten, trace_behind}
+use Rattle.af_player.proofs.TracedRounds.{Makes-cut_log, Makes-traced, appended, journal_unwritten, log_unwritten, trace_behind}
 use Rattle.af_player.proofs.PlayedFaults.{calm_limit, calm_memory, cut_still, fault_behind, ok_still, stopped, suits_stopped, written_still}
 use Rattle.af_player.proofs.tracing.trace.Goals as goal
 
@@ -46,7 +46,7 @@ returns-in_err-write_file-in-Ok-clause-made g c = λ told.
     let e = c.in_err-write_file-in-Ok.field-0.0 in
     let here : Loaded = record { script = c.args.loaded.now.script; files = c.deref.result.now } in
     let same : here ≡ loaded_view c.args.loaded.now = λ k. record { script = c.args.loaded.now.script; files = c.deref.ensures.value k } in
-    let text : c.deref-in-Ok.result.now ≡ log_text log.0 log.1 = c.deref-in-Ok.ensures.value ∙ log.3 in
+    let text : c.deref-in-Ok.result.now ≡ log_text log.0 log.1 = appended c.deref-in-Ok.result.now _ _ (log_text log.0 log.1) c.deref-in-Ok.ensures.value log.3 c.new-text.ensures.items in
     let left =
     log_unwritten here c.args.room p.journal p.ends c.in-Ok.ensures.played log.0 log.1 log.2 c.args.target.now c.args.journal.now c.args.log.now old mid next (c.in-Ok.ensures.written told)
     (c.in_ok-write_journal-in-Ok.ensures.written (c.in-Ok.ensures.tells told)) e new
@@ -65,7 +65,7 @@ returns-in_err-summary_line-in-Ok-clause-made g c = λ told.
     let log = c.in-Ok.ensures.log in
     let here : Loaded = record { script = c.args.loaded.now.script; files = c.deref.result.now } in
     let same : here ≡ loaded_view c.args.loaded.now = λ k. record { script = c.args.loaded.now.script; files = c.deref.ensures.value k } in
-    let text : c.deref-in-Ok.result.now ≡ log_text log.0 log.1 = c.deref-in-Ok.ensures.value ∙ log.3 in
+    let text : c.deref-in-Ok.result.now ≡ log_text log.0 log.1 = appended c.deref-in-Ok.result.now _ _ (log_text log.0 log.1) c.deref-in-Ok.ensures.value log.3 c.new-text.ensures.items in
     let wrote = subst (λ (xs : List ℕ). SetsFile next c.args.log.now (Some xs) new) text (c.in_ok-write_file-in-Ok.ensures.written (c.in_ok-write_journal-in-Ok.ensures.tells (c.in-Ok.ensures.tells told))) in
     Makes-memory c.from_residual-in_err-summary_line-in-Ok.result (Ok (trace_job c.args.target.now c.args.journal.now c.args.log.now c.args.room (loaded_view c.args.loaded.now))) old new c.from_residual-in_err-summary_line-in-Ok.ensures.1
     (subst (λ (l : Loaded). IsCutOff (Ok (trace_job c.args.target.now c.args.journal.now c.args.log.now c.args.room l)) old new) same
@@ -83,7 +83,7 @@ returns-in-Ok-clause-made g c = λ told.
     let line = c.in_ok-summary_line-in-Ok.field-0 in
     let here : Loaded = record { script = c.args.loaded.now.script; files = c.deref.result.now } in
     let same : here ≡ loaded_view c.args.loaded.now = λ k. record { script = c.args.loaded.now.script; files = c.deref.ensures.value k } in
-    let text : c.deref-in-Ok.result.now ≡ log_text log.0 log.1 = c.deref-in-Ok.ensures.value ∙ log.3 in
+    let text : c.deref-in-Ok.result.now ≡ log_text log.0 log.1 = appended c.deref-in-Ok.result.now _ _ (log_text log.0 log.1) c.deref-in-Ok.ensures.value log.3 c.new-text.ensures.items in
     let wrote = subst (λ (xs : List ℕ). SetsFile next c.args.log.now (Some xs) new) text (c.in_ok-write_file-in-Ok.ensures.written (c.in_ok-write_journal-in-Ok.ensures.tells (c.in-Ok.ensures.tells told))) in
     subst (λ (l : Loaded). Makes (Ok line) (Ok (trace_job c.args.target.now c.args.journal.now c.args.log.now c.args.room l)) old new) same
     (Makes-traced here c.args.room p.journal p.ends c.in-Ok.ensures.played log.0 log.1 log.2 c.args.target.now c.args.journal.now c.args.log.now old mid next (c.in-Ok.ensures.written told)
