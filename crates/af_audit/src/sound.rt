@@ -1,12 +1,14 @@
 //! The sound of a journal, by its definition.
-ghost use Rattle.std.specs.Prelude.{◌≡◌, ◌<◌, ◌++◌, length, IfOk, OnOk, OnErr};
-ghost use Rattle.af_base.specs.Log.{entry_at};
+ghost use Rattle.std.specs.Prelude.{◌≡◌, ◌<◌, ◌≤◌, ◌++◌, true, length, All, IfOk, OnOk, OnErr};
+ghost use Rattle.af_base.specs.Log.{entry_at, takes_of};
+ghost use Rattle.af_base.specs.Mix.{mix};
 ghost use Rattle.af_model.specs.Cycles.{is_mixed};
 ghost use Rattle.af_runs.specs.Pcm.{entries_pcm, entry_pcm, journal_pcm};
 
-use af_base::{Cycle, FastLog, Frame, Memory};
+use af_base::{Cycle, FastLog, Frame, Memory, Part};
+use af_gain::{Sum, mix};
 use af_io::bytes_of;
-use af_model::{Journal, mix_entry};
+use af_model::{Journal, mix_entry, parts_of};
 use std::alloc::Global;
 
 // Whether an entry of a log is a mix.
@@ -20,39 +22,89 @@ fn is_mixed(log: &FastLog, index: usize) -> bool
     matches!(entry.cycle, Cycle::Mixed)
 }
 
+// Whether the kernel takes these parts: none is longer than what is asked for, or scaled beyond unity.
+fn are_fit(parts: &[Part<'_>], asked: usize) -> bool
+    ensures { result ≡ true → All (λ part. (length part.frames.now ≤ asked) × (part.scale ≤ 4096)) parts.now }
+{
+    for part in parts {
+        if part.frames.len() > asked || part.scale > 4096 {
+            return false;
+        }
+    }
+    true
+}
+
+// Writes the mix of an entry: by the kernel, and plainly where it doesn't take what the entry tells.
+fn mix_one(log: &FastLog, index: usize, sums: &mut [Sum], out: &mut [Frame])
+    requires there { index < length log.now.entries }
+    requires mixed { is_mixed (entry_at log.now.entries index).cycle ≡ true }
+    requires lengths { length sums.old ≡ length out.old }
+    ensures mix { out.new ≡ mix (takes_of log.now.frames (entry_at log.now.entries index)) (length out.old) }
+    ensures lengths { length sums.new ≡ length sums.old }
+{
+    let Some(entry) = log.entry(index) else {
+        unreachable!()
+    };
+    let parts = parts_of(log.frames(), entry);
+    if are_fit(&parts, out.len()) {
+        mix(&parts, sums, out);
+    } else {
+        mix_entry(log, index, out);
+    }
+}
+
 // Appends the mix of an entry, if it is Mixed.
 fn push_entry(
     log: &FastLog,
     index: usize,
+    sums: &mut [Sum],
     buffer: &mut [Frame],
     out: &mut Vec<u8>,
 ) -> Result<(), Memory>
-    requires { index < length log.now.entries }
+    requires there { index < length log.now.entries }
+    requires lengths { length sums.old ≡ length buffer.old }
     ensures ok { OnOk result (out.new.items ≡ out.old.items ++ entry_pcm (length buffer.old) log.now.frames (entry_at log.now.entries index)) }
     ensures err { OnErr result (out.new.items ≡ out.old.items) }
+    ensures lengths { length sums.new ≡ length sums.old }
 {
     if !is_mixed(log, index) {
         return Ok(());
     }
-    mix_entry(log, index, buffer);
+    mix_one(log, index, sums, buffer);
     bytes_of(buffer, out)
 }
 
-/// Appends the sound of a log whose cycles have so many frames: the bytes of the mix of each Mixed entry, by its definition, plain and slow. After want of memory `out` is as before.
-pub fn pcm(alloc: Global, log: &FastLog, frames: usize, out: &mut Vec<u8>) -> Result<(), Memory>
-    ensures ok { OnOk result (out.new.items ≡ out.old.items ++ entries_pcm frames log.now.frames log.now.entries) }
+// Appends the mixes of all entries, if they are Mixed.
+fn push_entries(
+    log: &FastLog,
+    sums: &mut [Sum],
+    buffer: &mut [Frame],
+    out: &mut Vec<u8>,
+) -> Result<(), Memory>
+    requires { length sums.old ≡ length buffer.old }
+    ensures ok { OnOk result (out.new.items ≡ out.old.items ++ entries_pcm (length buffer.old) log.now.frames log.now.entries) }
     ensures err { OnErr result (out.new.items ≡ out.old.items) }
 {
     let start = out.len();
-    let mut buffer = Vec::with_capacity(alloc, frames)?;
-    buffer.resize(frames, Frame { left: 0, right: 0 })?;
     for index in 0..log.len() {
-        if push_entry(log, index, &mut buffer, out).is_err() {
+        if push_entry(log, index, sums, buffer, out).is_err() {
             out.truncate(start);
             return Err(Memory);
         }
     }
     Ok(())
+}
+
+/// Appends the sound of a log whose cycles have so many frames: the bytes of the mix of each Mixed entry. After want of memory `out` is as before.
+pub fn pcm(alloc: Global, log: &FastLog, frames: usize, out: &mut Vec<u8>) -> Result<(), Memory>
+    ensures ok { OnOk result (out.new.items ≡ out.old.items ++ entries_pcm frames log.now.frames log.now.entries) }
+    ensures err { OnErr result (out.new.items ≡ out.old.items) }
+{
+    let mut buffer = Vec::with_capacity(alloc, frames)?;
+    buffer.resize(frames, Frame { left: 0, right: 0 })?;
+    let mut sums = Vec::with_capacity(alloc, frames)?;
+    sums.resize(frames, Sum { left: 0, right: 0 })?;
+    push_entries(log, &mut sums, &mut buffer, out)
 }
 
 /// The PCM of a journal whose cycles have so many frames.

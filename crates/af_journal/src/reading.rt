@@ -14,10 +14,13 @@ fn hex_of(code: u8) -> Option<u8>
     ensures value { result ≡ hex_at code }
     ensures small { IfSome result (λ d. d < 16) }
 {
-    match code {
-        b'0'..=b'9' => Some(code - b'0'),
-        b'a'..=b'f' => Some(code - 87),
-        _ => None,
+    let is_digit = code.wrapping_sub(b'0') < 10;
+    let is_letter = code.wrapping_sub(b'a') < 6;
+    if is_digit | is_letter {
+        // a letter's lower four bits count from 1
+        Some(code % 16 + 9 * (code / 64))
+    } else {
+        None
     }
 }
 
