@@ -1,20 +1,19 @@
 -- What a log comes to: that of the journal, and what is read of it behind the last meeting.
-use Rattle.std.proofs.Common.{◌≡◌, ℕ, ◌+◌, ◌*◌, ◌≤◌, All, Bool, true, false, Option, Some, None, List, [], ◌∷◌, ◌++◌, length, map, take, drop, refl, sym, ap, subst, ◌∙◌, append-nil, arith, length-append}
+use Rattle.std.proofs.Common.{◌≡◌, ℕ, ◌+◌, ◌≤◌, All, Bool, true, false, Option, Some, None, List, [], ◌∷◌, ◌++◌, length, map, take, drop, refl, sym, ap, subst, ◌∙◌, append-nil, arith, length-append}
 use Rattle.std.specs.List.{flat_map}
 use Rattle.std.proofs.lemmas.List.{length-drop, length-take}
 use Rattle.std.proofs.lemmas.List.Concat.{flat_map-cons}
 use Rattle.std.proofs.lemmas.List.Elements.{All-head, All-tail}
-use Rattle.af_base.specs.declared.log.CycleEntry.{CycleEntry}
 use Rattle.af_base.specs.Log.{Logged}
 use Rattle.af_fast.specs.Mixer.{MixerState}
 use Rattle.af_model.specs.JournalForm.{IsWhole}
 use Rattle.af_model.specs.Journals.{EntrySeen, JournalData, RoundNoted, RoundSeen, RoundsNoted, cycles_of, entries_of, entries_seen, journal_of, rounds_seen}
 use Rattle.af_nblog.specs.declared.entries.Note.{Note}
 use Rattle.af_nblog.specs.NoteEnds.{WriterState, ReaderState, AreInOrder, accepted, read}
-use Rattle.af_nblog.specs.NoteRounds.{HasDrained, IsBetween, count_accepted, last_accepted}
+use Rattle.af_nblog.specs.NoteRounds.{HasDrained, count_accepted, last_accepted}
 use Rattle.af_nblog.proofs.Refusals.{none_refused}
 use Rattle.af_session.specs.Alone.{most_cycles}
-use Rattle.af_session.specs.Logging.{AuditorState, HasAudited, HasEnds, HasLog, HasLogOf, HasMetLog, IsAuditor, LoggingState, LogsPlay, TellsLog, count_refused, notes_kept}
+use Rattle.af_session.specs.Logging.{AuditorState, HasAudited, HasEnds, HasLogOf, HasMetLog, IsAuditor, LoggingState, LogsPlay, TellsLog, count_refused, notes_kept}
 use Rattle.af_session.proofs.JournalSound.{dealt, same_entries, same_length}
 use Rattle.af_session.proofs.LogNotes.{refused_more}
 

@@ -1,8 +1,8 @@
 -- The two ends of a log met.
-use Rattle.std.proofs.Common.{◌≡◌, Option, Some, None, refl, sym, ap, subst, ◌∙◌}
+use Rattle.std.proofs.Common.{◌≡◌, Option, Some, None, refl, ap, subst, ◌∙◌}
 use Rattle.af_cblk.specs.Sides.{Made}
 use Rattle.af_nblog.specs.NoteEnds.{WriterState, ReaderState, writer_made, reader_made}
-use Rattle.af_session.specs.Logging.{AuditorState, HasEnds, HasMetLog, LoggingState, NotesMet, ScribeState, no_log}
+use Rattle.af_session.specs.Logging.{AuditorState, HasMetLog, LoggingState, NotesMet, no_log}
 
 none_some : {X : Type 0} (o : Option X) (x : X) → o ≡ None → o ≡ Some x → ⊥
 none_some o x none some = let e : ⊥ = cc in e

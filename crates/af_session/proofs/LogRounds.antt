@@ -1,5 +1,5 @@
 -- A log goes on by a round: the entries of the round were noted, the other party read, and the two ends met.
-use Rattle.std.proofs.Common.{◌≡◌, ℕ, ◌+◌, ◌-◌, ◌*◌, ◌≤◌, All, Bool, MatchOption, Option, Some, None, List, [], ◌∷◌, ◌++◌, length, map, drop, refl, sym, ap, ◌∙◌, subst, arith, append_assoc, length-append, inl, inr}
+use Rattle.std.proofs.Common.{◌≡◌, ℕ, ◌+◌, ◌≤◌, Bool, MatchOption, Option, Some, None, List, [], ◌∷◌, ◌++◌, length, drop, sym, ap, ◌∙◌, subst, arith, length-append, inl, inr}
 use Rattle.std.specs.List.{flat_map}
 use Rattle.std.proofs.Math.Seq.{drop-append_seam}
 use Rattle.std.proofs.lemmas.List.{append-nil, map-append}
@@ -15,7 +15,7 @@ use Rattle.af_nblog.specs.declared.entries.Note.{Note}
 use Rattle.af_nblog.specs.NoteEnds.{WriterState, ReaderState, AreInOrder, accepted, read, reader_made}
 use Rattle.af_nblog.specs.NoteRounds.{HasDrained, IsBetween}
 use Rattle.af_session.specs.Alone.{most_cycles}
-use Rattle.af_session.specs.Logging.{AreEnds, AuditorState, HasAudited, HasBothLogged, HasEnds, HasLog, HasLogged, HasMetLog, IsAuditor, IsLogged, IsScribe, LoggingState, Logs, LogsPlay, ScribeState, count_refused, no_log, notes_kept}
+use Rattle.af_session.specs.Logging.{AreEnds, AuditorState, HasBothLogged, HasEnds, HasMetLog, IsAuditor, IsLogged, IsScribe, LoggingState, Logs, LogsPlay, ScribeState, count_refused, no_log, notes_kept}
 use Rattle.af_session.proofs.LogNotes.{kept_count, kept_more, refused_more}
 
 -- the outcomes of all rounds, one after the other

@@ -1,9 +1,9 @@
-use Rattle.std.proofs.Common.{◌≡◌, ◌-◌, ◌<◌, ◌≤◌, ℕ, List, length, sym, ap, subst, ◌∙◌, arith}
+use Rattle.std.proofs.Common.{◌≡◌, ◌<◌, ℕ, length, sym, ap, subst, ◌∙◌, arith}
 use Rattle.af_base.specs.Log.{Logged}
 use Rattle.af_fast.specs.Mixer.{MixerState}
 use Rattle.af_runs.specs.Pcm.{written}
 use Rattle.af_session.specs.Logging.{HasLogged, IsScribe}
-use Rattle.af_session.proofs.ScribeTurns.{AddsUpToOne, cycle_adds_up_to_one, last_kept, no_shorter, noted_none, one_longer}
+use Rattle.af_session.proofs.ScribeTurns.{cycle_adds_up_to_one, last_kept, no_shorter, noted_none, one_longer}
 use Rattle.af_session.proofs.alone.cycle_logged.Goals as goal
 
 pub overflow_cast-frames : goal.overflow_cast-frames

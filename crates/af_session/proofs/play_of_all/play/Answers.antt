@@ -1,4 +1,4 @@
-use Rattle.std.proofs.Common.{◌≡◌, ◌≤◌, ℕ, List, None, Some, false, true, inl, refl, sym, ap, subst, ◌∙◌}
+use Rattle.std.proofs.Common.{None, Some, false, inl, refl}
 use Rattle.af_io.specs.Files.{SetsFile}
 use Rattle.af_model.specs.Journals.{JournalData}
 use Rattle.af_session.specs.Ends.{EndsState}

@@ -1,4 +1,4 @@
-use Rattle.std.proofs.Common.{◌≡◌, ◌≤◌, ℕ, List, None, Some, false, true, inl, refl, sym, ap, subst, ◌∙◌}
+use Rattle.std.proofs.Common.{ℕ, Some, false, inl, refl, subst}
 use Rattle.af_io.specs.Files.{SetsFile}
 use Rattle.af_model.specs.Journals.{JournalData}
 use Rattle.af_nblog.specs.NoteEnds.{accepted}
@@ -73,8 +73,8 @@ write-requires g c =
     let begins = subst (λ (n : ℕ). BeginsLog (Some c.args.room) n c.in_ok-logging.logging) c.cycles.ensures.value c.in_ok-logging.ensures in
     record { told = (c.args.script.now.frames, c.args.room, c.in-Ok.played.journal, c.in-Ok.ensures.log (Some c.args.room) begins) }
 
-pub returns-in_ok-write-in-Ok-clause-log : goal.returns-in_ok-write-in-Ok-clause-log
-returns-in_ok-write-in-Ok-clause-log g c =
+pub returns-in-Ok-clause-log : goal.returns-in-Ok-clause-log
+returns-in-Ok-clause-log g c =
     let begins = subst (λ (n : ℕ). BeginsLog (Some c.args.room) n c.in_ok-logging.logging) c.cycles.ensures.value c.in_ok-logging.ensures in
     let h = c.in-Ok.ensures.log (Some c.args.room) begins in
     (accepted h.ends.writer, h.ends.writer.refused, h.is_log, c.in_ok-write-in-Ok.ensures.written c.args.script.now.frames c.args.room c.in-Ok.played.journal h, h.none)

@@ -1,4 +1,4 @@
-use Rattle.std.proofs.Common.{◌≡◌, sym, subst}
+use Rattle.std.proofs.Common.{sym, subst}
 use Rattle.af_fast.specs.Mixer.{MixerState}
 use Rattle.af_session.specs.SideBySide.{HasNotedOn}
 use Rattle.af_tally.specs.Tallies.{Tallied}

@@ -1,4 +1,4 @@
-use Rattle.std.proofs.Common.{◌≡◌, subst}
+use Rattle.std.proofs.Common.{subst}
 use Rattle.af_session.specs.Logging.{HasAudited, HasMetLog, LoggingState}
 use Rattle.af_session.proofs.LogEnds.{finished}
 use Rattle.af_session.proofs.logging.Logging.finish.Goals as goal
