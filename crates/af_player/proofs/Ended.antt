@@ -1,17 +1,16 @@
 -- A work that is over and isn't done: a play that was cut off at its limit, whose files are both whole, or a judgement that refuses. Its line is printed or not.
-use Rattle.std.proofs.Common.{◌≡◌, ◌∙◌, ℕ, ◌++◌, List, [], Option, Some, Result, Ok, Err, IsTrue, is_some, false, ap, arith, inl, inr, length, refl, subst, sym}
+use Rattle.std.proofs.Common.{◌≡◌, ℕ, ◌++◌, List, [], Option, Some, Result, Ok, Err, IsTrue, is_some, false, ap, arith, inl, inr, length, refl, subst, sym}
 use Rattle.std.proofs.lemmas.List.{take_all}
 use Rattle.af_io.specs.Files.{Files, SetsFile, LeavesFront}
 use Rattle.af_io.specs.Outputs.{with_files}
 use Rattle.af_player.specs.declared.status.Ending.{Ending}
 use Rattle.af_player.specs.declared.status.Ending.TheVariants.{Limit, Judged}
 use Rattle.af_player.specs.declared.status.Refusal.{Refusal}
-use Rattle.af_player.specs.declared.status.Status.{Status}
 use Rattle.af_player.specs.declared.status.Status.TheVariants as status
 use Rattle.af_player.specs.declared.status.Stop.{Stop}
 use Rattle.af_player.specs.declared.status.Stop.TheVariants.{Over}
 use Rattle.af_player.specs.Asked.{Job, Work, Exact, Session, Rounds, Judge, Traced}
-use Rattle.af_player.specs.Ends.{AsksEnding, EndsAsAsked, EndsWork, IsCutOff, IsEnded, IsOver, LeavesWork, Printed, Prints, PrintsFront, PrintsOwnLine, PrintsSomeLine, RefusesWork, Renders, Works, work_limit}
+use Rattle.af_player.specs.Ends.{AsksEnding, EndsAsAsked, EndsWork, IsCutOff, IsEnded, IsOver, LeavesWork, Printed, Prints, PrintsFront, PrintsOwnLine, PrintsSomeLine, Renders, Works, work_limit}
 use Rattle.af_player.specs.Line.{ending_text, limit_text}
 use Rattle.af_player.specs.Requests.{Request}
 use Rattle.af_player.specs.Status.{JudgesWords, RefusesWords, ended_status}

@@ -1,5 +1,5 @@
 -- How a command ends that judges a sound and its journal.
-use Rattle.std.proofs.Common.{◌≡◌, ℕ, List, length, Result, Ok, Err, String, IfOk, IsErrAnd, IsErrOf, string_bytes, arith, refl, sym, subst}
+use Rattle.std.proofs.Common.{◌≡◌, ℕ, List, Result, Ok, Err, String, IfOk, IsErrAnd, IsErrOf, string_bytes, sym, subst}
 use Rattle.std.specs.declared.alloc.Global.{Global}
 use Rattle.af_io.specs.Files.{Files, SameFiles}
 use Rattle.af_audit.specs.Verdicts.{IsVerdict}
@@ -8,16 +8,14 @@ use Rattle.af_audit.specs.declared.verdict.Verdict.{Verdict}
 use Rattle.af_audit.specs.declared.verdict.Verdict.TheVariants as verdict
 use Rattle.af_model.specs.Journals.{JournalData}
 use Rattle.af_player.specs.declared.status.Ending.TheVariants as ending
-use Rattle.af_player.specs.declared.status.Refusal.{Refusal}
-use Rattle.af_player.specs.declared.status.Refusal.TheVariants.{Usage, Script, File}
 use Rattle.af_player.specs.declared.status.Stop.{Stop}
 use Rattle.af_player.specs.declared.status.Stop.TheVariants.{Refused, Over, Store, Memory}
-use Rattle.af_player.specs.Asked.{Case, Job, verify_job}
+use Rattle.af_player.specs.Asked.{Case, verify_job}
 use Rattle.af_player.specs.Ends.{Makes}
 use Rattle.af_player.specs.Line.{legal_text}
 use Rattle.af_player.specs.Requests.{Verify}
 use Rattle.af_player.specs.Status.{HasFault, SuitsRequest}
-use Rattle.af_player.specs.Verified.{FoundTo, IsTextFor, IsJudged, IsJudgedIn, IsOfJournal, JudgesTo}
+use Rattle.af_player.specs.Verified.{FoundTo, IsTextFor, IsJudgedIn, JudgesTo}
 use Rattle.af_player.proofs.Made.{IsCutOff-same}
 
 -- ## What is found
