@@ -1,7 +1,7 @@
 -- The fast mixer's turn is legal exactly where the judge finds that its entries may come and that each is right.
 use Rattle.std.specs.Prelude.{slice_get, MatchBool, nat_le}
 use Rattle.std.specs.List.{prefix_len, sum_by}
-use Rattle.std.proofs.Common.{◌≡◌, ◌↔◌, ℕ, suc, ◌+◌, ◌<◌, ◌≤◌, Bool, true, false, if◌then◌else◌, refl, sym, ap, ◌∙◌, subst, map, List, [], ◌∷◌, ◌++◌, append_assoc, append-nil, length, take, length-append, Option, Some, None, arith}
+use Rattle.std.proofs.Common.{◌≡◌, ◌↔◌, ℕ, suc, ◌+◌, ◌<◌, ◌≤◌, ◌==◌, ◌&&◌, Bool, true, false, if◌then◌else◌, refl, sym, ap, ◌∙◌, subst, map, List, [], ◌∷◌, ◌++◌, append_assoc, append-nil, length, take, length-append, Option, Some, None, arith}
 use Rattle.std.proofs.lemmas.Bool.Decides.{nat_tests}
 use Rattle.std.proofs.lemmas.List.{length-drop, length-take, map-append, take-append-drop}
 use Rattle.std.proofs.lemmas.List.Sums.{sum_by-append}
@@ -16,7 +16,7 @@ use Rattle.af_model.specs.Journals.{EntrySeen, RoundSeen, taken_by}
 use Rattle.af_model.proofs.UsedStates.{UseUpTo-more, UseUpTo-push}
 use Rattle.af_runs.specs.Blocks.{Marks}
 use Rattle.af_runs.specs.Clients.{ends}
-use Rattle.af_runs.specs.Rounds.{IsFastTurn, LegalEntries, LegalFastTurn, after_round, after_turn, all_played, before_turn, early_count, early_of, found_in, is_early, late_of, loaded, turned}
+use Rattle.af_runs.specs.Rounds.{IsFastTurn, LegalEntries, LegalFastTurn, after_round, after_turn, all_played, before_turn, early_count, early_of, fills, found_in, is_early, late_of, loaded, turned}
 use Rattle.af_runs.specs.Found.{TurnFound, outside_of}
 use Rattle.af_runs.specs.Runs.{Run, each_track, fast_ended, frames_before, met, pushed_by, with_calls, with_cycle, with_cycles, with_ends, with_load, with_poll, with_turn}
 use Rattle.af_runs.specs.Sessions.{Session, setup_of}
@@ -172,12 +172,12 @@ none-legal s marks run [] e = tt
 none-legal s marks run (x ∷ es) e = absurd (let z : ⊥ = omega (arith, e) in z)
 
 -- the fast mixer's turn is legal, within the cycles that the script allows, and there was room
-pub record IsFastLegal (s : Session) (marks : Marks) (run : Run) (round : RoundSeen) : Type 0 where
-  pub turn : LegalFastTurn false s marks run round
+pub record IsFastLegal (cut : Bool) (s : Session) (marks : Marks) (run : Run) (round : RoundSeen) : Type 0 where
+  pub turn : LegalFastTurn cut s marks run round
   pub within : length run.entries + length round.entries ≤ s.script.cycles
   pub room : length run.entries < s.script.cycles
 
-module _ (s : Session) (marks : Marks) (earlier : List Report) (run : Run) (round : RoundSeen) (f : FastKept) (cycles : ℕ) (log : List CycleEntry) (first : ℕ) (allowed : cycles ≡ s.script.cycles) (fast : FastOf s earlier run f)
+module _ (cut : Bool) (s : Session) (marks : Marks) (earlier : List Report) (run : Run) (round : RoundSeen) (f : FastKept) (cycles : ℕ) (log : List CycleEntry) (first : ℕ) (allowed : cycles ≡ s.script.cycles) (fast : FastOf s earlier run f)
     (are : (i : ℕ) (e : EntrySeen) → slice_get round.entries i ≡ Some e → entry_at log (first + i) ≡ e.entry) where
   abbrev count : ℕ
   count = length round.entries
@@ -191,18 +191,26 @@ module _ (s : Session) (marks : Marks) (earlier : List Report) (run : Run) (roun
 
   -- no entries of one that has ended, and else a legal turn
   abbrev Turned : Bool → Type 0
-  Turned b = MatchBool b (round.entries ≡ []) (IsFastTurn 16 false round.entries × Early × Late)
+  Turned b = MatchBool b (round.entries ≡ []) (IsFastTurn 16 (cut && fills s run round) round.entries × Early × Late)
 
   told-so : f.told.report.cycle ≡ length run.entries
   told-so = ap (λ (r : Report). r.cycle) fast.report ∙ fast.numbered.cycle
 
-  turn-to : (b : Bool) → MatchBool b (count ≡ 0) (EndsAsTurn log first count 16 false) → Early → Late → Turned b
-  turn-to true none early late = none-by round.entries none
-  turn-to false ends early late = ((turn_exact log first 16 false round.entries are).0 ends, early, late)
+  -- the entries end as a turn, where no mixer has ended
+  abbrev Ends : Bool → Bool → Type 0
+  Ends full b = MatchBool b (count ≡ 0) (EndsAsTurn log first count 16 full)
 
-  turn-from : (b : Bool) → Turned b → MatchBool b (count ≡ 0) (EndsAsTurn log first count 16 false)
+  -- the log is full in the run as it is told
+  full-so : (cut && f.told.report.cycle + count == cycles) ≡ (cut && fills s run round)
+  full-so = λ i. cut && told-so i + count == allowed i
+
+  turn-to : (b : Bool) → Ends (cut && fills s run round) b → Early → Late → Turned b
+  turn-to true none early late = none-by round.entries none
+  turn-to false ends early late = ((turn_exact log first 16 (cut && fills s run round) round.entries are).0 ends, early, late)
+
+  turn-from : (b : Bool) → Turned b → Ends (cut && fills s run round) b
   turn-from true none = ap (λ (es : List EntrySeen). length es) none
-  turn-from false turn = (turn_exact log first 16 false round.entries are).1 turn.0
+  turn-from false turn = (turn_exact log first 16 (cut && fills s run round) round.entries are).1 turn.0
 
   both-from : (b : Bool) → Turned b → Early × Late
   both-from true none =
@@ -213,11 +221,11 @@ module _ (s : Session) (marks : Marks) (earlier : List Report) (run : Run) (roun
   both-from false turn = (turn.1, turn.2)
 
   -- the entries may come and are legal
-  pub fast_exact : (MayEnter f cycles log first count × Early × Late) ↔ IsFastLegal s marks run round
+  pub fast_exact : (MayEnter cut f cycles log first count × Early × Late) ↔ IsFastLegal cut s marks run round
   fast_exact =
       let told = told-so in (
         (λ h. record {
-          turn = subst Turned fast.ended (turn-to f.ended h.0.turn h.1 h.2);
+          turn = subst Turned fast.ended (turn-to f.ended (subst (λ (full : Bool). Ends full f.ended) full-so h.0.turn) h.1 h.2);
           within = (let w = h.0.within in omega (arith, w, told, allowed));
           room = (let r = h.0.room in omega (arith, r, told, allowed));
         }),
@@ -225,7 +233,7 @@ module _ (s : Session) (marks : Marks) (earlier : List Report) (run : Run) (roun
           record {
             room = (let r = h.room in omega (arith, r, told, allowed));
             within = (let w = h.within in omega (arith, w, told, allowed));
-            turn = turn-from f.ended (subst Turned (sym fast.ended) h.turn);
+            turn = subst (λ (full : Bool). Ends full f.ended) (sym full-so) (turn-from f.ended (subst Turned (sym fast.ended) h.turn));
           },
           (both-from (fast_ended run) h.turn).0,
           (both-from (fast_ended run) h.turn).1,
@@ -235,18 +243,18 @@ module _ (s : Session) (marks : Marks) (earlier : List Report) (run : Run) (roun
 -- ## What the judge finds
 
 -- the entries of a round may come and are right exactly where the fast mixer's turn is legal, by what is kept before the round and after its calls, and after the normal mixer's turn
-pub fast_judged : (s : Session) (marks : Marks) (W V : ℕ → Type 0) (earlier : List Report) (frames : List Frame) (run : Run) (round : RoundSeen) (f : FastKept) (p q : Playing) (cycles : ℕ) (log : List CycleEntry) (first : ℕ) → cycles ≡ s.script.cycles
+pub fast_judged : (cut : Bool) (s : Session) (marks : Marks) (W V : ℕ → Type 0) (earlier : List Report) (frames : List Frame) (run : Run) (round : RoundSeen) (f : FastKept) (p q : Playing) (cycles : ℕ) (log : List CycleEntry) (first : ℕ) → cycles ≡ s.script.cycles
     → FastOf s earlier run f → KeepsPlaying s marks W earlier p (with_calls round run) → KeepsPlaying s marks V earlier q (after_turn s run round) → AreFormed frames (frames_before run) round.entries
     → ((i : ℕ) (e : EntrySeen) → slice_get round.entries i ≡ Some e → entry_at log (first + i) ≡ e.entry)
-    → (MayEnter f cycles log first (length round.entries) × AreEntriesRight run.states frames (entries_in (early_of run round)) p × AreEntriesRight (after_turn s run round).states frames (entries_in (late_of run round)) q) ↔ IsFastLegal s marks run round
-fast_judged s marks W V earlier frames run round f p q cycles log first allowed fast before after formed are =
+    → (MayEnter cut f cycles log first (length round.entries) × AreEntriesRight run.states frames (entries_in (early_of run round)) p × AreEntriesRight (after_turn s run round).states frames (entries_in (late_of run round)) q) ↔ IsFastLegal cut s marks run round
+fast_judged cut s marks W V earlier frames run round f p q cycles log first allowed fast before after formed are =
     let start = with_calls round run in
     let early-place : frames_before run ≡ frames_before start = ap (sum_by taken_by) (sym (calls-entries round run)) in
     let late-place : frames_before run + sum_by taken_by (map (λ e. e.entry) (early_of run round)) ≡ frames_before (after_turn s run round) =
     sym (sum_by-append taken_by run.entries (entries_in (early_of run round))) ∙ ap (sum_by taken_by) (sym (turn_entries s run round)) in
     let early = entries_right s marks W earlier frames (early_of run round) p start (subst (λ (n : ℕ). AreFormed frames n (early_of run round)) early-place (formed_front frames (frames_before run) (early_count run round) round.entries formed)) before in
     let late = entries_right s marks V earlier frames (late_of run round) q (after_turn s run round) (subst (λ (n : ℕ). AreFormed frames n (late_of run round)) late-place (formed_rest frames (frames_before run) (early_count run round) round.entries formed)) after in
-    let exact = fast_exact s marks earlier run round f cycles log first allowed fast are in
+    let exact = fast_exact cut s marks earlier run round f cycles log first allowed fast are in
     let Early : List FastState → Type 0 = λ xs. AreEntriesRight xs frames (entries_in (early_of run round)) p in
     let states : start.states ≡ run.states = calls_states round run in (
       (λ h. exact.0 (h.0, early.0 (subst Early (sym states) h.1), late.0 h.2)),

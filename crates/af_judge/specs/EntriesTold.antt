@@ -1,5 +1,5 @@
 -- What some entries of a log leave, told one after the other, and when all are right.
-use Rattle.std.specs.Prelude.{◌≡◌, ℕ, ◌+◌, ◌<◌, ◌≤◌, false, MatchBool, fold, List, [], ◌∷◌}
+use Rattle.std.specs.Prelude.{◌≡◌, ℕ, ◌+◌, ◌<◌, ◌≤◌, ◌==◌, ◌&&◌, Bool, MatchBool, fold, List, [], ◌∷◌}
 use Rattle.af_base.specs.declared.frame.Frame.{Frame}
 use Rattle.af_base.specs.declared.log.CycleEntry.{CycleEntry}
 use Rattle.af_base.specs.declared.state.FastState.{FastState}
@@ -39,8 +39,8 @@ abbrev pub AreFormed : List Frame → ℕ → List EntrySeen → Type 0
 AreFormed frames place [] = Unit {0}
 AreFormed frames place (e ∷ es) = StandsIn frames e × IsEntry place e.entry × AreFormed frames (place + taken_by e.entry) es
 
--- So many entries of a log from a place on may follow, by a script of so many cycles: there is room for them, none come after the end, and else they are a turn
-pub record MayEnter (f : FastKept) (cycles : ℕ) (entries : List CycleEntry) (first count : ℕ) : Type 0 where
+-- So many entries of a log from a place on may follow, by a script of so many cycles: there is room for them, none come after the end, and else they are a turn. `cut` says whether it may end since the log is full
+pub record MayEnter (cut : Bool) (f : FastKept) (cycles : ℕ) (entries : List CycleEntry) (first count : ℕ) : Type 0 where
   pub room : f.told.report.cycle < cycles
   pub within : f.told.report.cycle + count ≤ cycles
-  pub turn : MatchBool f.ended (count ≡ 0) (EndsAsTurn entries first count 16 false)
+  pub turn : MatchBool f.ended (count ≡ 0) (EndsAsTurn entries first count 16 (cut && f.told.report.cycle + count == cycles))
