@@ -1,15 +1,19 @@
 -- The first fault of a journal, by what is found of its rounds one after the other.
-use Rattle.std.proofs.Common.{◌≡◌, true, ℕ, zero, suc, ◌+◌, ◌<◌, ◌≤◌, List, [], ◌∷◌, ◌++◌, length, take, drop, fold, Option, Some, None, arith, refl, sym, ap, subst, ◌∙◌}
-use Rattle.std.specs.Prelude.{slice_index_or}
+use Rattle.std.proofs.Common.{◌≡◌, Bool, true, false, ℕ, zero, suc, ◌+◌, ◌<◌, ◌≤◌, List, [], ◌∷◌, ◌++◌, append-nil, length, take, drop, fold, Option, Some, None, arith, refl, sym, ap, subst, ◌∙◌}
+use Rattle.std.specs.Prelude.{is_none, slice_index_or}
 use Rattle.af_model.specs.Journals.{RoundSeen, no_round}
 use Rattle.af_runs.specs.Blocks.{Marks}
 use Rattle.af_runs.specs.LegalRuns.{run_from}
 use Rattle.af_runs.specs.Rounds.{after_round}
 use Rattle.af_runs.specs.Runs.{Run, all_ended, fast_party, has_ended, new_run}
 use Rattle.af_runs.specs.Sessions.{Session}
-use Rattle.af_audit.specs.RunKept.{AllBefore, FindsFault, LeastBelow, at_end, run_before}
-use Rattle.af_audit.specs.Verdicts.{AllClear, AreClear, IsClear, IsFirstFault}
+use Rattle.af_judge.specs.declared.track_judge.TrackJudge.{TrackJudge}
+use Rattle.af_life.specs.Kept.{NormalKept}
+use Rattle.af_audit.specs.declared.run_judge.RunJudge.{RunJudge}
+use Rattle.af_audit.specs.RunKept.{FindsFault, FindsUnclear, LeastBelow, at_end, party_ended, run_before}
+use Rattle.af_audit.specs.Verdicts.{AllBefore, AllClear, AreClear, IsClear, IsFirstFault}
 use Rattle.af_audit.proofs.LeastOnes.{all_clear, fault_at_end, fault_here}
+use Rattle.af_audit.proofs.PartiesEnded.{all_is, going_least}
 
 -- some rounds more
 pub from-more : (s : Session) (run : Run) (first rest : List RoundSeen) → run_from s run (first ++ rest) ≡ run_from s (run_from s run first) rest
@@ -33,24 +37,24 @@ drop-here (r ∷ rs) (suc n) lt = drop-here rs n (omega (arith, lt))
 pub run_next : (s : Session) (rounds : List RoundSeen) (n : ℕ) → n < length rounds → run_before s rounds (n + 1) ≡ after_round s (run_before s rounds n) (slice_index_or rounds n no_round)
 run_next s rounds n lt = ap (run_from s (new_run s)) (take-more rounds n lt) ∙ from-more s (new_run s) (take n rounds) (slice_index_or rounds n no_round ∷ [])
 
-before-more : (s : Session) (marks : Marks) (run : Run) (first : List RoundSeen) (round : RoundSeen) → AllBefore s marks run first → AreClear s marks (run_from s run first) round → AllBefore s marks run (first ++ round ∷ [])
-before-more s marks run [] round h clear = (clear, tt)
-before-more s marks run (r ∷ first) round h clear = (h.0, before-more s marks (after_round s run r) first round h.1 clear)
+before-more : (cut : Bool) (s : Session) (marks : Marks) (run : Run) (first : List RoundSeen) (round : RoundSeen) → AllBefore cut s marks run first → AreClear cut s marks (run_from s run first) round → AllBefore cut s marks run (first ++ round ∷ [])
+before-more cut s marks run [] round h clear = (clear, tt)
+before-more cut s marks run (r ∷ first) round h clear = (h.0, before-more cut s marks (after_round s run r) first round h.1 clear)
 
 -- one round more is clear
-pub clear_more : (s : Session) (marks : Marks) (rounds : List RoundSeen) (n : ℕ) → n < length rounds → AllBefore s marks (new_run s) (take n rounds) → LeastBelow (IsClear s marks (run_before s rounds n) (slice_index_or rounds n no_round)) (fast_party s + 1) None
-    → AllBefore s marks (new_run s) (take (n + 1) rounds)
-clear_more s marks rounds n lt h least =
+pub clear_more : (cut : Bool) (s : Session) (marks : Marks) (rounds : List RoundSeen) (n : ℕ) → n < length rounds → AllBefore cut s marks (new_run s) (take n rounds) → LeastBelow (IsClear cut s marks (run_before s rounds n) (slice_index_or rounds n no_round)) (fast_party s + 1) None
+    → AllBefore cut s marks (new_run s) (take (n + 1) rounds)
+clear_more cut s marks rounds n lt h least =
     let round = slice_index_or rounds n no_round in
-    subst (AllBefore s marks (new_run s)) (sym (take-more rounds n lt)) (before-more s marks (new_run s) (take n rounds) round h (all_clear s marks (run_before s rounds n) round least))
+    subst (AllBefore cut s marks (new_run s)) (sym (take-more rounds n lt)) (before-more cut s marks (new_run s) (take n rounds) round h (all_clear cut s marks (run_before s rounds n) round least))
 
 -- behind clear rounds
-fault-behind : (s : Session) (marks : Marks) (run : Run) (first rest : List RoundSeen) (number party : ℕ) → AllBefore s marks run first → IsFirstFault s marks (run_from s run first) rest number party → IsFirstFault s marks run (first ++ rest) (length first + number) party
-fault-behind s marks run [] rest number party h fault = subst (λ (k : ℕ). IsFirstFault s marks run rest k party) (let e : number ≡ 0 + number = omega arith in e) fault
-fault-behind s marks run (r ∷ first) rest number party h fault =
-    subst (λ (k : ℕ). IsFirstFault s marks run (r ∷ (first ++ rest)) k party) (let e : suc (length first + number) ≡ suc (length first) + number = omega arith in e) (h.0, fault-behind s marks (after_round s run r) first rest number party h.1 fault)
+fault-behind : (cut : Bool) (s : Session) (marks : Marks) (run : Run) (first rest : List RoundSeen) (number party : ℕ) → AllBefore cut s marks run first → IsFirstFault cut s marks (run_from s run first) rest number party → IsFirstFault cut s marks run (first ++ rest) (length first + number) party
+fault-behind cut s marks run [] rest number party h fault = subst (λ (k : ℕ). IsFirstFault cut s marks run rest k party) (let e : number ≡ 0 + number = omega arith in e) fault
+fault-behind cut s marks run (r ∷ first) rest number party h fault =
+    subst (λ (k : ℕ). IsFirstFault cut s marks run (r ∷ (first ++ rest)) k party) (let e : suc (length first + number) ≡ suc (length first) + number = omega arith in e) (h.0, fault-behind cut s marks (after_round s run r) first rest number party h.1 fault)
 
-clear-behind : (s : Session) (marks : Marks) (run : Run) (first : List RoundSeen) → AllBefore s marks run first → all_ended s (run_from s run first) ≡ true → AllClear s marks run first
+clear-behind : (s : Session) (marks : Marks) (run : Run) (first : List RoundSeen) → AllBefore false s marks run first → all_ended s (run_from s run first) ≡ true → AllClear s marks run first
 clear-behind s marks run [] h ended = ended
 clear-behind s marks run (r ∷ first) h ended = (h.0, clear-behind s marks (after_round s run r) first h.1 ended)
 
@@ -65,35 +69,35 @@ taken [] (suc n) le = absurd (let z : ⊥ = omega (arith, le) in z)
 taken (r ∷ rs) (suc n) le = ap (λ k. suc k) (taken rs n (omega (arith, le)))
 
 -- a party found in the round behind clear ones is the first fault
-pub found_here : (s : Session) (marks : Marks) (rounds : List RoundSeen) (n party : ℕ) → n < length rounds → AllBefore s marks (new_run s) (take n rounds)
-    → LeastBelow (IsClear s marks (run_before s rounds n) (slice_index_or rounds n no_round)) (fast_party s + 1) (Some party) → FindsFault s marks (new_run s) rounds (Some (n, party))
-found_here s marks rounds n party lt h least =
+pub found_here : (cut : Bool) (s : Session) (marks : Marks) (rounds : List RoundSeen) (n party : ℕ) → n < length rounds → AllBefore cut s marks (new_run s) (take n rounds)
+    → LeastBelow (IsClear cut s marks (run_before s rounds n) (slice_index_or rounds n no_round)) (fast_party s + 1) (Some party) → IsFirstFault cut s marks (new_run s) rounds n party
+found_here cut s marks rounds n party lt h least =
     let run = run_before s rounds n in
     let round = slice_index_or rounds n no_round in
-    let rest : IsFirstFault s marks run (drop n rounds) 0 party = subst (λ (l : List RoundSeen). IsFirstFault s marks run l 0 party) (sym (drop-here rounds n lt)) (fault_here s marks run round (drop (suc n) rounds) party least) in
-    subst (λ (k : ℕ). IsFirstFault s marks (new_run s) rounds k party) (let t = taken rounds n (let x : n ≤ length rounds = omega (arith, lt) in x) in let e : length (take n rounds) + 0 ≡ n = omega (arith, t) in e)
-    (subst (λ (l : List RoundSeen). IsFirstFault s marks (new_run s) l (length (take n rounds) + 0) party) (join rounds n) (fault-behind s marks (new_run s) (take n rounds) (drop n rounds) 0 party h rest))
+    let rest : IsFirstFault cut s marks run (drop n rounds) 0 party = subst (λ (l : List RoundSeen). IsFirstFault cut s marks run l 0 party) (sym (drop-here rounds n lt)) (fault_here cut s marks run round (drop (suc n) rounds) party least) in
+    subst (λ (k : ℕ). IsFirstFault cut s marks (new_run s) rounds k party) (let t = taken rounds n (let x : n ≤ length rounds = omega (arith, lt) in x) in let e : length (take n rounds) + 0 ≡ n = omega (arith, t) in e)
+    (subst (λ (l : List RoundSeen). IsFirstFault cut s marks (new_run s) l (length (take n rounds) + 0) party) (join rounds n) (fault-behind cut s marks (new_run s) (take n rounds) (drop n rounds) 0 party h rest))
 
-all-taken : (rounds : List RoundSeen) (n : ℕ) → length rounds ≤ n → take n rounds ≡ rounds
-all-taken [] zero le = refl
-all-taken [] (suc n) le = refl
-all-taken (r ∷ rs) zero le = absurd (omega (arith, le))
-all-taken (r ∷ rs) (suc n) le = ap (λ (l : List RoundSeen). r ∷ l) (all-taken rs n (omega (arith, le)))
+-- all rounds were taken
+pub all_taken : (rounds : List RoundSeen) (n : ℕ) → length rounds ≤ n → take n rounds ≡ rounds
+all_taken [] zero le = refl
+all_taken [] (suc n) le = refl
+all_taken (r ∷ rs) zero le = absurd (omega (arith, le))
+all_taken (r ∷ rs) (suc n) le = ap (λ (l : List RoundSeen). r ∷ l) (all_taken rs n (omega (arith, le)))
 
 -- behind all rounds the least party that hasn't ended is at fault, or there is none
-pub found_at_end : (s : Session) (marks : Marks) (rounds : List RoundSeen) (n : ℕ) (found : Option ℕ) → length rounds ≤ n → AllBefore s marks (new_run s) (take n rounds)
-    → (found ≡ None → all_ended s (run_before s rounds n) ≡ true) → LeastBelow (λ p. has_ended s (run_before s rounds n) p ≡ true) (fast_party s + 1) found → FindsFault s marks (new_run s) rounds (at_end (length rounds) found)
-found_at_end s marks rounds n None le h ended least =
-    subst (AllClear s marks (new_run s)) (all-taken rounds n le) (clear-behind s marks (new_run s) (take n rounds) h (ended refl))
-found_at_end s marks rounds n (Some party) le h ended least =
-    let all = all-taken rounds n le in
-    let rest : IsFirstFault s marks (run_before s rounds n) [] 0 party = fault_at_end s marks (run_before s rounds n) party least in
-    let whole : take n rounds ++ [] ≡ rounds = ap (λ (l : List RoundSeen). take n rounds ++ l) (sym (none-left rounds n le)) ∙ join rounds n in
-    subst (λ (k : ℕ). IsFirstFault s marks (new_run s) rounds k party) (let t = ap length all in let e : length (take n rounds) + 0 ≡ length rounds = omega (arith, t) in e)
-    (subst (λ (l : List RoundSeen). IsFirstFault s marks (new_run s) l (length (take n rounds) + 0) party) whole (fault-behind s marks (new_run s) (take n rounds) [] 0 party h rest))
-  where
-    none-left : (rounds : List RoundSeen) (n : ℕ) → length rounds ≤ n → drop n rounds ≡ []
-    none-left [] zero le = refl
-    none-left [] (suc n) le = refl
-    none-left (r ∷ rs) zero le = absurd (omega (arith, le))
-    none-left (r ∷ rs) (suc n) le = none-left rs n (omega (arith, le))
+pub found_at_end : (s : Session) (marks : Marks) (run : Run) (rounds : List RoundSeen) (found : Option ℕ) → AllBefore false s marks run rounds
+    → all_ended s (run_from s run rounds) ≡ is_none found → LeastBelow (λ p. has_ended s (run_from s run rounds) p ≡ true) (fast_party s + 1) found → FindsFault s marks run rounds (at_end (length rounds) found)
+found_at_end s marks run rounds None h ended least = clear-behind s marks run rounds h ended
+found_at_end s marks run rounds (Some party) h ended least =
+    subst (λ (k : ℕ). IsFirstFault false s marks run rounds k party) (let e : length rounds + 0 ≡ length rounds = omega arith in e)
+    (subst (λ (l : List RoundSeen). IsFirstFault false s marks run l (length rounds + 0) party) (append-nil rounds) (fault-behind false s marks run rounds [] 0 party h (fault_at_end false s marks (run_from s run rounds) party least)))
+
+-- so it is by what is kept behind clear rounds
+pub found_last : (s : Session) (marks : Marks) (rounds : List RoundSeen) (j : RunJudge) (tracks : List TrackJudge) (found : Option ℕ) → FindsUnclear false s marks (new_run s) rounds j tracks None → LeastBelow (λ p. party_ended j tracks p ≡ true) (length tracks + 2) found
+    → FindsFault s marks (new_run s) rounds (at_end (length rounds) found)
+found_last s marks rounds j tracks found clear least =
+    let run = run_from s (new_run s) rounds in
+    let kept = clear.1 in
+    let ended = ap (λ (m : NormalKept). m.ended) kept.normal.kept in
+    found_at_end s marks (new_run s) rounds found clear.0 (all_is s marks j tracks run kept.of_tracks ended kept.fast.ended found least) (going_least s marks j tracks run kept.of_tracks ended kept.fast.ended found least)

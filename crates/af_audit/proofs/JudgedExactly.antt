@@ -38,30 +38,30 @@ one_more : (n : ℕ) → (n + 1 == n) ≡ false
 one_more n = grind (arith, nat_tests)
 
 -- the parts of a round by parties
-pub client_part : (s : Session) (marks : Marks) (run : Run) (round : RoundSeen) (track : ℕ) → track < track_count s → IsClear s marks run round track → ClientIsClear s run round track
-client_part s marks run round track h clear = where_true _ (nat_lt track (normal_party s)) (below track (track_count s) h) clear
+pub client_part : (cut : Bool) (s : Session) (marks : Marks) (run : Run) (round : RoundSeen) (track : ℕ) → track < track_count s → IsClear cut s marks run round track → ClientIsClear s run round track
+client_part cut s marks run round track h clear = where_true _ (nat_lt track (normal_party s)) (below track (track_count s) h) clear
 
-pub normal_part : (s : Session) (marks : Marks) (run : Run) (round : RoundSeen) → IsClear s marks run round (normal_party s) → NormalIsClear s marks run round
-normal_part s marks run round clear = where_true _ (normal_party s == normal_party s) (same (normal_party s)) (where_false _ (nat_lt (normal_party s) (normal_party s)) (not_below (normal_party s) (normal_party s) (omega arith)) clear)
+pub normal_part : (cut : Bool) (s : Session) (marks : Marks) (run : Run) (round : RoundSeen) → IsClear cut s marks run round (normal_party s) → NormalIsClear s marks run round
+normal_part cut s marks run round clear = where_true _ (normal_party s == normal_party s) (same (normal_party s)) (where_false _ (nat_lt (normal_party s) (normal_party s)) (not_below (normal_party s) (normal_party s) (omega arith)) clear)
 
-pub fast_part : (s : Session) (marks : Marks) (run : Run) (round : RoundSeen) → IsClear s marks run round (fast_party s) → FastIsClear s marks run round
-fast_part s marks run round clear = where_false _ (fast_party s == normal_party s) (one_more (normal_party s)) (where_false _ (nat_lt (fast_party s) (normal_party s)) (not_below (fast_party s) (normal_party s) (omega arith)) clear)
+pub fast_part : (cut : Bool) (s : Session) (marks : Marks) (run : Run) (round : RoundSeen) → IsClear cut s marks run round (fast_party s) → FastIsClear cut s marks run round
+fast_part cut s marks run round clear = where_false _ (fast_party s == normal_party s) (one_more (normal_party s)) (where_false _ (nat_lt (fast_party s) (normal_party s)) (not_below (fast_party s) (normal_party s) (omega arith)) clear)
 
 -- a round in which every party is clear is legal
-pub round_legal : (s : Session) (marks : Marks) (run : Run) (round : RoundSeen) → 0 < track_count s → AreClear s marks run round → LegalRound false s marks run round
-round_legal s marks run round some clear =
-    let first = client_part s marks run round 0 some (clear 0 (omega arith)) in
-    let normal = normal_part s marks run round (clear (normal_party s) (omega arith)) in
-    let fast = fast_part s marks run round (clear (fast_party s) (omega arith)) in
+pub round_legal : (cut : Bool) (s : Session) (marks : Marks) (run : Run) (round : RoundSeen) → 0 < track_count s → AreClear cut s marks run round → LegalRound cut s marks run round
+round_legal cut s marks run round some clear =
+    let first = client_part cut s marks run round 0 some (clear 0 (omega arith)) in
+    let normal = normal_part cut s marks run round (clear (normal_party s) (omega arith)) in
+    let fast = fast_part cut s marks run round (clear (fast_party s) (omega arith)) in
     record {
       follows = record { going = first.going refl; room = fast.room; within = fast.within };
-      turns = record { clients = λ track h. (client_part s marks run round track h (clear track (omega (arith, h)))).turn; normal = normal.turn; fast = fast.turn };
-      histories = record { blocks = λ track h. (client_part s marks run round track h (clear track (omega (arith, h)))).histories; shared = normal.histories };
+      turns = record { clients = λ track h. (client_part cut s marks run round track h (clear track (omega (arith, h)))).turn; normal = normal.turn; fast = fast.turn };
+      histories = record { blocks = λ track h. (client_part cut s marks run round track h (clear track (omega (arith, h)))).histories; shared = normal.histories };
     }
 
 -- in a legal round every party is clear
-pub round_clear : (s : Session) (marks : Marks) (run : Run) (round : RoundSeen) → LegalRound false s marks run round → (party : ℕ) → IsClear s marks run round party
-round_clear s marks run round legal party =
+pub round_clear : (cut : Bool) (s : Session) (marks : Marks) (run : Run) (round : RoundSeen) → LegalRound cut s marks run round → (party : ℕ) → IsClear cut s marks run round party
+round_clear cut s marks run round legal party =
     either (nat_lt party (normal_party s))
     (λ e. record { going = λ first. legal.follows.going; turn = legal.turns.clients party (is_below party (track_count s) e); histories = legal.histories.blocks party (is_below party (track_count s) e) })
     (λ e. either (party == normal_party s) (λ e. record { turn = legal.turns.normal; histories = legal.histories.shared }) (λ e. record { turn = legal.turns.fast; within = legal.follows.within; room = legal.follows.room }))
@@ -70,11 +70,11 @@ rounds_legal : (s : Session) (marks : Marks) (run : Run) (rounds : List RoundSee
 rounds_legal s marks run [] some clear = (tt, clear)
 rounds_legal s marks run (round ∷ rounds) some clear =
     let rest = rounds_legal s marks (after_round s run round) rounds some clear.1 in
-    ((round_legal s marks run round some clear.0, rest.0), rest.1)
+    ((round_legal false s marks run round some clear.0, rest.0), rest.1)
 
 rounds_clear : (s : Session) (marks : Marks) (run : Run) (rounds : List RoundSeen) → LegalRounds false s marks run rounds → all_ended s (run_from s run rounds) ≡ true → AllClear s marks run rounds
 rounds_clear s marks run [] legal ends = ends
-rounds_clear s marks run (round ∷ rounds) legal ends = ((λ party h. round_clear s marks run round legal.0 party), rounds_clear s marks (after_round s run round) rounds legal.1 ends)
+rounds_clear s marks run (round ∷ rounds) legal ends = ((λ party h. round_clear false s marks run round legal.0 party), rounds_clear s marks (after_round s run round) rounds legal.1 ends)
 
 pub legal_exactly : (script : ScriptData) (files : List (List Frame)) (j : JournalData) (pcm : List ℕ) → LegalExactly script files j pcm
 legal_exactly script files j pcm may =

@@ -105,17 +105,17 @@ module _ (Clear Turn Met : ℕ → Type 0) (tracks : ℕ) (f : Found) where
   found_least false h = party (lesser f.caller f.met) h (least_lesser Turn Met tracks f.caller f.met h.caller_is h.met_is)
 
 -- a round in which no party is found has no fault
-pub all_clear : (s : Session) (marks : Marks) (run : Run) (round : RoundSeen) → LeastBelow (IsClear s marks run round) (fast_party s + 1) None → AreClear s marks run round
-all_clear s marks run round h = λ party low. h party (omega (arith, low))
+pub all_clear : (cut : Bool) (s : Session) (marks : Marks) (run : Run) (round : RoundSeen) → LeastBelow (IsClear cut s marks run round) (fast_party s + 1) None → AreClear cut s marks run round
+all_clear cut s marks run round h = λ party low. h party (omega (arith, low))
 
 -- a party found in the first round is the first fault
-pub fault_here : (s : Session) (marks : Marks) (run : Run) (round : RoundSeen) (rounds : List RoundSeen) (party : ℕ) → LeastBelow (IsClear s marks run round) (fast_party s + 1) (Some party) → IsFirstFault s marks run (round ∷ rounds) 0 party
-fault_here s marks run round rounds party h = least_without (IsClear s marks run round) (fast_party s) party h
+pub fault_here : (cut : Bool) (s : Session) (marks : Marks) (run : Run) (round : RoundSeen) (rounds : List RoundSeen) (party : ℕ) → LeastBelow (IsClear cut s marks run round) (fast_party s + 1) (Some party) → IsFirstFault cut s marks run (round ∷ rounds) 0 party
+fault_here cut s marks run round rounds party h = least_without (IsClear cut s marks run round) (fast_party s) party h
 
 -- and one found later is, where the first round is clear
-pub fault_later : (s : Session) (marks : Marks) (run : Run) (round : RoundSeen) (rounds : List RoundSeen) (number party : ℕ) → LeastBelow (IsClear s marks run round) (fast_party s + 1) None → IsFirstFault s marks (after_round s run round) rounds number party → IsFirstFault s marks run (round ∷ rounds) (suc number) party
-fault_later s marks run round rounds number party h rest = (all_clear s marks run round h, rest)
+pub fault_later : (cut : Bool) (s : Session) (marks : Marks) (run : Run) (round : RoundSeen) (rounds : List RoundSeen) (number party : ℕ) → LeastBelow (IsClear cut s marks run round) (fast_party s + 1) None → IsFirstFault cut s marks (after_round s run round) rounds number party → IsFirstFault cut s marks run (round ∷ rounds) (suc number) party
+fault_later cut s marks run round rounds number party h rest = (all_clear cut s marks run round h, rest)
 
 -- after the last round the least party that hasn't ended is at fault
-pub fault_at_end : (s : Session) (marks : Marks) (run : Run) (party : ℕ) → LeastBelow (λ p. has_ended s run p ≡ true) (fast_party s + 1) (Some party) → IsFirstFault s marks run [] 0 party
-fault_at_end s marks run party h = (refl, least_without (λ p. has_ended s run p ≡ true) (fast_party s) party h)
+pub fault_at_end : (cut : Bool) (s : Session) (marks : Marks) (run : Run) (party : ℕ) → LeastBelow (λ p. has_ended s run p ≡ true) (fast_party s + 1) (Some party) → IsFirstFault cut s marks run [] 0 party
+fault_at_end cut s marks run party h = (refl, least_without (λ p. has_ended s run p ≡ true) (fast_party s) party h)

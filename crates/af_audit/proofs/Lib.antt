@@ -1,5 +1,7 @@
 mod JudgedExactly
+mod JournalJudged
 mod RunEnds
+mod RunMayEnd
 mod OneVerdict
 mod RoundParts
 mod LeastOnes

@@ -43,15 +43,15 @@ pub each_ended : (s : Session) (run : Run) (party : ℕ) → all_ended s run ≡
 each_ended s run party h low = subst (λ n. has_ended s run n ≡ true) (omega arith) (passes (has_ended s run) 0 (fast_party s + 1) party h (omega (arith, low)))
 
 -- where no party has a fault, there is no first one
-clear-no_fault : (s : Session) (marks : Marks) (run : Run) (rounds : List RoundSeen) (number party : ℕ) → AllClear s marks run rounds → IsFirstFault s marks run rounds number party → ⊥
+clear-no_fault : (s : Session) (marks : Marks) (run : Run) (rounds : List RoundSeen) (number party : ℕ) → AllClear s marks run rounds → IsFirstFault false s marks run rounds number party → ⊥
 clear-no_fault s marks run [] number party clear fault = fault.1.fails (each_ended s run party clear fault.1.is_party)
 clear-no_fault s marks run (round ∷ rounds) zero party clear fault = fault.fails (clear.0 party fault.is_party)
 clear-no_fault s marks run (round ∷ rounds) (suc number) party clear fault = clear-no_fault s marks (after_round s run round) rounds number party clear.1 fault.1
 
 -- there is one first fault
-one_fault : (s : Session) (marks : Marks) (run : Run) (rounds : List RoundSeen) (m n p q : ℕ) → IsFirstFault s marks run rounds m p → IsFirstFault s marks run rounds n q → (m ≡ n) × (p ≡ q)
+one_fault : (s : Session) (marks : Marks) (run : Run) (rounds : List RoundSeen) (m n p q : ℕ) → IsFirstFault false s marks run rounds m p → IsFirstFault false s marks run rounds n q → (m ≡ n) × (p ≡ q)
 one_fault s marks run [] m n p q a b = (a.0 ∙ sym b.0, one_least (λ p. has_ended s run p ≡ true) (fast_party s) p q a.1 b.1)
-one_fault s marks run (round ∷ rounds) zero zero p q a b = (refl, one_least (IsClear s marks run round) (fast_party s) p q a b)
+one_fault s marks run (round ∷ rounds) zero zero p q a b = (refl, one_least (IsClear false s marks run round) (fast_party s) p q a b)
 one_fault s marks run (round ∷ rounds) zero (suc n) p q a b = absurd (a.fails (b.0 p a.is_party))
 one_fault s marks run (round ∷ rounds) (suc m) zero p q a b = absurd (b.fails (a.0 q b.is_party))
 one_fault s marks run (round ∷ rounds) (suc m) (suc n) p q a b = let same = one_fault s marks (after_round s run round) rounds m n p q a.1 b.1 in (ap (λ k. suc k) same.0, same.1)

@@ -1,6 +1,6 @@
 -- Which party has ended, by what is kept and in the run.
-use Rattle.std.proofs.Common.{◌≡◌, ◌⊎◌, inl, inr, ℕ, zero, suc, ◌+◌, ◌<◌, ◌≤◌, ◌==◌, ◌&&◌, nat_lt, Bool, true, false, if◌then◌else◌, List, [], length, map, Option, Some, None, arith, refl, sym, ap, subst, ◌∙◌}
-use Rattle.std.specs.Prelude.{slice_index_or}
+use Rattle.std.proofs.Common.{◌≡◌, ◌⊎◌, inl, inr, ℕ, zero, suc, ◌+◌, ◌<◌, ◌≤◌, ◌==◌, ◌&&◌, nat_lt, Bool, true, false, true≢false, if◌then◌else◌, List, [], length, map, Option, Some, None, arith, refl, sym, ap, subst, ◌∙◌}
+use Rattle.std.specs.Prelude.{is_none, is_some, not, slice_index_or}
 use Rattle.std.specs.List.{list_all, range_with_len}
 use Rattle.std.proofs.lemmas.Bool.Decides.{nat_tests}
 use Rattle.std.proofs.lemmas.List as lists
@@ -14,6 +14,7 @@ use Rattle.af_runs.specs.Sessions.{Session, track_count}
 use Rattle.af_audit.specs.declared.run_judge.RunJudge.{RunJudge}
 use Rattle.af_audit.specs.RunKept.{LeastBelow, client_ended, party_ended}
 use Rattle.af_audit.proofs.LeastOnes.{least_same}
+use Rattle.af_audit.proofs.OneVerdict.{each_ended}
 use Rattle.af_audit.proofs.TrackThere.{track_there}
 
 -- all numbers of a range pass, where each does
@@ -26,6 +27,17 @@ range_all P from (suc count) each = both-true (P from) (list_all P (range_with_l
     both-true : (a b : Bool) → a ≡ true → b ≡ true → (a && b) ≡ true
     both-true true b h k = k
     both-true false b h k = h
+
+-- none is found, by a test of what is
+pub none_of : (o : Option ℕ) (b : Bool) → is_some o ≡ not b → b ≡ is_none o
+none_of None true h = refl
+none_of None false h = absurd (true≢false (sym h))
+none_of (Some x) true h = absurd (true≢false h)
+none_of (Some x) false h = refl
+
+not_true : (b : Bool) → (b ≡ true → ⊥) → b ≡ false
+not_true true h = absurd (h refl)
+not_true false h = refl
 
 module _ (s : Session) (marks : Marks) (j : RunJudge) (tracks : List TrackJudge) (run : Run) (keeps : KeepsTracks s marks (λ i. Unit {0}) tracks run) (normal : j.normal.plain.kept.ended ≡ run.normal.ended) (fast : j.fast.ended ≡ fast_ended run) where
   -- a client has ended as in the run
@@ -58,3 +70,10 @@ module _ (s : Session) (marks : Marks) (j : RunJudge) (tracks : List TrackJudge)
   -- all have ended, where none is found
   pub none_going : LeastBelow (λ p. party_ended j tracks p ≡ true) (length tracks + 2) None → all_ended s run ≡ true
   none_going least = range_all (has_ended s run) 0 (fast_party s + 1) (λ i lt. subst (λ (k : ℕ). has_ended s run k ≡ true) (let e : i ≡ 0 + i = omega arith in e) (going_least None least i lt))
+
+  -- all have ended exactly where none is found
+  pub all_is : (found : Option ℕ) → LeastBelow (λ p. party_ended j tracks p ≡ true) (length tracks + 2) found → all_ended s run ≡ is_none found
+  all_is None least = none_going least
+  all_is (Some party) least =
+      let going = going_least (Some party) least in
+      not_true (all_ended s run) (λ all. going.1 (each_ended s run party all (let a = going.0 in omega (arith, a))))

@@ -48,14 +48,14 @@ use Rattle.af_audit.proofs.TrackThere.{track_there}
 
 -- ## The parties of a round
 
-from_client : (s : Session) (marks : Marks) (run : Run) (round : RoundSeen) (p : ℕ) → p < track_count s → ClientIsClear s run round p → IsClear s marks run round p
-from_client s marks run round p lt h =
-    subst (λ (b : Bool). MatchBool b (ClientIsClear s run round p) (MatchBool (p == normal_party s) (NormalIsClear s marks run round) (FastIsClear s marks run round))) (let is : true ≡ nat_lt p (normal_party s) = grind (arith, nat_tests, lt) in is) h
+from_client : (cut : Bool) (s : Session) (marks : Marks) (run : Run) (round : RoundSeen) (p : ℕ) → p < track_count s → ClientIsClear s run round p → IsClear cut s marks run round p
+from_client cut s marks run round p lt h =
+    subst (λ (b : Bool). MatchBool b (ClientIsClear s run round p) (MatchBool (p == normal_party s) (NormalIsClear s marks run round) (FastIsClear cut s marks run round))) (let is : true ≡ nat_lt p (normal_party s) = grind (arith, nat_tests, lt) in is) h
 
-from_normal : (s : Session) (marks : Marks) (run : Run) (round : RoundSeen) → NormalIsClear s marks run round → IsClear s marks run round (track_count s)
-from_normal s marks run round h =
-    subst (λ (b : Bool). MatchBool b (ClientIsClear s run round (track_count s)) (MatchBool (track_count s == normal_party s) (NormalIsClear s marks run round) (FastIsClear s marks run round))) (below (track_count s))
-    (subst (λ (b : Bool). MatchBool b (NormalIsClear s marks run round) (FastIsClear s marks run round)) (same (track_count s)) h)
+from_normal : (cut : Bool) (s : Session) (marks : Marks) (run : Run) (round : RoundSeen) → NormalIsClear s marks run round → IsClear cut s marks run round (track_count s)
+from_normal cut s marks run round h =
+    subst (λ (b : Bool). MatchBool b (ClientIsClear s run round (track_count s)) (MatchBool (track_count s == normal_party s) (NormalIsClear s marks run round) (FastIsClear cut s marks run round))) (below (track_count s))
+    (subst (λ (b : Bool). MatchBool b (NormalIsClear s marks run round) (FastIsClear cut s marks run round)) (same (track_count s)) h)
   where
     below : (n : ℕ) → false ≡ nat_lt n n
     below n = grind (arith, nat_tests)
@@ -63,10 +63,10 @@ from_normal s marks run round h =
     same : (n : ℕ) → true ≡ (n == n)
     same n = grind (arith, nat_tests)
 
-from_fast : (s : Session) (marks : Marks) (run : Run) (round : RoundSeen) → FastIsClear s marks run round → IsClear s marks run round (track_count s + 1)
-from_fast s marks run round h =
-    subst (λ (b : Bool). MatchBool b (ClientIsClear s run round (track_count s + 1)) (MatchBool (track_count s + 1 == normal_party s) (NormalIsClear s marks run round) (FastIsClear s marks run round))) (below (track_count s))
-    (subst (λ (b : Bool). MatchBool b (NormalIsClear s marks run round) (FastIsClear s marks run round)) (other (track_count s)) h)
+from_fast : (cut : Bool) (s : Session) (marks : Marks) (run : Run) (round : RoundSeen) → FastIsClear cut s marks run round → IsClear cut s marks run round (track_count s + 1)
+from_fast cut s marks run round h =
+    subst (λ (b : Bool). MatchBool b (ClientIsClear s run round (track_count s + 1)) (MatchBool (track_count s + 1 == normal_party s) (NormalIsClear s marks run round) (FastIsClear cut s marks run round))) (below (track_count s))
+    (subst (λ (b : Bool). MatchBool b (NormalIsClear s marks run round) (FastIsClear cut s marks run round)) (other (track_count s)) h)
   where
     below : (n : ℕ) → false ≡ nat_lt (n + 1) n
     below n = grind (arith, nat_tests)
@@ -115,25 +115,25 @@ unfolding met
 met-normal s run = refl
 
 -- the late entries of a legal turn of the fast mixer are legal
-late_legal : (s : Session) (marks : Marks) (run : Run) (round : RoundSeen) → LegalFastTurn false s marks run round → LegalEntries s marks (after_turn s run round) (late_of run round)
-late_legal s marks run round turn = by_case (fast_ended run) turn
+late_legal : (cut : Bool) (s : Session) (marks : Marks) (run : Run) (round : RoundSeen) → LegalFastTurn cut s marks run round → LegalEntries s marks (after_turn s run round) (late_of run round)
+late_legal cut s marks run round turn = by_case (fast_ended run) turn
   where
     none : (es : List EntrySeen) (n : ℕ) → es ≡ [] → drop n es ≡ []
     none es zero is = is
     none es (suc n) is = ap (λ (l : List EntrySeen). drop (suc n) l) is
 
-    by_case : (b : Bool) → MatchBool b (round.entries ≡ []) (IsFastTurn most_cycles (false && fills s run round) round.entries × LegalEntries s marks (with_calls round run) (early_of run round) × LegalEntries s marks (after_turn s run round) (late_of run round))
+    by_case : (b : Bool) → MatchBool b (round.entries ≡ []) (IsFastTurn most_cycles (cut && fills s run round) round.entries × LegalEntries s marks (with_calls round run) (early_of run round) × LegalEntries s marks (after_turn s run round) (late_of run round))
         → LegalEntries s marks (after_turn s run round) (late_of run round)
     by_case true is = subst (LegalEntries s marks (after_turn s run round)) (sym (none round.entries (early_count run round) is)) tt
     by_case false h = h.2
 
-module _ (s : Session) (marks : Marks) (round : RoundSeen) (run : Run) (j : RunJudge) (tracks : List TrackJudge) (keeps : KeepsRun s marks j tracks run) (f : Found) (mixed k : RunJudge) (played met_tracks after : List TrackJudge) (over right entered may shared : Bool)
+module _ (cut : Bool) (s : Session) (marks : Marks) (round : RoundSeen) (run : Run) (j : RunJudge) (tracks : List TrackJudge) (keeps : KeepsRun s marks j tracks run) (f : Found) (mixed k : RunJudge) (played met_tracks after : List TrackJudge) (over right entered may shared : Bool)
     (some : 0 < track_count s)
     (over_is : over ≡ true → all_ended s run ≡ true) (going_is : over ≡ false → all_ended s run ≡ false)
     (caller_is : LeastBelow (IsLegalCaller run round) (length tracks) f.caller)
     (of_tracks : KeepsTracks s marks (IsLegalCaller run round) played (all_played s run round)) (normal : NormalOf s (all_played s run round) mixed.normal) (fast : FastOf s run.reports (all_played s run round) mixed.fast)
     (queue : LegalNormalTurn s marks run round → QueueOf s (all_played s run round) mixed.fast.queue) (beside : LegalNormalTurn s marks run round → BesideQueue s (all_played s run round) mixed.report mixed.fast.pipe)
-    (turn_is : IsTrue right ↔ LegalNormalTurn s marks run round) (fast_is : (IsTrue entered × IsTrue may) ↔ IsFastLegal s marks run round)
+    (turn_is : IsTrue right ↔ LegalNormalTurn s marks run round) (fast_is : (IsTrue entered × IsTrue may) ↔ IsFastLegal cut s marks run round)
     (shared_is : IsTrue shared ↔ AreRight mixed.fast.told.report.cycle mixed.fast.queue mixed.report mixed.fast.pipe)
     (found_normal : IsTrue f.normal ↔ (IsTrue right × IsTrue shared)) (found_fast : IsTrue f.fast ↔ (IsTrue entered × IsTrue may))
     (meets : TracksMet mixed (length played) played met_tracks f.met) (as_many : length met_tracks ≡ length played)
@@ -154,8 +154,8 @@ module _ (s : Session) (marks : Marks) (round : RoundSeen) (run : Run) (j : RunJ
   exact n lt legal = keeps_exact s marks round run (IsLegalCaller run round) mixed played met_tracks f.met run.reports of_tracks normal fast meets as_many n (let m = many-played in omega (arith, lt, m)) legal (fit-here n lt legal)
 
   -- a client is clear where its turn is legal and its blocks have their histories
-  client-of : (p : ℕ) → p < length tracks → IsClear s marks run round p → ClientIsClear s run round p
-  client-of p lt clear = client_part s marks run round p (in-script p lt) clear
+  client-of : (p : ℕ) → p < length tracks → IsClear cut s marks run round p → ClientIsClear s run round p
+  client-of p lt clear = client_part cut s marks run round p (in-script p lt) clear
 
   stored : mixed.fast.told.report.cycle ≡ length (all_played s run round).reports
   stored = ap (λ (r : Report). r.cycle) fast.report ∙ (fast.numbered.cycle ∙ sym fast.numbered.many)
@@ -173,7 +173,7 @@ module _ (s : Session) (marks : Marks) (round : RoundSeen) (run : Run) (j : RunJ
     (λ h. found_normal.1 (turn_is.1 h.turn, (shared-exact h.turn).1 h.histories)),
   )
 
-  fast-exact : IsTrue f.fast ↔ FastIsClear s marks run round
+  fast-exact : IsTrue f.fast ↔ FastIsClear cut s marks run round
   fast-exact = (
     (λ h. let l = fast_is.0 (found_fast.0 h) in record { turn = l.turn; within = l.within; room = l.room }),
     (λ h. found_fast.1 (fast_is.1 (record { turn = h.turn; within = h.within; room = h.room }))),
@@ -182,35 +182,35 @@ module _ (s : Session) (marks : Marks) (round : RoundSeen) (run : Run) (j : RunJ
   by-many : (P : ℕ → Type 0) → P (track_count s) → P (length tracks)
   by-many P h = subst P (sym keeps.of_tracks.all) h
 
-  finds : FindsFaults (IsClear s marks run round) (IsLegalCaller run round) (Keeps mixed met_tracks) over (length tracks) f
+  finds : FindsFaults (IsClear cut s marks run round) (IsLegalCaller run round) (Keeps mixed met_tracks) over (length tracks) f
   finds = record {
     behind = λ is clear. true≢false (sym (over_is is) ∙ (client-of 0 (let a = keeps.of_tracks.all in omega (arith, some, a)) clear).going refl);
-    going = λ is p lt turn met. from_client s marks run round p (in-script p lt) (record { going = λ first. going_is is; turn = turn; histories = (exact p lt turn).0 met });
+    going = λ is p lt turn met. from_client cut s marks run round p (in-script p lt) (record { going = λ first. going_is is; turn = turn; histories = (exact p lt turn).0 met });
     turn = λ p lt clear. (client-of p lt clear).turn;
     met = λ p lt clear. let c = client-of p lt clear in (exact p lt c.turn).1 c.histories;
     caller_is = caller_is;
     met_is = subst (λ (n : ℕ). LeastBelow (Keeps mixed met_tracks) n f.met) many-played meets.least;
-    normal_is = λ all. by-many (λ n. IsTrue f.normal ↔ IsClear s marks run round n) ((λ h. from_normal s marks run round (normal-exact.0 h)), (λ h. normal-exact.1 (normal_part s marks run round h)));
-    fast_is = λ all. by-many (λ n. IsTrue f.fast ↔ IsClear s marks run round (n + 1)) ((λ h. from_fast s marks run round (fast-exact.0 h)), (λ h. fast-exact.1 (fast_part s marks run round h)));
+    normal_is = λ all. by-many (λ n. IsTrue f.normal ↔ IsClear cut s marks run round n) ((λ h. from_normal cut s marks run round (normal-exact.0 h)), (λ h. normal-exact.1 (normal_part cut s marks run round h)));
+    fast_is = λ all. by-many (λ n. IsTrue f.fast ↔ IsClear cut s marks run round (n + 1)) ((λ h. from_fast cut s marks run round (fast-exact.0 h)), (λ h. fast-exact.1 (fast_part cut s marks run round h)));
   }
 
   -- the least party that isn't clear is found
-  pub least_so : LeastBelow (IsClear s marks run round) (fast_party s + 1) (least_found over (length tracks) f)
-  least_so = subst (λ (n : ℕ). LeastBelow (IsClear s marks run round) n (least_found over (length tracks) f)) (let a = keeps.of_tracks.all in let e : length tracks + 2 ≡ fast_party s + 1 = omega (arith, a) in e) (found_least (IsClear s marks run round) (IsLegalCaller run round) (Keeps mixed met_tracks) (length tracks) f over finds)
+  pub least_so : LeastBelow (IsClear cut s marks run round) (fast_party s + 1) (least_found over (length tracks) f)
+  least_so = subst (λ (n : ℕ). LeastBelow (IsClear cut s marks run round) n (least_found over (length tracks) f)) (let a = keeps.of_tracks.all in let e : length tracks + 2 ≡ fast_party s + 1 = omega (arith, a) in e) (found_least (IsClear cut s marks run round) (IsLegalCaller run round) (Keeps mixed met_tracks) (length tracks) f over finds)
 
   -- and where there is none what is kept is kept of the run after the round
   module _ (left : k ≡ mixers_met mixed) (ended : after ≡ tracks_ended mixed.normal.plain.kept.ended met_tracks) (cycles : mixed.cycles ≡ s.script.cycles) (none : least_found over (length tracks) f ≡ None) where
-    clear : (p : ℕ) → p ≤ fast_party s → IsClear s marks run round p
-    clear p low = subst (λ (o : Option ℕ). LeastBelow (IsClear s marks run round) (fast_party s + 1) o) none least_so p (omega (arith, low))
+    clear : (p : ℕ) → p ≤ fast_party s → IsClear cut s marks run round p
+    clear p low = subst (λ (o : Option ℕ). LeastBelow (IsClear cut s marks run round) (fast_party s + 1) o) none least_so p (omega (arith, low))
 
     legal-caller : (n : ℕ) → n < length tracks → IsLegalCaller run round n
     legal-caller n lt = (client-of n lt (clear n (let a = in-script n lt in omega (arith, a)))).turn
 
     normal-clear : NormalIsClear s marks run round
-    normal-clear = normal_part s marks run round (clear (track_count s) (omega arith))
+    normal-clear = normal_part cut s marks run round (clear (track_count s) (omega arith))
 
-    fast-clear : FastIsClear s marks run round
-    fast-clear = fast_part s marks run round (clear (fast_party s) (omega arith))
+    fast-clear : FastIsClear cut s marks run round
+    fast-clear = fast_part cut s marks run round (clear (fast_party s) (omega arith))
 
     all-whole : (n : ℕ) → n < length played → IsLegalCaller run round n
     all-whole n lt = legal-caller n (let m = many-played in omega (arith, lt, m))
@@ -224,7 +224,7 @@ module _ (s : Session) (marks : Marks) (round : RoundSeen) (run : Run) (j : RunJ
     right-so = subst (λ (n : ℕ). AreRight n mixed.fast.queue mixed.report mixed.fast.pipe) stored (shared_is.0 ((shared-exact normal-clear.turn).1 normal-clear.histories))
 
     late-legal : LegalEntries s marks (after_turn s run round) (late_of run round)
-    late-legal = late_legal s marks run round fast-clear.turn
+    late-legal = late_legal cut s marks run round fast-clear.turn
 
     pub kept_so : KeepsRun s marks k after (after_round s run round)
     kept_so = subst (λ (x : RunJudge × List TrackJudge). KeepsRun s marks x.0 x.1 (after_round s run round)) (λ i. (sym left i, sym ended i)) (record {

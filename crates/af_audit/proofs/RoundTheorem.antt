@@ -39,8 +39,7 @@ use Rattle.af_audit.specs.RoundTold.{MixersTold, RoundPlayed, TurnIfTold, begun}
 use Rattle.af_audit.specs.RoundTold as told
 use Rattle.af_audit.specs.RunKept.{IsLegalCaller, JudgesRound, KeepsRun, LeastBelow, least_found, party_ended, run_before}
 use Rattle.af_audit.proofs.CallsFollow.{caller_found}
-use Rattle.af_audit.proofs.OneVerdict.{each_ended}
-use Rattle.af_audit.proofs.PartiesEnded.{going_least, none_going}
+use Rattle.af_audit.proofs.PartiesEnded.{all_is}
 use Rattle.af_audit.proofs.RoundFollows.{KeepsTurned, early, early_bare, early_beside, early_goes, early_keeps, first_keeps, late, late_bare, played_beside, played_fast, played_normal, played_queue, played_tracks}
 use Rattle.af_audit.proofs.RoundJudged.{kept_so, least_so}
 use Rattle.af_audit.proofs.TurnKept.{kept_turned}
@@ -86,7 +85,7 @@ loaded-states s (Some e) r h = h
 
 -- ## The round
 
-module _ (s : Session) (journal : JournalData) (frames : List Frame) (n : ℕ) (j k : RunJudge) (tracks after : List TrackJudge) (f : Found) (going : Option ℕ) (script : IsScript s.script) (form : IsJournal journal) (frames_are : frames_of (entries_of journal.rounds) ≡ frames)
+module _ (cut : Bool) (s : Session) (journal : JournalData) (frames : List Frame) (n : ℕ) (j k : RunJudge) (tracks after : List TrackJudge) (f : Found) (going : Option ℕ) (script : IsScript s.script) (form : IsJournal journal) (frames_are : frames_of (entries_of journal.rounds) ≡ frames)
     (inside : n < length journal.rounds) (as_many : journal.tracks ≡ length tracks) where
   abbrev run : Run
   run = run_before s journal.rounds n
@@ -115,7 +114,7 @@ module _ (s : Session) (journal : JournalData) (frames : List Frame) (n : ℕ) (
   turn-form : (many : ℕ) → many ≡ length tracks → MatchOption round.turn (Unit {0}) (IsTurn many)
   turn-form many is = subst (λ (m : ℕ). MatchOption round.turn (Unit {0}) (IsTurn m)) (as_many ∙ sym is) (All-get_or (IsRound journal.tracks) journal.rounds n no_round inside form.rounds).turn
 
-  module _ (keeps : KeepsRun s marks j tracks run) (p : RoundPlayed s.script.tracks s.files frames log first round j tracks f k after) where
+  module _ (keeps : KeepsRun s marks j tracks run) (p : RoundPlayed cut s.script.tracks s.files frames log first round j tracks f k after) where
     states-after : StatesKept s (after_turn s run round).normal (after_turn s run round).states
     states-after = kept_after_turn s script (length tracks) run round (turn-form (length tracks) refl) keeps.states
 
@@ -203,9 +202,9 @@ module _ (s : Session) (journal : JournalData) (frames : List Frame) (n : ℕ) (
     mixed-beside legal = subst (λ (r : ReportKept). BesideQueue s (all_played s run round) r p.mixed.fast.pipe) (sym mixed-report)
         (fast-by (λ (x : FastKept). BesideQueue s (all_played s run round) p.mixers.turned.report x.pipe) (played_beside s marks round run frames j.report p.right p.mixers.turned p.mixers.between late-place turned-kept keeps.unloaded late-formed legal))
 
-    fast-legal : (IsTrue p.entered × IsTrue p.may) ↔ IsFastLegal s marks run round
+    fast-legal : (IsTrue p.entered × IsTrue p.may) ↔ IsFastLegal cut s marks run round
     fast-legal =
-        let judged = fast_judged s marks (IsLegalCaller run round) (IsLegalCaller run round) run.reports frames run round (begun j.fast) (playing (begun j.fast) p.called) (playing p.mixers.turned.fast p.mixers.between) j.cycles log first keeps.cycles
+        let judged = fast_judged cut s marks (IsLegalCaller run round) (IsLegalCaller run round) run.reports frames run round (begun j.fast) (playing (begun j.fast) p.called) (playing p.mixers.turned.fast p.mixers.between) j.cycles log first keeps.cycles
         (fast_round s keeps.earlier run j.fast keeps.fast) (first_keeps s marks round run frames j tracks p.called f.caller keeps p.many p.calls formed) turned-kept.kept formed in-log in (
           (λ h. let e = entered-is.0 h.0 in judged.0 (p.may_is.0 h.1, e.0, e.1)),
           (λ l. let h = judged.1 l in (entered-is.1 (h.1, h.2), p.may_is.1 h.0)),
@@ -219,28 +218,13 @@ module _ (s : Session) (journal : JournalData) (frames : List Frame) (n : ℕ) (
     mixed-cycles = ap (λ (x : RunJudge). x.cycles) p.mixers.kept ∙ (turned-cycles round.turn (record j { fast = p.mixers.early.fast }) p.mixers.turned p.mixers.early.tracks p.mixers.between _ p.right p.mixers.turn_is ∙ keeps.cycles)
 
     module _ (some : 0 < track_count s) (ends : LeastBelow (λ party. party_ended j tracks party ≡ true) (length tracks + 2) going) where
-      over-is : is_none going ≡ true → all_ended s run ≡ true
-      over-is = by_case going ends
-        where
-          by_case : (o : Option ℕ) → LeastBelow (λ party. party_ended j tracks party ≡ true) (length tracks + 2) o → is_none o ≡ true → all_ended s run ≡ true
-          by_case None h is = none_going s marks j tracks run keeps.of_tracks (ap (λ (m : NormalKept). m.ended) keeps.normal.kept) keeps.fast.ended h
-          by_case (Some x) h is = absurd (true≢false (sym is))
+      ended-is : all_ended s run ≡ is_none going
+      ended-is = all_is s marks j tracks run keeps.of_tracks (ap (λ (m : NormalKept). m.ended) keeps.normal.kept) keeps.fast.ended going ends
 
-      going-is : is_none going ≡ false → all_ended s run ≡ false
-      going-is = by_case going (going_least s marks j tracks run keeps.of_tracks (ap (λ (m : NormalKept). m.ended) keeps.normal.kept) keeps.fast.ended going ends)
-        where
-          not-all : (b : Bool) → (b ≡ true → ⊥) → b ≡ false
-          not-all true h = absurd (h refl)
-          not-all false h = refl
-
-          by_case : (o : Option ℕ) → LeastBelow (λ party. has_ended s run party ≡ true) (fast_party s + 1) o → is_none o ≡ false → all_ended s run ≡ false
-          by_case None h is = absurd (true≢false is)
-          by_case (Some x) h is = not-all (all_ended s run) (λ all. h.1 (each_ended s run x all (let a = h.0 in omega (arith, a))))
-
-      pub round_judged : JudgesRound s marks run round k after (least_found (is_none going) (length tracks) f)
+      pub round_judged : JudgesRound cut s marks run round k after (least_found (is_none going) (length tracks) f)
       round_judged = record {
-        least = least_so s marks round run j tracks keeps f p.mixed k p.played p.met after (is_none going) p.right p.entered p.may p.shared some over-is going-is (caller_found s marks run round tracks p.called f.caller keeps.of_tracks keeps.fit p.calls)
+        least = least_so cut s marks round run j tracks keeps f p.mixed k p.played p.met after (is_none going) p.right p.entered p.may p.shared some (λ is. ended-is ∙ is) (λ is. ended-is ∙ is) (caller_found s marks run round tracks p.called f.caller keeps.of_tracks keeps.fit p.calls)
             mixed-tracks mixed-normal-of mixed-fast-of mixed-queue mixed-beside turned-kept.legal fast-legal p.shared_is p.normal_is p.fast_is p.tracks_met p.as_many states-round states-played;
-        kept = λ none. kept_so s marks round run j tracks keeps f p.mixed k p.played p.met after (is_none going) p.right p.entered p.may p.shared some over-is going-is (caller_found s marks run round tracks p.called f.caller keeps.of_tracks keeps.fit p.calls)
+        kept = λ none. kept_so cut s marks round run j tracks keeps f p.mixed k p.played p.met after (is_none going) p.right p.entered p.may p.shared some (λ is. ended-is ∙ is) (λ is. ended-is ∙ is) (caller_found s marks run round tracks p.called f.caller keeps.of_tracks keeps.fit p.calls)
             mixed-tracks mixed-normal-of mixed-fast-of mixed-queue mixed-beside turned-kept.legal fast-legal p.shared_is p.normal_is p.fast_is p.tracks_met p.as_many states-round states-played p.left p.ended mixed-cycles none;
       }

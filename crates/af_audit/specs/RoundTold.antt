@@ -109,12 +109,12 @@ abbrev pub begun : FastKept → FastKept
 begun f = record f { before = f.told.report; reports = [] }
 
 -- a round was told: the calls, both mixers' turns, and the meetings; and what was found of it
-pub record RoundPlayed (specs : List TrackSpec) (files : List (List Frame)) (frames : List Frame) (log : List CycleEntry) (first : ℕ) (round : RoundSeen) (j : RunJudge) (tracks : List TrackJudge) (f : Found) (k : RunJudge) (after : List TrackJudge) : Type 0 where
+pub record RoundPlayed (cut : Bool) (specs : List TrackSpec) (files : List (List Frame)) (frames : List Frame) (log : List CycleEntry) (first : ℕ) (round : RoundSeen) (j : RunJudge) (tracks : List TrackJudge) (f : Found) (k : RunJudge) (after : List TrackJudge) : Type 0 where
   pub called : List TrackJudge
   pub many : length called ≡ length tracks
   pub calls : CallsJudged (length tracks) specs files (calls_in round) tracks called f.caller
   pub may : Bool
-  pub may_is : IsTrue may ↔ MayEnter (begun j.fast) j.cycles log first (length round.entries)
+  pub may_is : IsTrue may ↔ MayEnter cut (begun j.fast) j.cycles log first (length round.entries)
   pub right : Bool
   pub entered : Bool
   pub mixed : RunJudge

@@ -27,7 +27,7 @@ use Rattle.af_runs.specs.Runs.{Run, all_ended, calls_in, fast_ended, fast_party,
 use Rattle.af_runs.specs.Sessions.{Session, command_shape, file_words, no_spec, script_setup, stream_shape, track_count}
 use Rattle.af_script.specs.Data.{ScriptData}
 use Rattle.af_script.specs.declared.track.TrackSpec.{TrackSpec}
-use Rattle.af_audit.specs.Verdicts.{AllClear, AreClear, IsClear, IsFirstFault}
+use Rattle.af_audit.specs.Verdicts.{AllBefore, AllClear, IsClear, IsFirstFault}
 use Rattle.af_audit.specs.declared.run_judge.Found.{Found}
 use Rattle.af_audit.specs.declared.run_judge.RunJudge.{RunJudge}
 
@@ -124,24 +124,24 @@ pub record KeepsRun (s : Session) (marks : Marks) (j : RunJudge) (tracks : List 
   pub cycles : j.cycles ≡ s.script.cycles
 
 -- The least party of a round that isn't clear is found, or none, and then what is kept is kept of the run after the round
-pub record JudgesRound (s : Session) (marks : Marks) (run : Run) (round : RoundSeen) (j : RunJudge) (tracks : List TrackJudge) (found : Option ℕ) : Type 0 where
-  pub least : LeastBelow (IsClear s marks run round) (fast_party s + 1) found
+pub record JudgesRound (cut : Bool) (s : Session) (marks : Marks) (run : Run) (round : RoundSeen) (j : RunJudge) (tracks : List TrackJudge) (found : Option ℕ) : Type 0 where
+  pub least : LeastBelow (IsClear cut s marks run round) (fast_party s + 1) found
   pub kept : found ≡ None → KeepsRun s marks j tracks (after_round s run round)
 
 -- what is found of some rounds is their first fault, or they have none
 abbrev pub FindsFault : Session → Marks → Run → List RoundSeen → Option (ℕ × ℕ) → Type 0
 FindsFault s marks run rounds None = AllClear s marks run rounds
-FindsFault s marks run rounds (Some at) = IsFirstFault s marks run rounds at.0 at.1
+FindsFault s marks run rounds (Some at) = IsFirstFault false s marks run rounds at.0 at.1
 
 -- a party found behind all rounds
 abbrev pub at_end : ℕ → Option ℕ → Option (ℕ × ℕ)
 at_end rounds None = None
 at_end rounds (Some party) = Some (rounds, party)
 
--- no party has a fault in any of these rounds, after which the run may go on
-abbrev pub AllBefore : Session → Marks → Run → List RoundSeen → Type 0
-AllBefore s marks run [] = Unit {0}
-AllBefore s marks run (round ∷ rounds) = AreClear s marks run round × AllBefore s marks (after_round s run round) rounds
+-- the first one of some rounds that isn't clear is found, with its least party, or none, and then what is kept is kept of the run after them
+abbrev pub FindsUnclear : Bool → Session → Marks → Run → List RoundSeen → RunJudge → List TrackJudge → Option (ℕ × ℕ) → Type 0
+FindsUnclear cut s marks run rounds j tracks None = AllBefore cut s marks run rounds × KeepsRun s marks j tracks (run_from s run rounds)
+FindsUnclear cut s marks run rounds j tracks (Some at) = IsFirstFault cut s marks run rounds at.0 at.1
 
 -- ## Before the first round
 

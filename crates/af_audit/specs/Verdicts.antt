@@ -1,5 +1,5 @@
 -- The verdict on a journal and its PCM: the first round, and in it the least party, whose turn or history isn't legal; then the first byte that isn't that of the mix.
-use Rattle.std.specs.Prelude.{◌≡◌, ◌≢◌, ℕ, zero, suc, ◌+◌, ◌<◌, ◌≤◌, ◌==◌, nat_lt, true, false, MatchBool, List, [], ◌∷◌, length, take, slice_get}
+use Rattle.std.specs.Prelude.{◌≡◌, ◌≢◌, ℕ, zero, suc, ◌+◌, ◌<◌, ◌≤◌, ◌==◌, nat_lt, Bool, true, false, MatchBool, List, [], ◌∷◌, length, take, slice_get}
 use Rattle.af_base.specs.declared.frame.Frame.{Frame}
 use Rattle.af_model.specs.Journals.{RoundSeen, JournalData}
 use Rattle.af_script.specs.Data.{ScriptData}
@@ -8,7 +8,7 @@ use Rattle.af_audit.specs.declared.verdict.Verdict.TheVariants.{Legal, Refused}
 use Rattle.af_audit.specs.declared.verdict.Refusal.TheVariants as refused
 use Rattle.af_runs.specs.Blocks.{Marks}
 use Rattle.af_runs.specs.ClientTurns.{LegalClientTurn}
-use Rattle.af_runs.specs.LegalRuns.{marks_of, session_of}
+use Rattle.af_runs.specs.LegalRuns.{LegalRounds, marks_of, run_from, session_of}
 use Rattle.af_runs.specs.Pcm.{journal_pcm}
 use Rattle.af_runs.specs.Rounds.{LegalNormalTurn, LegalFastTurn, TrackHistories, SharedHistories, met_after, after_round}
 use Rattle.af_runs.specs.Runs.{Run, new_run, told_at, sides_of, calls_in, normal_party, fast_party, has_ended, all_ended}
@@ -27,19 +27,33 @@ pub record NormalIsClear (s : Session) (marks : Marks) (run : Run) (round : Roun
   pub turn : LegalNormalTurn s marks run round
   pub histories : SharedHistories s (met_after s run round)
 
--- the fast mixer answers for its turn, for an entry beyond those that the script allows, and for a round after a full log
-pub record FastIsClear (s : Session) (marks : Marks) (run : Run) (round : RoundSeen) : Type 0 where
-  pub turn : LegalFastTurn false s marks run round
+-- the fast mixer answers for its turn, for an entry beyond those that the script allows, and for a round after a full log. `cut` says whether its turn may end since the log is full
+pub record FastIsClear (cut : Bool) (s : Session) (marks : Marks) (run : Run) (round : RoundSeen) : Type 0 where
+  pub turn : LegalFastTurn cut s marks run round
   pub within : length run.entries + length round.entries ≤ s.script.cycles
   pub room : length run.entries < s.script.cycles
 
 -- no fault of a party
-abbrev pub IsClear : Session → Marks → Run → RoundSeen → ℕ → Type 0
-IsClear s marks run round party = MatchBool (nat_lt party (normal_party s)) (ClientIsClear s run round party) (MatchBool (party == normal_party s) (NormalIsClear s marks run round) (FastIsClear s marks run round))
+abbrev pub IsClear : Bool → Session → Marks → Run → RoundSeen → ℕ → Type 0
+IsClear cut s marks run round party = MatchBool (nat_lt party (normal_party s)) (ClientIsClear s run round party) (MatchBool (party == normal_party s) (NormalIsClear s marks run round) (FastIsClear cut s marks run round))
 
 -- no fault of any
-abbrev pub AreClear : Session → Marks → Run → RoundSeen → Type 0
-AreClear s marks run round = (party : ℕ) → party ≤ fast_party s → IsClear s marks run round party
+abbrev pub AreClear : Bool → Session → Marks → Run → RoundSeen → Type 0
+AreClear cut s marks run round = (party : ℕ) → party ≤ fast_party s → IsClear cut s marks run round party
+
+-- each party is clear in each of these rounds, after which the run may go on
+abbrev pub AllBefore : Bool → Session → Marks → Run → List RoundSeen → Type 0
+AllBefore cut s marks run [] = Unit {0}
+AllBefore cut s marks run (round ∷ rounds) = AreClear cut s marks run round × AllBefore cut s marks (after_round s run round) rounds
+
+-- after its last round all parties of a run have ended; one that is cut off has its log full, and some party hasn't ended
+abbrev pub MayEnd : Bool → Session → Run → Type 0
+MayEnd false s run = all_ended s run ≡ true
+MayEnd true s run = (length run.entries ≡ s.script.cycles) × (all_ended s run ≡ false)
+
+-- its rounds are legal, and it may end after them
+abbrev pub IsRun : Bool → Session → Marks → Run → List RoundSeen → Type 0
+IsRun cut s marks run rounds = LegalRounds cut s marks run rounds × MayEnd cut s (run_from s run rounds)
 
 -- ## The first fault
 
@@ -52,13 +66,13 @@ pub record IsLeastWithout (Holds : ℕ → Type 0) (last party : ℕ) : Type 0 w
 -- no party has a fault in any round, and after the last round all have ended
 abbrev pub AllClear : Session → Marks → Run → List RoundSeen → Type 0
 AllClear s marks run [] = all_ended s run ≡ true
-AllClear s marks run (round ∷ rounds) = AreClear s marks run round × AllClear s marks (after_round s run round) rounds
+AllClear s marks run (round ∷ rounds) = AreClear false s marks run round × AllClear s marks (after_round s run round) rounds
 
 -- The first fault is in the round of this number, from 0, and there it is that of this party. After the last round it is that of the least party that hasn't ended
-abbrev pub IsFirstFault : Session → Marks → Run → List RoundSeen → ℕ → ℕ → Type 0
-IsFirstFault s marks run [] number party = (number ≡ 0) × IsLeastWithout (λ p. has_ended s run p ≡ true) (fast_party s) party
-IsFirstFault s marks run (round ∷ rounds) zero party = IsLeastWithout (IsClear s marks run round) (fast_party s) party
-IsFirstFault s marks run (round ∷ rounds) (suc number) party = AreClear s marks run round × IsFirstFault s marks (after_round s run round) rounds number party
+abbrev pub IsFirstFault : Bool → Session → Marks → Run → List RoundSeen → ℕ → ℕ → Type 0
+IsFirstFault cut s marks run [] number party = (number ≡ 0) × IsLeastWithout (λ p. has_ended s run p ≡ true) (fast_party s) party
+IsFirstFault cut s marks run (round ∷ rounds) zero party = IsLeastWithout (IsClear cut s marks run round) (fast_party s) party
+IsFirstFault cut s marks run (round ∷ rounds) (suc number) party = AreClear cut s marks run round × IsFirstFault cut s marks (after_round s run round) rounds number party
 
 -- two lists of bytes are the same up to this place, and not there: the bytes differ, or one list ends
 pub record FirstDiffer (a b : List ℕ) (at : ℕ) : Type 0 where
@@ -74,7 +88,7 @@ HasNoFault script files j = let s = session_of script files in AllClear s (marks
 
 -- the first fault of a journal is that of this party in this round
 abbrev pub HasFirstFault : ScriptData → List (List Frame) → JournalData → ℕ → ℕ → Type 0
-HasFirstFault script files j round party = let s = session_of script files in IsFirstFault s (marks_of j.rounds) (new_run s) j.rounds round party
+HasFirstFault script files j round party = let s = session_of script files in IsFirstFault false s (marks_of j.rounds) (new_run s) j.rounds round party
 
 -- the verdict is right. It is never about a text
 abbrev pub IsVerdict : ScriptData → List (List Frame) → JournalData → List ℕ → Verdict → Type 0

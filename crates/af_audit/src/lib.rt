@@ -7,6 +7,6 @@ mod run_judge;
 mod sound;
 mod verdict;
 
-pub use judgement::verify;
+pub use judgement::{judge, verify};
 pub use sound::pcm;
 pub use verdict::{Refusal, Verdict};

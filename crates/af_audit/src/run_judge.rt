@@ -4,6 +4,8 @@ ghost use Rattle.std.specs.List.{list_any, prefix_len};
 ghost use Rattle.af_base.specs.Turn.{turn_of};
 ghost use Rattle.af_model.specs.JournalForm.{IsJournal, IsTurn};
 ghost use Rattle.af_model.specs.Journals.{calls_at, entries_of, frames_of, round_at};
+ghost use Rattle.af_runs.specs.Blocks.{Marks};
+ghost use Rattle.af_runs.specs.Runs.{Run};
 ghost use Rattle.af_runs.specs.LegalRuns.{is_lawful_block, is_poke_on, marks_of};
 ghost use Rattle.af_runs.specs.Sessions.{Session, spec_setting};
 ghost use Rattle.af_script.specs.Form.{IsScript};
@@ -15,6 +17,7 @@ ghost use Rattle.af_judge.specs.SharedTold.{AreRight};
 ghost use Rattle.af_audit.specs.MeetingsJudged.{TracksMet, is_there, mixers_met};
 ghost use Rattle.af_audit.specs.RoundTold.{MixersTold, RoundPlayed, TurnIfTold, TurnTold, ended_track, pipe_turned, report_turned};
 ghost use Rattle.af_audit.specs.RunJudged.{IsReady};
+ghost use Rattle.af_audit.specs.Verdicts.{MayEnd};
 ghost use Rattle.af_audit.specs.RunKept.{AreNewTracks, CallsJudged, IsNewJudge, JudgesRound, KeepsRun, LeastBelow, client_ended, found_after, least_found, lesser, party_ended, run_before};
 
 use af_base::{ClientCall, FastLog, FastState, Memory, TurnEntry};
@@ -343,6 +346,18 @@ impl RunJudge {
         None
     }
 
+    /// Whether a run may end: all parties have ended, or, where it is cut off, its log is full and some party hasn't.
+    pub(crate) fn may_end(&self, tracks: &[TrackJudge], cut: bool) -> bool
+        requires { length tracks.now ≤ 32 }
+        ensures { (s : Session) (marks : Marks) (run : Run) → KeepsRun s marks self.now tracks.now run → IsTrue result ↔ MayEnd cut s run }
+    {
+        let over = self.going_party(tracks).is_none();
+        if !cut {
+            return over;
+        }
+        both(self.fast.entries() == self.cycles, !over)
+    }
+
     // What a turn did at the queue, after so many pushes, what it put into the pipe, and the report that it loaded.
     fn note_turn(&mut self, pushed: u64, turn: &TurnEntry) -> Result<(), Memory>
         requires judged { IsJudged self.old.normal }
@@ -433,20 +448,22 @@ impl RunJudge {
         Ok((normal, both(before, after)))
     }
 
-    // Whether as many entries may come in a round as do: none after the end, and else a turn of the fast mixer, within the script's cycles.
-    fn may_enter(&self, journal: &Journal, round: usize) -> bool
+    // Whether as many entries may come in a round as do: none after the end, and else a turn of the fast mixer, within the script's cycles. Of a run that is cut off the turn may also end since the log is full.
+    fn may_enter(&self, journal: &Journal, round: usize, cut: bool) -> bool
         requires { round < length journal.now.rounds }
-        ensures { IsTrue result ↔ MayEnter self.now.fast self.now.cycles (map (λ e. e.entry) (entries_of journal.now.rounds)) (length (entries_of (take round journal.now.rounds))) (length (round_at journal.now round).entries) }
+        ensures { IsTrue result ↔ MayEnter cut self.now.fast self.now.cycles (map (λ e. e.entry) (entries_of journal.now.rounds)) (length (entries_of (take round journal.now.rounds))) (length (round_at journal.now round).entries) }
     {
         let entries = entries_in(journal, round);
         let told = self.fast.entries();
-        if told >= self.cycles || entries.count as u64 > self.cycles - told {
+        let count = entries.count as u64;
+        if told >= self.cycles || count > self.cycles - told {
             return false;
         }
         if self.fast.has_ended() {
             return entries.count == 0;
         }
-        is_fast_turn(log_in(journal), entries, MOST_CYCLES, false)
+        let full = cut && told + count == self.cycles;
+        is_fast_turn(log_in(journal), entries, MOST_CYCLES, full)
     }
 
     // Whether the stream proxy of a track takes part in a meeting: it is home, or the fast mixer has it.
@@ -493,6 +510,7 @@ impl RunJudge {
         files: &[Pcm],
         journal: &Journal,
         round: usize,
+        cut: bool,
     ) -> Result<Found, Memory>
         requires ready { IsReady self.old (length tracks.old) }
         requires specs { length specs.now ≡ length tracks.old }
@@ -503,10 +521,10 @@ impl RunJudge {
         ensures count { IfOk result (λ _. length tracks.new ≡ length tracks.old) }
         ensures caller { IfOk result (λ found. IfSome found.caller (λ track. track < length tracks.old)) }
         ensures met { IfOk result (λ found. IfSome found.met (λ track. track < length tracks.old)) }
-        ensures told { IfOk result (λ found. let all = entries_of journal.now.rounds in RoundPlayed specs.now files.now (frames_of all) (map (λ e. e.entry) all) (length (entries_of (take round journal.now.rounds))) (round_at journal.now round) self.old tracks.old found self.new tracks.new) }
+        ensures told { IfOk result (λ found. let all = entries_of journal.now.rounds in RoundPlayed cut specs.now files.now (frames_of all) (map (λ e. e.entry) all) (length (entries_of (take round journal.now.rounds))) (round_at journal.now round) self.old tracks.old found self.new tracks.new) }
     {
         self.fast.begin_round();
-        let may = self.may_enter(journal, round);
+        let may = self.may_enter(journal, round, cut);
         let caller = call_all(tracks, specs, files, journal, round)?;
         let (normal, fast) = self.mix(tracks, journal, round)?;
         let met = self.meet_all(tracks)?;
@@ -522,7 +540,7 @@ impl RunJudge {
         })
     }
 
-    /// Tells a round. Answers the least party that isn't clear; None where all are.
+    /// Tells a round, of a run that is cut off or not. Answers the least party that isn't clear; None where all are.
     pub(crate) fn round(
         &mut self,
         tracks: &mut [TrackJudge],
@@ -530,6 +548,7 @@ impl RunJudge {
         files: &[Pcm],
         journal: &Journal,
         round: usize,
+        cut: bool,
     ) -> Result<Option<u32>, Memory>
         requires ready { IsReady self.old (length tracks.old) }
         requires specs { length specs.now ≡ length tracks.old }
@@ -540,11 +559,11 @@ impl RunJudge {
         ensures count { IfOk result (λ _. length tracks.new ≡ length tracks.old) }
         ensures party { IfOk result (λ found. IfSome found (λ party. party ≤ length tracks.old + 1)) }
         ensures judged { (s : Session) → IsScript s.script → s.script.tracks ≡ specs.now → s.files ≡ files.now → (let marks = marks_of journal.now.rounds in let run = run_before s journal.now.rounds round in
-            KeepsRun s marks self.old tracks.old run → IfOk result (λ found. JudgesRound s marks run (round_at journal.now round) self.new tracks.new found)) }
+            KeepsRun s marks self.old tracks.old run → IfOk result (λ found. JudgesRound cut s marks run (round_at journal.now round) self.new tracks.new found)) }
     {
         let _log = log_in(journal);
         let going = self.going_party(tracks);
-        let found = self.play(tracks, specs, files, journal, round)?;
+        let found = self.play(tracks, specs, files, journal, round, cut)?;
         Ok(found.least(going.is_none(), tracks.len() as u32))
     }
 }

@@ -1,0 +1,45 @@
+-- A run may end by what is kept of it exactly where it may.
+use Rattle.std.specs.Prelude.{◌≡◌, ◌↔◌, ℕ, ◌+◌, ◌==◌, Bool, true, false, not, IsTrue, List, length, Option, is_some}
+use Rattle.std.proofs.Common.{arith, ap, refl, sym, true≢false, ◌∙◌}
+use Rattle.std.proofs.lemmas.Bool.Decides.{nat_tests}
+use Rattle.af_base.specs.declared.report.Report.{Report}
+use Rattle.af_judge.specs.declared.track_judge.TrackJudge.{TrackJudge}
+use Rattle.af_life.specs.Kept.{NormalKept}
+use Rattle.af_runs.specs.Blocks.{Marks}
+use Rattle.af_runs.specs.Runs.{Run, all_ended}
+use Rattle.af_runs.specs.Sessions.{Session}
+use Rattle.af_audit.specs.declared.run_judge.RunJudge.{RunJudge}
+use Rattle.af_audit.specs.RunKept.{KeepsRun, LeastBelow, party_ended}
+use Rattle.af_audit.specs.Verdicts.{MayEnd}
+use Rattle.af_audit.proofs.PartiesEnded.{all_is, none_of}
+
+is_same : (m n : ℕ) → (m == n) ≡ true → m ≡ n
+is_same m n h = grind (arith, nat_tests, h)
+
+same_is : (m n : ℕ) → m ≡ n → (m == n) ≡ true
+same_is m n h = grind (arith, nat_tests, h)
+
+not_over : (b : Bool) → not b ≡ true → b ≡ false
+not_over true h = sym h
+not_over false h = refl
+
+goes_on : (b : Bool) → b ≡ false → not b ≡ true
+goes_on b h = ap not h
+
+module _ (s : Session) (marks : Marks) (j : RunJudge) (tracks : List TrackJudge) (run : Run) (keeps : KeepsRun s marks j tracks run) (found : Option ℕ) (over : Bool) (least : LeastBelow (λ p. party_ended j tracks p ≡ true) (length tracks + 2) found) (over_is : is_some found ≡ not over) where
+  over-so : all_ended s run ≡ over
+  over-so = all_is s marks j tracks run keeps.of_tracks (ap (λ (m : NormalKept). m.ended) keeps.normal.kept) keeps.fast.ended found least ∙ sym (none_of found over over_is)
+
+  told-so : j.fast.told.report.cycle ≡ length run.entries
+  told-so = ap (λ (r : Report). r.cycle) keeps.fast.report ∙ keeps.fast.numbered.cycle
+
+  -- where all parties have ended
+  pub whole_ends : IsTrue over ↔ MayEnd false s run
+  whole_ends = ((λ h. over-so ∙ h), (λ h. sym over-so ∙ h))
+
+  -- or where the log is full and some party hasn't
+  pub cut_ends : (count : ℕ) (answer : Bool) → count ≡ j.fast.told.report.cycle → IsTrue answer ↔ (IsTrue (count == j.cycles) × IsTrue (not over)) → IsTrue answer ↔ MayEnd true s run
+  cut_ends count answer count_is both = (
+    (λ h. let b = both.0 h in (sym (count_is ∙ told-so) ∙ (is_same count j.cycles b.0 ∙ keeps.cycles), over-so ∙ not_over over b.1)),
+    (λ h. both.1 (same_is count j.cycles ((count_is ∙ told-so) ∙ (h.0 ∙ sym keeps.cycles)), goes_on over (sym over-so ∙ h.1))),
+  )
