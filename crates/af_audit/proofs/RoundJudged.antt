@@ -1,28 +1,19 @@
 -- What is found of a round is the least party that isn't clear, and where none is found what is kept is kept of the run after the round.
-use Rattle.std.specs.Prelude.{◌↔◌, slice_get, MatchBool, MatchOption}
-use Rattle.std.proofs.Common.{◌≡◌, inl, inr, ℕ, ◌+◌, ◌^◌, ◌<◌, ◌≤◌, ◌==◌, ◌&&◌, ◌||◌, zero, suc, drop, nat_lt, Bool, true, false, true≢false, IsTrue, if◌then◌else◌, List, [], ◌∷◌, length, map, Option, Some, None, arith, refl, sym, ap, subst, ◌∙◌}
-use Rattle.std.specs.Prelude.{slice_index_or}
+use Rattle.std.specs.Prelude.{◌↔◌, MatchBool}
+use Rattle.std.proofs.Common.{◌≡◌, ℕ, ◌+◌, ◌<◌, ◌≤◌, ◌==◌, ◌&&◌, ◌||◌, zero, suc, drop, nat_lt, Bool, true, false, true≢false, IsTrue, List, [], length, Option, None, arith, refl, sym, ap, subst, ◌∙◌}
 use Rattle.std.proofs.lemmas.Bool.Decides.{nat_tests}
-use Rattle.af_base.specs.declared.frame.Frame.{Frame}
-use Rattle.af_base.specs.declared.log.CycleEntry.{CycleEntry}
 use Rattle.af_base.specs.declared.report.Report.{Report}
-use Rattle.af_base.specs.declared.state.FastState.{FastState}
-use Rattle.af_base.specs.Log.{entry_at}
 use Rattle.af_model.specs.Journals.{EntrySeen, RoundSeen}
 use Rattle.af_judge.specs.declared.track_judge.TrackJudge.{TrackJudge}
 use Rattle.af_judge.specs.BlocksMet.{AreShort, BothKeep, blocks_met}
 use Rattle.af_judge.specs.Entries.{FastOf}
-use Rattle.af_judge.specs.EntriesTold.{AreEntriesRight, AreFormed, MayEnter, Playing, playing}
-use Rattle.af_judge.specs.FastKept.{FastKept, carries_track}
+use Rattle.af_judge.specs.FastKept.{carries_track}
 use Rattle.af_judge.specs.NormalTold.{IsTrackAt}
 use Rattle.af_judge.specs.PipeKept.{with_meeting}
-use Rattle.af_judge.specs.ReportKept.{ReportKept}
-use Rattle.af_judge.specs.Reporting.{adopted_in}
 use Rattle.af_judge.specs.RunTold.{KeepsTracks, NormalOf}
-use Rattle.af_judge.specs.SharedTold.{AreRight, BesideQueue, QueueGoes, QueueOf}
+use Rattle.af_judge.specs.SharedTold.{AreRight, BesideQueue, QueueOf}
 use Rattle.af_judge.specs.StatesKept.{StatesKept}
 use Rattle.af_judge.proofs.BlocksMeet.{track_judged, tracks_met}
-use Rattle.af_judge.proofs.EntriesFollow.{KeepsPlaying, entries_in}
 use Rattle.af_judge.proofs.FastBeside.{ends_same, fast_met, fast_same}
 use Rattle.af_judge.proofs.FastClear.{IsFastLegal, round_used}
 use Rattle.af_judge.proofs.NormalTells.{same_track}
@@ -31,19 +22,19 @@ use Rattle.af_judge.proofs.SharedFollows.{beside_ended, beside_met, queue_met_so
 use Rattle.af_life.specs.Kept.{NormalKept, is_home, track_at}
 use Rattle.af_runs.specs.Blocks.{Marks}
 use Rattle.af_runs.specs.Rounds.{IsFastTurn, LegalEntries, LegalFastTurn, LegalNormalTurn, SharedHistories, TrackHistories, after_round, after_turn, all_played, early_count, early_of, fills, late_of, met_after, most_cycles}
-use Rattle.af_runs.specs.Runs.{Run, all_ended, fast_ended, fast_party, holds, met, normal_party, sides_of, takes_part, told_at, with_calls, with_ends}
-use Rattle.af_runs.specs.Sessions.{Session, cycle_frames, spec_of, track_count}
+use Rattle.af_runs.specs.Runs.{Run, all_ended, fast_ended, fast_party, met, normal_party, sides_of, takes_part, told_at, with_calls}
+use Rattle.af_runs.specs.Sessions.{Session, spec_of, track_count}
 use Rattle.af_runs.specs.Told.{state_at}
 use Rattle.af_audit.specs.declared.run_judge.Found.{Found}
 use Rattle.af_audit.specs.declared.run_judge.RunJudge.{RunJudge}
 use Rattle.af_audit.specs.MeetingsJudged.{Keeps, TracksMet, is_there, mixers_met}
-use Rattle.af_audit.specs.RoundTold.{loaded_if, tracks_ended}
+use Rattle.af_audit.specs.RoundTold.{tracks_ended}
 use Rattle.af_audit.specs.RunKept.{FindsFaults, IsFit, IsLegalCaller, KeepsRun, LeastBelow, least_found}
 use Rattle.af_audit.specs.Verdicts.{ClientIsClear, FastIsClear, IsClear, NormalIsClear}
 use Rattle.af_audit.proofs.JudgedExactly.{client_part, fast_part, normal_part}
 use Rattle.af_audit.proofs.LeastOnes.{found_least}
 use Rattle.af_audit.proofs.RoundEnds.{ends_keep, ends_normal, met_normal}
-use Rattle.af_audit.proofs.SidesKept.{fit_played, fit_round, played_many}
+use Rattle.af_audit.proofs.SidesKept.{fit_played, fit_round}
 use Rattle.af_audit.proofs.TrackThere.{track_there}
 
 -- ## The parties of a round

@@ -1,7 +1,7 @@
 -- A round that was told is judged exactly: the least party that isn't clear is found, or none, and then what is kept is kept of the run after the round.
 use Rattle.std.specs.Prelude.{◌↔◌, is_none, slice_get, MatchOption}
 use Rattle.std.specs.List.{sum_by}
-use Rattle.std.proofs.Common.{◌≡◌, ℕ, zero, suc, ◌+◌, ◌<◌, ◌≤◌, Bool, true, false, true≢false, IsTrue, List, [], ◌∷◌, ◌++◌, length, map, take, drop, Option, Some, None, arith, refl, sym, ap, subst, ◌∙◌, append-nil, append_assoc, unwrap_or}
+use Rattle.std.proofs.Common.{◌≡◌, ℕ, zero, suc, ◌+◌, ◌<◌, Bool, true, IsTrue, List, [], ◌∷◌, ◌++◌, length, map, take, drop, Option, Some, None, arith, refl, sym, ap, subst, ◌∙◌, append-nil, append_assoc, unwrap_or}
 use Rattle.std.specs.Prelude.{slice_index_or}
 use Rattle.std.proofs.lemmas.List.{map-append}
 use Rattle.std.proofs.lemmas.List.Elements.{All-get_or}
@@ -13,7 +13,7 @@ use Rattle.af_base.specs.Turn.{Turn}
 use Rattle.af_model.specs.JournalForm.{IsJournal, IsRound, IsTurn}
 use Rattle.af_model.specs.Journals.{EntrySeen, JournalData, RoundSeen, entries_of, frames_of, no_round, round_at, taken_by}
 use Rattle.af_judge.specs.declared.track_judge.TrackJudge.{TrackJudge}
-use Rattle.af_judge.specs.EntriesTold.{AreEntriesRight, AreFormed, MayEnter, Playing, entries_leave, playing}
+use Rattle.af_judge.specs.EntriesTold.{AreEntriesRight, AreFormed, Playing, entries_leave, playing}
 use Rattle.af_judge.specs.ReportKept.{ReportKept}
 use Rattle.af_judge.specs.Entries.{FastOf}
 use Rattle.af_judge.specs.FastKept.{FastKept}
@@ -30,13 +30,12 @@ use Rattle.af_runs.specs.Blocks.{Marks}
 use Rattle.af_runs.specs.LegalRuns.{marks_of, run_from}
 use Rattle.af_life.specs.Kept.{NormalKept}
 use Rattle.af_runs.specs.Rounds.{LegalNormalTurn, after_round, after_turn, all_played, before_turn, early_count, early_of, late_of, loaded}
-use Rattle.af_runs.specs.Runs.{Run, all_ended, fast_party, frames_before, has_ended, new_run, with_calls, with_cycles, with_load}
+use Rattle.af_runs.specs.Runs.{Run, all_ended, frames_before, new_run, with_calls, with_cycles, with_load}
 use Rattle.af_runs.specs.Sessions.{Session, track_count}
 use Rattle.af_script.specs.Form.{IsScript}
 use Rattle.af_audit.specs.declared.run_judge.Found.{Found}
 use Rattle.af_audit.specs.declared.run_judge.RunJudge.{RunJudge}
-use Rattle.af_audit.specs.RoundTold.{MixersTold, RoundPlayed, TurnIfTold, begun}
-use Rattle.af_audit.specs.RoundTold as told
+use Rattle.af_audit.specs.RoundTold.{RoundPlayed, TurnIfTold, begun}
 use Rattle.af_audit.specs.RunKept.{IsLegalCaller, JudgesRound, KeepsRun, LeastBelow, least_found, party_ended, run_before}
 use Rattle.af_audit.proofs.CallsFollow.{caller_found}
 use Rattle.af_audit.proofs.PartiesEnded.{all_is}

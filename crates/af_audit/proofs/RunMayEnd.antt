@@ -1,6 +1,6 @@
 -- A run may end by what is kept of it exactly where it may.
 use Rattle.std.specs.Prelude.{◌≡◌, ◌↔◌, ℕ, ◌+◌, ◌==◌, Bool, true, false, not, IsTrue, List, length, Option, is_some}
-use Rattle.std.proofs.Common.{arith, ap, refl, sym, true≢false, ◌∙◌}
+use Rattle.std.proofs.Common.{arith, ap, refl, sym, ◌∙◌}
 use Rattle.std.proofs.lemmas.Bool.Decides.{nat_tests}
 use Rattle.af_base.specs.declared.report.Report.{Report}
 use Rattle.af_judge.specs.declared.track_judge.TrackJudge.{TrackJudge}

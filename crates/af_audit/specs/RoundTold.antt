@@ -1,5 +1,5 @@
 -- What a judge tells of a round, step by step: the calls, the entries before the turn, the turn, the entries behind it, and the meetings.
-use Rattle.std.specs.Prelude.{◌≡◌, ◌↔◌, ℕ, ◌-◌, ◌<◌, ◌≤◌, ◌&&◌, not, min, nat_le, Bool, true, false, IsTrue, if◌then◌else◌, List, [], length, map, take, drop, slice_index_or, Option, Some, None}
+use Rattle.std.specs.Prelude.{◌≡◌, ◌↔◌, ℕ, ◌-◌, ◌<◌, ◌≤◌, ◌&&◌, not, min, nat_le, Bool, true, IsTrue, if◌then◌else◌, List, [], length, map, take, drop, slice_index_or, Option, Some, None}
 use Rattle.std.specs.List.{prefix_len}
 use Rattle.af_base.specs.declared.frame.Frame.{Frame}
 use Rattle.af_base.specs.declared.log.CycleEntry.{CycleEntry}

@@ -1,11 +1,9 @@
 -- What a judge keeps of a run while all parties were clear, and what it finds of a round.
-use Rattle.std.specs.Prelude.{◌≡◌, ◌↔◌, ℕ, ◌+◌, ◌<◌, ◌≤◌, ◌^◌, ◌==◌, nat_le, nat_lt, Bool, true, false, IsTrue, MatchBool, if◌then◌else◌, List, [], ◌∷◌, length, map, take, drop, slice_index_or, Option, Some, None}
-use Rattle.std.specs.List.{prefix_len}
+use Rattle.std.specs.Prelude.{◌≡◌, ◌↔◌, ℕ, ◌+◌, ◌<◌, ◌≤◌, ◌^◌, ◌==◌, nat_lt, Bool, true, false, IsTrue, if◌then◌else◌, List, [], length, map, take, slice_index_or, Option, Some, None}
 use Rattle.af_base.specs.declared.event.ClientCall.{ClientCall}
 use Rattle.af_base.specs.declared.frame.Frame.{Frame}
 use Rattle.af_base.specs.Sample.{packed_word}
 use Rattle.af_base.specs.declared.report.Report.{Report}
-use Rattle.af_base.specs.declared.log.CycleEntry.{CycleEntry}
 use Rattle.af_judge.specs.declared.track_judge.TrackJudge.{TrackJudge}
 use Rattle.af_judge.specs.Blocks.{new_judged}
 use Rattle.af_judge.specs.FastKept.{fast_begins}
@@ -23,7 +21,7 @@ use Rattle.af_runs.specs.Clients.{new_client}
 use Rattle.af_runs.specs.ClientTurns.{LegalClientTurn, Track, after_calls, new_side}
 use Rattle.af_runs.specs.LegalRuns.{is_lawful_block, run_from}
 use Rattle.af_runs.specs.Rounds.{after_round}
-use Rattle.af_runs.specs.Runs.{Run, all_ended, calls_in, fast_ended, fast_party, new_run, pipe_cells, sides_of, told_at}
+use Rattle.af_runs.specs.Runs.{Run, calls_in, fast_party, new_run, pipe_cells, sides_of, told_at}
 use Rattle.af_runs.specs.Sessions.{Session, command_shape, file_words, no_spec, script_setup, stream_shape, track_count}
 use Rattle.af_script.specs.Data.{ScriptData}
 use Rattle.af_script.specs.declared.track.TrackSpec.{TrackSpec}

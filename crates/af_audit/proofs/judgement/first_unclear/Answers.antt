@@ -1,4 +1,4 @@
-use Rattle.std.proofs.Common.{◌≡◌, ◌∙◌, ◌<◌, ◌≤◌, ◌+◌, ℕ, List, Option, None, length, arith, refl, sym, ap, subst}
+use Rattle.std.proofs.Common.{◌∙◌, ◌<◌, ◌+◌, ℕ, List, Option, length, arith, refl, sym, subst}
 use Rattle.std.specs.Prelude.{slice_index_or}
 use Rattle.af_model.specs.Journals.{RoundSeen, no_round}
 use Rattle.af_runs.specs.LegalRuns.{marks_of, run_from}
