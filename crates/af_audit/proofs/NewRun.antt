@@ -1,12 +1,8 @@
 -- What is kept before the first round is kept of the run before it.
-use Rattle.std.proofs.Common.{◌≡◌, ℕ, ◌+◌, ◌<◌, ◌≤◌, ◌^◌, Bool, true, false, List, [], length, map, arith, refl, sym, ap, subst, ◌∙◌}
-use Rattle.std.specs.Prelude.{slice_index_or}
-use Rattle.std.specs.List.{range_with_len}
-use Rattle.std.proofs.lemmas.List.{length-map}
+use Rattle.std.proofs.Common.{◌≡◌, ℕ, ◌<◌, Bool, List, [], length, arith, refl, sym, ap, subst, ◌∙◌}
 use Rattle.std.proofs.lemmas.List.FromFn.{get_or-map-range_with_len, length-map-range_with_len}
 use Rattle.af_judge.specs.declared.track_judge.TrackJudge.{TrackJudge}
 use Rattle.af_judge.specs.Blocks.{BlockJudged, IsBlockOf, new_judged}
-use Rattle.af_judge.specs.NormalTold.{IsTrackAt}
 use Rattle.af_judge.specs.RunTold.{IsServedBlock, IsServedTrack, KeepsTracks}
 use Rattle.af_judge.specs.Tracks.{IsTrackOf}
 use Rattle.af_judge.proofs.BlocksTold.{block_begins}

@@ -1,7 +1,7 @@
 -- What is kept of a run follows a round, step by step.
 use Rattle.std.specs.Prelude.{◌↔◌}
 use Rattle.std.specs.List.{prefix_len}
-use Rattle.std.proofs.Common.{◌≡◌, inl, ℕ, suc, ◌+◌, ◌<◌, ◌≤◌, Bool, true, false, IsTrue, List, [], ◌∷◌, length, map, take, drop, Option, Some, None, cond, nat_le, arith, refl, sym, ap, subst, ◌∙◌}
+use Rattle.std.proofs.Common.{◌≡◌, inl, ℕ, suc, ◌+◌, ◌≤◌, Bool, true, false, IsTrue, List, [], ◌∷◌, length, map, take, drop, Option, Some, None, cond, nat_le, arith, refl, sym, ap, subst, ◌∙◌}
 use Rattle.std.proofs.lemmas.Bool.Decides.{nat_tests}
 use Rattle.std.proofs.lemmas.List.{take-map, drop-map}
 use Rattle.af_base.specs.declared.frame.Frame.{Frame}
@@ -12,7 +12,6 @@ use Rattle.af_model.specs.Journals.{EntrySeen, RoundSeen}
 use Rattle.af_judge.specs.declared.track_judge.TrackJudge.{TrackJudge}
 use Rattle.af_judge.specs.EntriesTold.{AreFormed, Playing, entries_leave, playing}
 use Rattle.af_judge.specs.Entries.{FastOf}
-use Rattle.af_judge.specs.FastKept.{FastKept}
 use Rattle.af_judge.specs.ReportKept.{ReportKept}
 use Rattle.af_judge.specs.RunTold.{KeepsTracks, NormalOf}
 use Rattle.af_judge.specs.SharedTold.{BesideQueue, QueueGoes, QueueOf}

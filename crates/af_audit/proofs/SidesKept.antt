@@ -1,5 +1,5 @@
 -- What clients have of their tracks stays, whatever the mixers do.
-use Rattle.std.proofs.Common.{◌≡◌, ℕ, ◌+◌, ◌<◌, ◌≤◌, Bool, true, false, if◌then◌else◌, List, [], ◌∷◌, ◌++◌, length, map, flat_map, Option, Some, None, arith, refl, sym, ap, subst, ◌∙◌}
+use Rattle.std.proofs.Common.{◌≡◌, ℕ, ◌<◌, ◌≤◌, Bool, true, false, if◌then◌else◌, List, [], ◌∷◌, length, map, flat_map, Option, Some, None, arith, refl, sym, ap, subst, ◌∙◌}
 use Rattle.af_base.specs.declared.event.ClientCall.{ClientCall}
 use Rattle.af_base.specs.declared.event.ClientEvent.{ClientEvent}
 use Rattle.af_base.specs.declared.event.HandEvent.{HandEvent}
@@ -22,14 +22,14 @@ use Rattle.af_life.specs.Looks.{words_taken}
 use Rattle.af_life.specs.TurnEvents.{command_list, going, hand_list, stream_list, takes_from, tracks_at}
 use Rattle.af_model.specs.Cycles.{cycle_events}
 use Rattle.af_model.specs.Journals.{EntrySeen, RoundSeen, slot_frames}
-use Rattle.af_runs.specs.Blocks.{BlockTold, client_list, hand_does, listed, server_does, took}
+use Rattle.af_runs.specs.Blocks.{BlockTold, hand_does, listed, server_does, took}
 use Rattle.af_runs.specs.Clients.{ends}
 use Rattle.af_runs.specs.ClientTurns.{LegalClientTurn, Side, Track, after_calls}
 use Rattle.af_runs.specs.Found.{TurnFound, outside_of}
 use Rattle.af_runs.specs.Fronts.{front_of}
 use Rattle.af_runs.specs.Rounds.{after_round, after_turn, all_played, before_turn, early_of, found_in, late_of, loaded, turned}
-use Rattle.af_runs.specs.Runs.{Run, TrackTold, called, calls_in, each_track, met, mixed_track, no_track, played, side_of, sides_of, slot_for, state_for, stream_met, takes_part, told_at, track_met, turned_track, with_calls, with_cycle, with_cycles, with_ends, with_load, with_mix, with_poll, with_turn}
-use Rattle.af_runs.specs.Sessions.{Session, cycle_frames, setup_of, track_count}
+use Rattle.af_runs.specs.Runs.{Run, TrackTold, called, calls_in, each_track, met, mixed_track, no_track, played, side_of, sides_of, slot_for, state_for, stream_met, takes_part, told_at, turned_track, with_calls, with_cycle, with_cycles, with_ends, with_load, with_mix, with_poll, with_turn}
+use Rattle.af_runs.specs.Sessions.{Session, cycle_frames, setup_of}
 use Rattle.af_audit.specs.RunKept.{IsFit, IsLegalCaller}
 use Rattle.af_audit.proofs.CallsFollow.{calls_long, told_called}
 

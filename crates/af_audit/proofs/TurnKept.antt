@@ -1,8 +1,7 @@
 -- What is kept of a run follows the normal mixer's turn of a round, if it has one.
 use Rattle.std.specs.Prelude.{◌↔◌, is_some, MatchBool, MatchOption}
-use Rattle.std.proofs.Common.{◌≡◌, ℕ, ◌-◌, min, take, ◌&&◌, not, Bool, true, false, true≢false, IsTrue, if◌then◌else◌, List, [], length, map, Option, Some, None, refl, sym, ap, subst, ◌∙◌}
+use Rattle.std.proofs.Common.{◌≡◌, ℕ, ◌-◌, min, take, Bool, true, false, true≢false, IsTrue, if◌then◌else◌, List, length, Option, Some, None, refl, sym, ap, subst, ◌∙◌}
 use Rattle.af_base.specs.declared.frame.Frame.{Frame}
-use Rattle.af_base.specs.declared.log.CycleEntry.{CycleEntry}
 use Rattle.af_base.specs.declared.state.FastState.{FastState}
 use Rattle.af_base.specs.Turn.{Turn}
 use Rattle.af_model.specs.JournalForm.{IsTurn}
@@ -10,15 +9,14 @@ use Rattle.af_model.specs.Journals.{RoundSeen}
 use Rattle.af_judge.specs.declared.track_judge.TrackJudge.{TrackJudge}
 use Rattle.af_model.specs.Cycles.{UseUpTo}
 use Rattle.af_judge.specs.Entries.{AreNumbered, FastOf}
-use Rattle.af_judge.specs.EntriesTold.{AreFormed, Playing, playing}
+use Rattle.af_judge.specs.EntriesTold.{AreFormed, playing}
 use Rattle.af_judge.specs.FastKept.{FastKept}
 use Rattle.af_judge.specs.Foresight.{entries_foreseen, foreseen, servers_at}
 use Rattle.af_judge.specs.PipeKept.{PipeKept, front_by_room, saw_front, with_put}
 use Rattle.af_judge.specs.QueueNumbers.{turn_steps, with_steps}
 use Rattle.af_judge.specs.ReportKept.{ReportKept}
 use Rattle.af_judge.specs.RunTold.{KeepsTracks, NormalOf, StatesFit}
-use Rattle.af_judge.specs.SharedTold.{BesideQueue, QueueGoes, pipe_noted}
-use Rattle.af_judge.specs.StatesKept.{StatesKept}
+use Rattle.af_judge.specs.SharedTold.{BesideQueue, QueueGoes}
 use Rattle.af_judge.proofs.EntriesFollow.{KeepsPlaying, entries_in}
 use Rattle.af_judge.proofs.FastBeside.{fast_same, fast_told_same, turned_same}
 use Rattle.af_judge.proofs.NormalRound.{no_turn_follows, no_turn_legal, turn_keeps, turn_legal}

@@ -1,4 +1,4 @@
-use Rattle.std.proofs.Common.{◌≡◌, ◌∙◌, ◌<◌, ℕ, length, arith}
+use Rattle.std.proofs.Common.{◌<◌, length, arith}
 use Rattle.af_audit.proofs.VerdictLaws.{legal_found}
 use Rattle.af_audit.proofs.judgement.verify.Goals as goal
 

@@ -1,9 +1,8 @@
-use Rattle.std.proofs.Common.{◌≡◌, ◌∙◌, ◌||◌, Bool, false, not, refl, sym, ap, arith, take, length}
+use Rattle.std.proofs.Common.{◌≡◌, ◌∙◌, ◌||◌, Bool, false, not, refl, sym, ap, arith}
 use Rattle.std.specs.List.{list_any}
 use Rattle.std.proofs.lemmas.List.{take_all}
 use Rattle.std.proofs.lemmas.List.Folds.{list_any_more}
-use Rattle.af_base.specs.declared.event.ClientCall.{ClientCall}
-use Rattle.af_model.specs.Journals.{RoundSeen, calls_at, no_round, round_at}
+use Rattle.af_model.specs.Journals.{RoundSeen, no_round, round_at}
 use Rattle.af_runs.specs.LegalRuns.{is_poke_on}
 use Rattle.af_runs.specs.Runs.{calls_in}
 use Rattle.af_audit.proofs.run_judge.is_lawful.Goals as goal
