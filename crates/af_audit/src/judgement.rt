@@ -1,4 +1,4 @@
-//! The verdict on a journal and its PCM.
+//! The verdict on a journal and its PCM, and on a journal alone.
 ghost use Rattle.std.specs.Prelude.{◌≡◌, ◌↔◌, ◌+◌, ◌<◌, ◌≤◌, IfOk, IfSome, IsTrue, false, length, true};
 ghost use Rattle.af_audit.specs.Verdicts.{IsRun, IsVerdict};
 ghost use Rattle.af_audit.specs.declared.verdict.Verdict.TheVariants as verdict;

@@ -1,4 +1,4 @@
-//! The verdict on a journal and its PCM: whether they are those of a legal run.
+//! The verdict on a journal and its PCM: whether they are those of a legal run; and on a journal alone: whether it is that of a legal run, or of a cut one.
 #![tactic(auto)]
 
 mod differ;
