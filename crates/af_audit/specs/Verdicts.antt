@@ -41,6 +41,8 @@ IsClear cut s marks run round party = MatchBool (nat_lt party (normal_party s)) 
 abbrev pub AreClear : Bool → Session → Marks → Run → RoundSeen → Type 0
 AreClear cut s marks run round = (party : ℕ) → party ≤ fast_party s → IsClear cut s marks run round party
 
+-- ## The rounds of a run, which `cut` says to be cut off or not
+
 -- each party is clear in each of these rounds, after which the run may go on
 abbrev pub AllBefore : Bool → Session → Marks → Run → List RoundSeen → Type 0
 AllBefore cut s marks run [] = Unit {0}
