@@ -24,3 +24,10 @@ mod TracksMade
 mod MixersTell
 mod VerdictLaws
 mod TurnTells
+mod MixerEnds
+mod DropsNoticed
+mod FileReleased
+mod TrackStands
+mod RunStands
+mod TakenRecorded
+mod FatesTold

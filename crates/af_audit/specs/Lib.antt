@@ -4,3 +4,4 @@ pub mod RunJudged
 pub mod RunKept
 pub mod RoundTold
 pub mod MeetingsJudged
+pub mod Fates
