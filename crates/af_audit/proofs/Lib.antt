@@ -30,4 +30,4 @@ mod FileReleased
 mod TrackStands
 mod RunStands
 mod TakenRecorded
-mod FatesTold
+pub mod FatesTold
