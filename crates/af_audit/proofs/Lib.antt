@@ -24,6 +24,7 @@ mod TracksMade
 mod MixersTell
 mod VerdictLaws
 mod TurnTells
+pub mod DoneTracks
 mod MixerEnds
 mod DropsNoticed
 mod FileReleased

@@ -7,7 +7,7 @@ use Rattle.af_journal.specs.Texts.{text_of}
 use Rattle.af_model.specs.Journals.{JournalData}
 use Rattle.af_tally.specs.declared.summary.Summary.{Summary}
 use Rattle.af_session.specs.Ends.{EndsState}
-use Rattle.af_session.specs.PlayedRuns.{HandsBackRun}
+use Rattle.af_session.specs.PlayedRuns.{HandsBackRun, IsLegalJournal}
 use Rattle.af_session.specs.Shown.{summary_told}
 use Rattle.af_runs.specs.Pcm.{journal_pcm}
 use Rattle.af_io.specs.declared.store.StoreError.{StoreError}
@@ -21,12 +21,12 @@ use Rattle.af_player.specs.Sessions.{summary_line}
 use Rattle.af_player.specs.Status.{stop_of}
 use Rattle.af_player.proofs.Made.{Makes-unwritten, files_are}
 
-module _ (ended : Bool) (l : Loaded) (journal : JournalData) (ends : EndsState) (back : HandsBackRun ended l.script l.files journal ends) where
+module _ (ended : Bool) (l : Loaded) (journal : JournalData) (ends : EndsState) (back : HandsBackRun ended l.script l.files journal ends) (legal : IsLegalJournal ended l.script l.files journal) where
   abbrev bytes : List ℕ
   bytes = journal_pcm l.script.frames journal
 
   is_play : (line : List ℕ) → line ≡ run_line ended l.script journal ends → IsPlay ended l.script l.files bytes (text_of journal) line
-  is_play line is = record { journal = journal; ends = ends; run = back; bytes_are = refl; text_is = refl; line_is = is }
+  is_play line is = record { journal = journal; ends = ends; run = back; legal = legal; bytes_are = refl; text_is = refl; line_is = is }
 
   module _ (target name : List ℕ) (old mid : Files) (set : SetsFile old target (Some bytes) mid) where
     made : with_file old (record { name = target; bytes = bytes }) ≡ mid
@@ -54,26 +54,26 @@ module _ (ended : Bool) (l : Loaded) (journal : JournalData) (ends : EndsState) 
 
 -- ## A run in which all parties have ended
 
-module _ (l : Loaded) (journal : JournalData) (ends : EndsState) (back : HandsBackRun true l.script l.files journal ends) (summary : Summary) (summary_is : summary ≡ summary_told l.script.frames journal ends) where
+module _ (l : Loaded) (journal : JournalData) (ends : EndsState) (back : HandsBackRun true l.script l.files journal ends) (legal : IsLegalJournal true l.script l.files journal) (summary : Summary) (summary_is : summary ≡ summary_told l.script.frames journal ends) where
   pub line_told : (line : List ℕ) → line ≡ summary_line summary → line ≡ run_line true l.script journal ends
   line_told line is = is ∙ ap summary_line summary_is
 
   pub some_play_line : (line : List ℕ) → line ≡ summary_line summary → IsSomePlayLine line
-  some_play_line line is = (l.script, l.files, journal_pcm l.script.frames journal, text_of journal, is_play true l journal ends back line (line_told line is))
+  some_play_line line is = (l.script, l.files, journal_pcm l.script.frames journal, text_of journal, is_play true l journal ends back legal line (line_told line is))
 
   module _ (target name : List ℕ) (old mid new : Files) (set : SetsFile old target (Some (journal_pcm l.script.frames journal)) mid) (text : SetsFile mid name (Some (text_of journal)) new) where
     pub Makes-rounds : (line : String Global) → string_bytes line ≡ summary_line summary → Makes (Ok line) (Ok (play_job target name l)) old new
-    Makes-rounds line is = played true l journal ends back target name old mid set (string_bytes line) new (line_told (string_bytes line) is) text
+    Makes-rounds line is = played true l journal ends back legal target name old mid set (string_bytes line) new (line_told (string_bytes line) is) text
 
     -- both files are whole, and the line has no room
     pub rounds_behind : IsCutOff (Ok (play_job target name l)) old new
     rounds_behind =
-        inr (summary_line summary, played true l journal ends back target name old mid set (summary_line summary) new (line_told (summary_line summary) refl) text)
+        inr (summary_line summary, played true l journal ends back legal target name old mid set (summary_line summary) new (line_told (summary_line summary) refl) text)
 
 -- ## A run that was cut off
 
-pub Makes-cut : (l : Loaded) (journal : JournalData) (ends : EndsState) → HandsBackRun false l.script l.files journal ends → (target name : List ℕ) (old mid new : Files)
+pub Makes-cut : (l : Loaded) (journal : JournalData) (ends : EndsState) → HandsBackRun false l.script l.files journal ends → IsLegalJournal false l.script l.files journal → (target name : List ℕ) (old mid new : Files)
     → SetsFile old target (Some (journal_pcm l.script.frames journal)) mid → SetsFile mid name (Some (text_of journal)) new
     → (cycles : ℕ) → cycles ≡ l.script.cycles → Makes (Err (Over (Limit cycles))) (Ok (play_job target name l)) old new
-Makes-cut l journal ends back target name old mid new set text cycles is =
-    (is, played false l journal ends back target name old mid set (limit_text cycles) new (ap limit_text is) text)
+Makes-cut l journal ends back legal target name old mid new set text cycles is =
+    (is, played false l journal ends back legal target name old mid set (limit_text cycles) new (ap limit_text is) text)

@@ -12,7 +12,7 @@ use Rattle.af_runs.specs.Pcm.{journal_pcm}
 use Rattle.af_tally.specs.declared.summary.Summary.{Summary}
 use Rattle.af_session.specs.Ends.{EndsState}
 use Rattle.af_session.specs.Logging.{IsLogOf}
-use Rattle.af_session.specs.PlayedRuns.{HandsBackRun}
+use Rattle.af_session.specs.PlayedRuns.{HandsBackRun, IsLegalJournal}
 use Rattle.af_session.specs.Shown.{summary_told}
 use Rattle.af_player.specs.declared.status.Stop.TheVariants.{Over}
 use Rattle.af_player.specs.declared.status.Ending.TheVariants.{Limit}
@@ -30,7 +30,7 @@ use Rattle.af_player.proofs.PlayedRounds.{line_told, played, text_left}
 pub appended : (held new empty more : List ℕ) → held ≡ new → new ≡ empty ++ more → empty ≡ [] → held ≡ more
 appended held new empty more is grown none = is ∙ grown ∙ ap (λ (xs : List ℕ). xs ++ more) none
 
-module _ (l : Loaded) (room : ℕ) (journal : JournalData) (ends : EndsState) (back : HandsBackRun true l.script l.files journal ends) (notes : List Note) (refused : ℕ) (log_of : IsLogOf l.script.frames room journal notes refused) where
+module _ (l : Loaded) (room : ℕ) (journal : JournalData) (ends : EndsState) (back : HandsBackRun true l.script l.files journal ends) (legal : IsLegalJournal true l.script l.files journal) (notes : List Note) (refused : ℕ) (log_of : IsLogOf l.script.frames room journal notes refused) where
   abbrev bytes : List ℕ
   bytes = journal_pcm l.script.frames journal
 
@@ -38,7 +38,7 @@ module _ (l : Loaded) (room : ℕ) (journal : JournalData) (ends : EndsState) (b
   told = log_text notes refused
 
   is_trace : (line : List ℕ) → line ≡ run_line true l.script journal ends → IsTrace l.script l.files room bytes (text_of journal) told line
-  is_trace line is = record { play = record { journal = journal; ends = ends; run = back; bytes_are = refl; text_is = refl; line_is = is }; notes = notes; refused = refused; log_of = log_of; log_is = refl }
+  is_trace line is = record { play = record { journal = journal; ends = ends; run = back; legal = legal; bytes_are = refl; text_is = refl; line_is = is }; notes = notes; refused = refused; log_of = log_of; log_is = refl }
 
   module _ (target name log : List ℕ) (old mid next : Files) (set : SetsFile old target (Some bytes) mid) (text : SetsFile mid name (Some (text_of journal)) next) where
     both : with_files old (record { name = target; bytes = bytes } ∷ record { name = name; bytes = text_of journal } ∷ []) ≡ next
@@ -67,22 +67,22 @@ module _ (l : Loaded) (room : ℕ) (journal : JournalData) (ends : EndsState) (b
 
     module _ (summary : Summary) (summary_is : summary ≡ summary_told l.script.frames journal ends) (new : Files) (wrote : SetsFile next log (Some told) new) where
       pub Makes-traced : (line : String Global) → string_bytes line ≡ summary_line summary → Makes (Ok line) (Ok (trace_job target name log room l)) old new
-      Makes-traced line is = traced (string_bytes line) new (line_told l journal ends back summary summary_is (string_bytes line) is) wrote
+      Makes-traced line is = traced (string_bytes line) new (line_told l journal ends back legal summary summary_is (string_bytes line) is) wrote
 
       -- all are whole, and the line has no room
       pub trace_behind : IsCutOff (Ok (trace_job target name log room l)) old new
-      trace_behind = inr (summary_line summary, traced (summary_line summary) new (line_told l journal ends back summary summary_is (summary_line summary) refl) wrote)
+      trace_behind = inr (summary_line summary, traced (summary_line summary) new (line_told l journal ends back legal summary summary_is (summary_line summary) refl) wrote)
 
 -- ## Where no log is written
 
 -- the journal was not written
-module _ (ended : Bool) (l : Loaded) (room : ℕ) (journal : JournalData) (ends : EndsState) (back : HandsBackRun ended l.script l.files journal ends) (target name log : List ℕ) (old mid : Files) (set : SetsFile old target (Some (journal_pcm l.script.frames journal)) mid) where
+module _ (ended : Bool) (l : Loaded) (room : ℕ) (journal : JournalData) (ends : EndsState) (back : HandsBackRun ended l.script l.files journal ends) (legal : IsLegalJournal ended l.script l.files journal) (target name log : List ℕ) (old mid : Files) (set : SetsFile old target (Some (journal_pcm l.script.frames journal)) mid) where
   pub journal_unwritten : (e : StoreError) (new : Files) → LeavesFront mid name (text_of journal) new → Makes (Err (stop_of e)) (Ok (trace_job target name log room l)) old new
-  journal_unwritten e new left = Makes-unwritten e (trace_job target name log room l) old new (inl (inr (text_left ended l journal ends back target name old mid set new left)))
+  journal_unwritten e new left = Makes-unwritten e (trace_job target name log room l) old new (inl (inr (text_left ended l journal ends back legal target name old mid set new left)))
 
 -- a run that was cut off
-pub Makes-cut_log : (l : Loaded) (room : ℕ) (journal : JournalData) (ends : EndsState) → HandsBackRun false l.script l.files journal ends → (target name log : List ℕ) (old mid new : Files)
+pub Makes-cut_log : (l : Loaded) (room : ℕ) (journal : JournalData) (ends : EndsState) → HandsBackRun false l.script l.files journal ends → IsLegalJournal false l.script l.files journal → (target name log : List ℕ) (old mid new : Files)
     → SetsFile old target (Some (journal_pcm l.script.frames journal)) mid → SetsFile mid name (Some (text_of journal)) new
     → (cycles : ℕ) → cycles ≡ l.script.cycles → Makes (Err (Over (Limit cycles))) (Ok (trace_job target name log room l)) old new
-Makes-cut_log l room journal ends back target name log old mid new set text cycles is =
-    (is, played false l journal ends back target name old mid set (limit_text cycles) new (ap limit_text is) text)
+Makes-cut_log l room journal ends back legal target name log old mid new set text cycles is =
+    (is, played false l journal ends back legal target name old mid set (limit_text cycles) new (ap limit_text is) text)

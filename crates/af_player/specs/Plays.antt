@@ -6,7 +6,7 @@ use Rattle.af_io.specs.Outputs.{SetsFiles, with_file}
 use Rattle.af_journal.specs.Texts.{text_of}
 use Rattle.af_model.specs.Journals.{JournalData}
 use Rattle.af_script.specs.Data.{ScriptData}
-use Rattle.af_session.specs.PlayedRuns.{HandsBackRun, LeavesRun}
+use Rattle.af_session.specs.PlayedRuns.{HandsBackRun, IsLegalJournal, LeavesRun}
 use Rattle.af_session.specs.Ends.{EndsState}
 use Rattle.af_session.specs.Shown.{summary_told}
 use Rattle.af_runs.specs.Pcm.{journal_pcm}
@@ -20,11 +20,12 @@ abbrev pub run_line : Bool → ScriptData → JournalData → EndsState → List
 run_line true script journal ends = summary_line (summary_told script.frames journal ends)
 run_line false script journal ends = limit_text script.cycles
 
--- These bytes, this text and this line are of one run of all parties: the bytes are the sound of its journal, the text is that of the same journal, and the line is its line. All parties have ended in it, or else it was cut off where the log was full.
+-- These bytes, this text and this line are of one run of all parties: its journal is by itself that of a legal run, in which each frame that a lawful client released has one fate, the bytes are the sound of that journal, the text is that of the same journal, and the line is its line. All parties have ended in it, or else it was cut off where the log was full.
 pub record IsPlay (ended : Bool) (script : ScriptData) (files : List (List Frame)) (bytes text line : List ℕ) : Type 0 where
   pub journal : JournalData
   pub ends : EndsState
   pub run : HandsBackRun ended script files journal ends
+  pub legal : IsLegalJournal ended script files journal
   pub bytes_are : bytes ≡ journal_pcm script.frames journal
   pub text_is : text ≡ text_of journal
   pub line_is : line ≡ run_line ended script journal ends

@@ -1,24 +1,28 @@
 -- What a play answers, by what was played.
-use Rattle.std.proofs.Common.{◌≡◌, ◌≤◌, ℕ, Bool, true, false, List, length, Result, Ok, Err, IfErr, IfOk, IsErrAnd, IsErrOf, refl, sym, ap, subst, ◌∙◌}
+use Rattle.std.proofs.Common.{◌≡◌, ◌⊎◌, ◌≤◌, ℕ, Bool, true, false, List, length, Some, Result, Ok, Err, IfErr, IfOk, IsErrAnd, IsErrOf, inl, inr, refl, sym, ap, subst, ◌∙◌}
 use Rattle.af_base.specs.declared.frame.Frame.{Frame}
 use Rattle.af_io.specs.Causes.{HasCause}
+use Rattle.af_io.specs.Files.{Files, SetsFile}
 use Rattle.af_io.specs.declared.store.StoreError.{StoreError}
 use Rattle.af_io.specs.declared.store.StoreError.TheVariants as store
 use Rattle.af_model.specs.JournalForm.{IsWhole}
 use Rattle.af_model.specs.Journals.{JournalData, RoundsNoted, journal_of}
+use Rattle.af_runs.specs.LegalRuns.{IsCutRun}
 use Rattle.af_script.specs.Data.{ScriptData}
 use Rattle.af_session.specs.Ends.{EndsState, ends_from}
 use Rattle.af_session.specs.declared.rendering.Played.{Played}
 use Rattle.af_session.specs.declared.rendering.SessionFault.{SessionFault}
 use Rattle.af_session.specs.declared.rendering.SessionFault.TheVariants as fault
 use Rattle.af_session.specs.Hostile.{PokesSpareOthers}
-use Rattle.af_session.specs.PlayedRuns.{AtFault, AtLimit, HandedBack, HandsBackRun, Plays, all_ended, is_full}
+use Rattle.af_session.specs.PlayedRuns.{AtFault, AtLimit, HandedBack, HandsBackRun, LeavesRun, Plays, all_ended, is_full}
 use Rattle.af_session.specs.Rendered.{HasStoreCause, fault_of, is_limit}
 use Rattle.af_session.specs.Shown.{released_by, shown_by, shown_in, summary_told}
 use Rattle.af_session.specs.Spelled.{NoneOlder}
 use Rattle.af_tally.specs.Summaries.{Shown, summary_of}
 use Rattle.af_tally.specs.Tallies.{IsTally, Tallied}
 use Rattle.af_session.specs.Together.{SessionState}
+use Rattle.af_tally.specs.Sound.{pcm_of}
+use Rattle.af_session.proofs.NotedRounds.{left_whole}
 use Rattle.af_session.proofs.Outgoing.{cause_ok}
 use Rattle.af_session.proofs.ShownWhole.{is_told}
 
@@ -89,28 +93,39 @@ module _ {T : Type 0} (r : Result T SessionFault) where
 no_store : {T : Type 0} (j : JournalData) (e : EndsState) → IsErrOf {T = T} {E = SessionFault} (Err (fault.CycleLimit j e)) fault.Store → ⊥
 no_store {T} j e h = let x : ⊥ = cc in x
 
+no_want : {T : Type 0} → IsErrOf {T = T} {E = SessionFault} (Err fault.Memory) fault.Store → ⊥
+no_want {T} h = let x : ⊥ = cc in x
+
 no_fault : (x : Unit {0}) → IsErrOf {T = Unit {0}} {E = StoreError} (Ok x) store.Failed → ⊥
 no_fault x h = let e : ⊥ = cc in e
 
--- an answer that is an error was cut off, with this journal and these ends
+-- an answer that is an error was cut off, with this journal and these ends, or memory ran out
 abbrev pub IsCut : Result Played SessionFault → Type 0 → JournalData → EndsState → Type 0
-IsCut r A j e = IfErr r (λ f. A × (f ≡ fault.CycleLimit j e))
+IsCut r A j e = IfErr r (λ f. (A × (f ≡ fault.CycleLimit j e)) ⊎ (f ≡ fault.Memory))
 
 pub cut_off : (P : JournalData → EndsState → Type 0) (r : Result Played SessionFault) (A : Type 0) (j : JournalData) (e : EndsState) → (A → P j e) → IsCut r A j e → IfErr r (AtLimit P)
 cut_off P (Ok p) A j e h is = tt
-cut_off P (Err f) A j e h is = subst (AtLimit P) (sym is.1) (h is.0)
+cut_off P (Err f) A j e h (inl is) = subst (AtLimit P) (sym is.1) (h is.0)
+cut_off P (Err f) A j e h (inr is) = subst (AtLimit P) (sym is) tt
 
-pub cut_fault : (P : Type 0) (r : Result Played SessionFault) (A : Type 0) (j : JournalData) (e : EndsState) → IsCut r A j e → IfErr r (AtFault P)
-cut_fault P (Ok p) A j e is = tt
-cut_fault P (Err f) A j e is = subst (AtFault P) (sym is.1) tt
-
-pub cause_cut : (r : Result Played SessionFault) (A : Type 0) (j : JournalData) (e : EndsState) (x : Unit {0}) (before now : ℕ) → HasCause {T = Unit {0}} before now (Ok x) → IsCut r A j e → HasStoreCause before now r
-cause_cut (Ok p) A j e x before now cause is = cause_ok p x before now cause
-cause_cut (Err f) A j e x before now cause is = subst (λ (y : SessionFault). HasStoreCause {T = Played} before now (Err y)) (sym is.1) (record {
+cause_limit : (A : Type 0) (j : JournalData) (e : EndsState) (x : Unit {0}) (before now : ℕ) → HasCause {T = Unit {0}} before now (Ok x) → HasStoreCause {T = Played} before now (Err (fault.CycleLimit j e))
+cause_limit A j e x before now cause = record {
   later = cause.later;
   failed = (λ h. absurd (no_store {T = Played} j e h));
   only = (λ lt. absurd (no_fault x (cause.only lt)));
-})
+}
+
+cause_want : (x : Unit {0}) (before now : ℕ) → HasCause {T = Unit {0}} before now (Ok x) → HasStoreCause {T = Played} before now (Err fault.Memory)
+cause_want x before now cause = record {
+  later = cause.later;
+  failed = (λ h. absurd (no_want {T = Played} h));
+  only = (λ lt. absurd (no_fault x (cause.only lt)));
+}
+
+pub cause_cut : (r : Result Played SessionFault) (A : Type 0) (j : JournalData) (e : EndsState) (x : Unit {0}) (before now : ℕ) → HasCause {T = Unit {0}} before now (Ok x) → IsCut r A j e → HasStoreCause before now r
+cause_cut (Ok p) A j e x before now cause is = cause_ok p x before now cause
+cause_cut (Err f) A j e x before now cause (inl is) = subst (λ (y : SessionFault). HasStoreCause {T = Played} before now (Err y)) (sym is.1) (cause_limit A j e x before now cause)
+cause_cut (Err f) A j e x before now cause (inr is) = subst (λ (y : SessionFault). HasStoreCause {T = Played} before now (Err y)) (sym is) (cause_want x before now cause)
 
 -- what is handed back
 pub hands_back : (ended : Bool) (script : ScriptData) (files : List (List Frame)) (t : SessionState) (noted : RoundsNoted) (j : JournalData) (e : EndsState) → Plays script files noted.rounds t → noted.tracks ≡ length script.tracks
@@ -138,7 +153,8 @@ told_of (Err f) len noted t y whole tally sums journal ends = tt
 -- what is so of the journal and the ends of a run is so of what is handed back
 pub handed : (P : JournalData → EndsState → Type 0) (r : Result Played SessionFault) (A : Type 0) (j : JournalData) (e : EndsState) → P j e → IfOk r (λ p. p.journal ≡ j) → IfOk r (λ p. p.ends ≡ e) → IsCut r A j e → HandedBack P r
 handed P (Ok p) A j e is journal ends cut = subst (λ (x : JournalData × EndsState). P x.0 x.1) (λ i. (sym journal i, sym ends i)) is
-handed P (Err f) A j e is journal ends cut = subst (AtLimit P) (sym cut.1) is
+handed P (Err f) A j e is journal ends (inl cut) = subst (AtLimit P) (sym cut.1) is
+handed P (Err f) A j e is journal ends (inr want) = subst (AtLimit P) (sym want) tt
 
 -- nothing is after want of memory or a fault of the store
 pub none_handed : (P : JournalData → EndsState → Type 0) (r : Result Played SessionFault) (fault : SessionFault) → is_limit fault ≡ false → IsErrAnd r (λ f. f ≡ fault) → HandedBack P r
@@ -158,3 +174,13 @@ spares_by len j e = PokesSpareOthers (shown_by len j e.normal.mutator.past.event
 -- what a journal tells of the states that its cycles used
 abbrev pub older_by : JournalData → EndsState → Type 0
 older_by j e = NoneOlder j
+
+-- what a journal is of a run that was cut off
+abbrev pub cut_by : ScriptData → List (List Frame) → JournalData → EndsState → Type 0
+cut_by script files j e = IsCutRun script files j
+
+-- ## The file
+
+-- it is whole: the sound of all rounds is that of some first ones
+pub leaves : (script : ScriptData) (files : List (List Frame)) (name : List ℕ) (old new : Files) (noted : RoundsNoted) (t : SessionState) → Plays script files noted.rounds t → SetsFile old name (Some (pcm_of script.frames t.fast.log)) new → LeavesRun script files name old new
+leaves script files name old new noted t played written = inr (noted.rounds, t, played, left_whole old new name (pcm_of script.frames t.fast.log) written)

@@ -1,5 +1,5 @@
 //! A script's rounds from first to last, in which each party is on its own.
-ghost use Rattle.std.specs.Prelude.{◌≡◌, ◌*◌, ◌<◌, ◌≤◌, ◌^◌, ◌++◌, ℕ, List, [], Option, Some, true, false, All, length, IfErr, IfOk, OnErr, OnOk};
+ghost use Rattle.std.specs.Prelude.{◌≡◌, ◌⊎◌, ◌*◌, ◌<◌, ◌≤◌, ◌^◌, ◌++◌, ℕ, List, [], Option, Some, true, false, All, length, IfErr, IfOk, OnErr, OnOk};
 ghost use Rattle.af_io.specs.Causes.{HasCause};
 ghost use Rattle.af_io.specs.Files.{Files, LeavesFront, SetsFile};
 ghost use Rattle.af_link.specs.declared.links.Links.{Links};
@@ -11,7 +11,9 @@ ghost use Rattle.af_nblog.specs.declared.entries.Note.{Note as SomeNote};
 ghost use Rattle.af_session.specs.Hostile.{PokesSpareOthers};
 ghost use Rattle.af_session.specs.Logging.{BeginsLog, IsLogOf, LogsPlay, TellsLog};
 ghost use Rattle.af_session.specs.NewSession.{IsNewSession};
-ghost use Rattle.af_session.specs.declared.rendering.SessionFault.TheVariants.{CycleLimit};
+ghost use Rattle.af_audit.specs.Fates.{EachFrameHasOneFate};
+ghost use Rattle.af_runs.specs.LegalRuns.{IsCutRun, IsLegalRun};
+ghost use Rattle.af_session.specs.declared.rendering.SessionFault.TheVariants.{CycleLimit, Memory as MemoryFault};
 ghost use Rattle.af_session.specs.PlayedRuns.{AtFault, AtLimit, HandedBack, HandsBackRun, LeavesRun, Plays, all_ended, is_full};
 ghost use Rattle.af_session.specs.Rendered.{HasStoreCause, HaveFiles};
 ghost use Rattle.af_session.specs.Shares.{AreLinksOf};
@@ -28,9 +30,10 @@ use crate::making::make;
 use crate::parties::Parties;
 use crate::rendering::{Played, SessionFault, hand_back, hand_over, make_room, make_tally, sum_up};
 use crate::shared::Shared;
-use af_base::{Frame, Items};
+use af_audit::judge;
+use af_base::{Frame, Items, Memory};
 use af_io::{Gate, Pcm, Store, StoreError};
-use af_model::Rounds;
+use af_model::{Journal, Rounds};
 use af_script::Script;
 use af_tally::Tally;
 use std::alloc::Global;
@@ -137,13 +140,37 @@ fn play_made<R: Threads + Sync, S: Store, G: Gate>(
     )
 }
 
-// What parties answer that were played to their end, or to that of the log, with the rounds that were noted.
+// Judges a journal by itself, as anyone may: memory is wanted where it isn't legal.
+fn judged(
+    alloc: Global,
+    script: &Script,
+    files: &[Pcm],
+    journal: &Journal,
+    cut: bool,
+) -> Result<(), Memory>
+    requires tracks { journal.now.tracks ≡ length script.now.tracks }
+    requires files { length files.now ≡ length script.now.tracks }
+    ensures legal { cut ≡ false → OnOk result (IsLegalRun script.now files.now journal.now) }
+    ensures cut { cut ≡ true → OnOk result (IsCutRun script.now files.now journal.now) }
+{
+    if judge(alloc, script, files, journal, cut)? {
+        return Ok(());
+    }
+    Err(Memory)
+}
+
+// What parties answer that were played to their end, or to that of the log, with the rounds that were noted: once their journal was judged.
 fn answer(
+    alloc: Global,
+    script: &Script,
+    files: &[Pcm],
     parties: Parties,
     rounds: Rounds,
     tally: &Tally,
     released: &mut Items<u64>,
 ) -> Result<Played, SessionFault>
+    requires files { HaveFiles (record { tracks = script.now.tracks; files = files.now }) }
+    requires tracks { rounds.tracks ≡ length script.now.tracks }
     requires whole { IsWhole rounds parties.fast.log }
     requires form { IsJournal (journal_of rounds parties.fast.log) }
     requires room { length parties.clients ≤ released.old.room }
@@ -154,14 +181,19 @@ fn answer(
     ensures journal { IfOk result (λ p. p.journal ≡ journal_of rounds parties.fast.log) }
     ensures ends { IfOk result (λ p. p.ends ≡ ends_from parties) }
     ensures summary { (run : Shown) → IsTally run tally.now → IfOk result (λ p. p.summary ≡ summary_of run (released_by parties.clients)) }
-    ensures cut { IfErr result (λ f. (all_ended parties ≡ false) × (f ≡ CycleLimit (journal_of rounds parties.fast.log) (ends_from parties))) }
+    ensures cut { IfErr result (λ f. ((all_ended parties ≡ false) × (f ≡ CycleLimit (journal_of rounds parties.fast.log) (ends_from parties))) ⊎ (f ≡ MemoryFault)) }
+    ensures legal { IfOk result (λ p. IsLegalRun script.now files.now p.journal) }
+    ensures cut_run { IfErr result (AtLimit (λ journal _. IsCutRun script.now files.now journal)) }
 {
     if !parties.have_ended() {
         let (journal, ends) = hand_over(parties, rounds);
+        judged(alloc, script, files, &journal, true)?;
         return Err(SessionFault::CycleLimit { journal, ends });
     }
     let summary = sum_up(&parties, tally, released);
-    Ok(hand_back(parties, rounds, summary))
+    let played = hand_back(parties, rounds, summary);
+    judged(alloc, script, files, &played.journal, false)?;
+    Ok(played)
 }
 
 // Plays a script in rounds, with a log or without.
@@ -179,6 +211,9 @@ fn play_with<R: Threads + Sync, S: Store, G: Gate>(
     requires log { (kept : Option ℕ) × BeginsLog kept script.now.cycles logging.old }
     ensures played { IfOk result (λ p. HandsBackRun true script.now files.now p.journal p.ends) }
     ensures limit { IfErr result (AtLimit (HandsBackRun false script.now files.now)) }
+    ensures legal { IfOk result (λ p. IsLegalRun script.now files.now p.journal) }
+    ensures fates { IfOk result (λ p. EachFrameHasOneFate script.now files.now p.journal) }
+    ensures cut_run { IfErr result (AtLimit (λ journal _. IsCutRun script.now files.now journal)) }
     ensures summary { IfOk result (λ p. p.summary ≡ summary_told script.now.frames p.journal p.ends) }
     ensures calls { HandedBack CallsStandOnce result }
     ensures pushes { HandedBack PushesStandOnce result }
@@ -212,7 +247,15 @@ fn play_with<R: Threads + Sync, S: Store, G: Gate>(
         logging,
         gate,
     )?;
-    answer(parties, rounds, &tally, &mut released)
+    answer(
+        alloc,
+        script,
+        files,
+        parties,
+        rounds,
+        &tally,
+        &mut released,
+    )
 }
 
 /// Plays a script in rounds. In each every party that has not ended makes one turn, on a thread of its own where one can be made: each client, the normal mixer, and the fast mixer, which makes sixteen cycles, or fewer after one that isn't mixed. Then all parties meet. A party's turn begins at the gate, by its number: the clients' are those of their tracks, and the mixers' come behind. The sound goes to the file of this name, round by round. All blocks, logs and mixers are made before the file is; the rounds are noted as they are played. It makes at most as many rounds as the script has cycles.
@@ -230,6 +273,9 @@ pub fn play<R: Threads + Sync, S: Store, G: Gate>(
     requires { HaveFiles (record { tracks = script.now.tracks; files = files.now }) }
     ensures played { IfOk result (λ p. HandsBackRun true script.now files.now p.journal p.ends) }
     ensures limit { IfErr result (AtLimit (HandsBackRun false script.now files.now)) }
+    ensures legal { IfOk result (λ p. IsLegalRun script.now files.now p.journal) }
+    ensures fates { IfOk result (λ p. EachFrameHasOneFate script.now files.now p.journal) }
+    ensures cut_run { IfErr result (AtLimit (λ journal _. IsCutRun script.now files.now journal)) }
     ensures summary { IfOk result (λ p. p.summary ≡ summary_told script.now.frames p.journal p.ends) }
     ensures calls { HandedBack CallsStandOnce result }
     ensures pushes { HandedBack PushesStandOnce result }
@@ -264,6 +310,9 @@ pub fn play_logged<R: Threads + Sync, S: Store, G: Gate>(
     requires few { room ≤ 1024 }
     ensures played { IfOk result (λ p. HandsBackRun true script.now files.now p.journal p.ends) }
     ensures limit { IfErr result (AtLimit (HandsBackRun false script.now files.now)) }
+    ensures legal { IfOk result (λ p. IsLegalRun script.now files.now p.journal) }
+    ensures fates { IfOk result (λ p. EachFrameHasOneFate script.now files.now p.journal) }
+    ensures cut_run { IfErr result (AtLimit (λ journal _. IsCutRun script.now files.now journal)) }
     ensures summary { IfOk result (λ p. p.summary ≡ summary_told script.now.frames p.journal p.ends) }
     ensures calls { HandedBack CallsStandOnce result }
     ensures pushes { HandedBack PushesStandOnce result }

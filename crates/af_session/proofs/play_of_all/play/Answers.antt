@@ -6,7 +6,7 @@ use Rattle.af_session.specs.PlayedRuns.{HandsBackRun, LeavesRun}
 use Rattle.af_session.specs.Spelled.{CallsStandOnce, PushesStandOnce}
 use Rattle.af_runs.specs.Pcm.{journal_pcm}
 use Rattle.af_session.proofs.Outgoing.{cause_memory}
-use Rattle.af_session.proofs.PlayAnswers.{at_fault, memory_handed, memory_never, off_limit, older_by, spares_by}
+use Rattle.af_session.proofs.PlayAnswers.{at_fault, cut_by, memory_handed, memory_never, off_limit, older_by, spares_by}
 use Rattle.af_session.proofs.play_of_all.play.Goals as goal
 
 pub returns-in_err-logging-clause-limit : goal.returns-in_err-logging-clause-limit
@@ -38,3 +38,6 @@ returns-in_err-logging-clause-never_older g c = memory_handed older_by c.from_re
 
 pub play_with-requires-clause-log : goal.play_with-requires-clause-log
 play_with-requires-clause-log g c = λ κs lives. (None, c.in_ok-logging.ensures c.args.script.now.cycles)
+
+pub returns-in_err-logging-clause-cut_run : goal.returns-in_err-logging-clause-cut_run
+returns-in_err-logging-clause-cut_run g c = off_limit c.from_residual.result (cut_by c.args.script.now c.args.files.now) (memory_never c.from_residual.result c.from_residual.ensures.1)

@@ -8,7 +8,7 @@ use Rattle.af_session.specs.PlayedRuns.{HandsBackRun, LeavesRun}
 use Rattle.af_session.specs.Spelled.{CallsStandOnce, PushesStandOnce}
 use Rattle.af_runs.specs.Pcm.{journal_pcm}
 use Rattle.af_session.proofs.Outgoing.{cause_behind, cause_memory}
-use Rattle.af_session.proofs.PlayAnswers.{at_fault, memory_handed, memory_never, off_limit, older_by, spares_by}
+use Rattle.af_session.proofs.PlayAnswers.{at_fault, cut_by, memory_handed, memory_never, off_limit, older_by, spares_by}
 use Rattle.af_session.proofs.play_of_all.play_logged.Goals as goal
 
 pub returns-in_err-logging-clause-limit : goal.returns-in_err-logging-clause-limit
@@ -78,3 +78,9 @@ returns-in-Ok-clause-log g c =
     let begins = subst (λ (n : ℕ). BeginsLog (Some c.args.room) n c.in_ok-logging.logging) c.cycles.ensures.value c.in_ok-logging.ensures in
     let h = c.in-Ok.ensures.log (Some c.args.room) begins in
     (accepted h.ends.writer, h.ends.writer.refused, h.is_log, c.in_ok-write-in-Ok.ensures.written c.args.script.now.frames c.args.room c.in-Ok.played.journal h, h.none)
+
+pub returns-in_err-logging-clause-cut_run : goal.returns-in_err-logging-clause-cut_run
+returns-in_err-logging-clause-cut_run g c = off_limit c.from_residual.result (cut_by c.args.script.now c.args.files.now) (memory_never c.from_residual.result c.from_residual.ensures.1)
+
+pub returns-in_err-write-in-Ok-clause-cut_run : goal.returns-in_err-write-in-Ok-clause-cut_run
+returns-in_err-write-in-Ok-clause-cut_run g c = off_limit c.from_residual-in_err-write-in-Ok.result (cut_by c.args.script.now c.args.files.now) (memory_never c.from_residual-in_err-write-in-Ok.result c.from_residual-in_err-write-in-Ok.ensures.1)

@@ -1,4 +1,6 @@
 use Rattle.std.proofs.Common.{◌≡◌, ◌*◌, ℕ, List, Some, false, true, inl, inr, refl, sym, ap, subst, ◌∙◌}
+use Rattle.af_audit.specs.Fates.{EachFrameHasOneFate}
+use Rattle.af_audit.proofs.FatesTold.{frames-have-fates}
 use Rattle.af_base.specs.Roomy.{Roomy}
 use Rattle.af_fast.specs.Mixer.{MixerState}
 use Rattle.af_io.specs.Files.{SetsFile}
@@ -8,15 +10,15 @@ use Rattle.af_session.specs.declared.rendering.Played.{Played}
 use Rattle.af_session.specs.Logging.{TellsLog}
 use Rattle.af_session.specs.PlayedRuns.{HandsBackRun, LeavesRun, all_ended}
 use Rattle.af_session.specs.Spelled.{CallsStandOnce, PushesStandOnce}
+use Rattle.af_runs.specs.LegalRuns.{IsLegalRun}
 use Rattle.af_runs.specs.Pcm.{journal_pcm}
 use Rattle.af_tally.specs.Sound.{pcm_of}
 use Rattle.af_session.specs.Together.{SessionState}
 use Rattle.af_session.proofs.JournalSound.{journal_sounds}
 use Rattle.af_session.proofs.LogEnds.{tells_log}
 use Rattle.af_session.proofs.NeverOlder.{none_older}
-use Rattle.af_session.proofs.NotedRounds.{left_whole}
 use Rattle.af_session.proofs.Outgoing.{cause_memory, cause_store}
-use Rattle.af_session.proofs.PlayAnswers.{at_fault, cause_cut, cut_fault, cut_off, handed, hands_back, if_ok_always, if_ok_one, if_ok_three, memory_handed, memory_never, off_limit, older_by, spares_by, store_handed, store_never, told_of}
+use Rattle.af_session.proofs.PlayAnswers.{at_fault, cause_cut, cut_by, cut_off, handed, hands_back, if_ok_always, if_ok_one, if_ok_three, leaves, memory_handed, memory_never, off_limit, older_by, spares_by, store_handed, store_never, told_of}
 use Rattle.af_session.proofs.RunPushed.{pushes_stand_once}
 use Rattle.af_session.proofs.RunSpelled.{calls_stand_once}
 use Rattle.af_session.proofs.ShownWhole.{tally_tracks}
@@ -144,8 +146,9 @@ returns-clause-cut g c = λ told.
 
 pub returns-clause-left : goal.returns-clause-left
 returns-clause-left g c = λ told.
-    let t : SessionState = c.play_made.new.parties in
-    cut_fault (LeavesRun c.args.script.now c.args.files.now c.args.name.now (g.S.Store.files c.args.store.now) (g.S.Store.files c.play_made.new.store)) c.answer.result (all_ended t ≡ false) (journal_of c.play_made.new.rounds t.fast.log) (ends_from t) c.answer.ensures.cut
+    let files = c.args.files.now in
+    at_fault c.answer.result (LeavesRun c.args.script.now files c.args.name.now (g.S.Store.files c.args.store.now) (g.S.Store.files c.play_made.new.store))
+    (leaves c.args.script.now files c.args.name.now (g.S.Store.files c.args.store.now) (g.S.Store.files c.play_made.new.store) c.play_made.new.rounds c.play_made.new.parties c.in_ok-play_made.ensures.all (c.in_ok-play_made.ensures.written told))
 
 pub returns-clause-cause : goal.returns-clause-cause
 returns-clause-cause g c =
@@ -258,11 +261,23 @@ returns-clause-log g c = λ kept begins.
 
 pub returns-clause-left_whole : goal.returns-clause-left_whole
 returns-clause-left_whole g c = λ told.
-    let t : SessionState = c.play_made.new.parties in
-    let noted : RoundsNoted = c.play_made.new.rounds in
-    let made = c.in_ok-play_made.ensures in
-    let script = c.args.script.now in
-    let old = g.S.Store.files c.args.store.now in
-    let new = g.S.Store.files c.play_made.new.store in
-    let left : LeavesRun script c.args.files.now c.args.name.now old new = inr (noted.rounds, t, made.all, left_whole old new c.args.name.now (pcm_of script.frames t.fast.log) (made.written told)) in
-    if_ok_always (LeavesRun script c.args.files.now c.args.name.now old new) c.answer.result left
+    let files = c.args.files.now in
+    if_ok_always (LeavesRun c.args.script.now files c.args.name.now (g.S.Store.files c.args.store.now) (g.S.Store.files c.play_made.new.store)) c.answer.result
+    (leaves c.args.script.now files c.args.name.now (g.S.Store.files c.args.store.now) (g.S.Store.files c.play_made.new.store) c.play_made.new.rounds c.play_made.new.parties c.in_ok-play_made.ensures.all (c.in_ok-play_made.ensures.written told))
+
+-- ## The journal by itself
+
+pub returns-clause-fates : goal.returns-clause-fates
+returns-clause-fates g c = if_ok_one (λ (p : Played). IsLegalRun c.args.script.now c.args.files.now p.journal) (λ (p : Played). EachFrameHasOneFate c.args.script.now c.args.files.now p.journal) c.answer.result (λ p legal. frames-have-fates c.args.script.now c.args.files.now p.journal legal) c.answer.ensures.legal
+
+pub returns-in_err-shared-clause-cut_run : goal.returns-in_err-shared-clause-cut_run
+returns-in_err-shared-clause-cut_run g c = off_limit c.from_residual.result (cut_by c.args.script.now c.args.files.now) (memory_never c.from_residual.result c.from_residual.ensures.1)
+
+pub returns-in_err-buffer-clause-cut_run : goal.returns-in_err-buffer-clause-cut_run
+returns-in_err-buffer-clause-cut_run g c = off_limit c.from_residual-in_err-buffer.result (cut_by c.args.script.now c.args.files.now) (memory_never c.from_residual-in_err-buffer.result c.from_residual-in_err-buffer.ensures.1)
+
+pub returns-in_err-tally-clause-cut_run : goal.returns-in_err-tally-clause-cut_run
+returns-in_err-tally-clause-cut_run g c = off_limit c.from_residual-in_err-tally.result (cut_by c.args.script.now c.args.files.now) (memory_never c.from_residual-in_err-tally.result c.from_residual-in_err-tally.ensures.1)
+
+pub returns-in_err-play_made-clause-cut_run : goal.returns-in_err-play_made-clause-cut_run
+returns-in_err-play_made-clause-cut_run g c = off_limit c.from_residual-in_err-play_made.result (cut_by c.args.script.now c.args.files.now) (store_never c.from_residual-in_err-play_made.result c.in_err-play_made.field-0.0 c.from_residual-in_err-play_made.ensures.1)
