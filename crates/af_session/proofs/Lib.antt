@@ -53,6 +53,14 @@ mod MetOpen
 mod SparedTurns
 mod SparedRounds
 mod SparedOfAll
+mod QueueSeen
+mod QueueSteps
+mod Leads
+mod NormalSteps
+mod EntrySpared
+mod SparedCycles
+mod SparedFast
+mod SparedEntries
 mod Spared
 mod LogNotes
 mod ScribeTurns

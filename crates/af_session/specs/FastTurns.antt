@@ -6,14 +6,14 @@ use Rattle.af_base.specs.declared.log.CycleEntry.{CycleEntry}
 use Rattle.af_base.specs.Log.{Logged}
 use Rattle.af_base.specs.Roomy.{Roomy}
 use Rattle.af_model.specs.Cycles.{is_mixed}
-use Rattle.af_fast.specs.Mixer.{MixerState}
+use Rattle.af_fast.specs.Mixer.{MixerState, IsInOrder as IsFastInOrder}
 use Rattle.af_fast.specs.Mixing.{Adopts, MixesOnce}
 use Rattle.af_session.specs.Met.{Met}
 use Rattle.af_tally.specs.Sound.{Grows, IsMixed}
 use Rattle.af_runs.specs.Pcm.{written}
 use Rattle.af_session.specs.Together.{SessionState}
 
--- One cycle among the parties: the fast mixer polls, all meet, and it mixes into a buffer. Else nothing changes
+-- One cycle among the parties: the fast mixer polls, all meet, and it mixes into a buffer, in order all the while. Else nothing changes
 pub record IsCycle (s : SessionState) (out : List Frame) (answer : Cycle) (s' : SessionState) (out' : List Frame) : Type 0 where
   pub polled : MixerState
   pub met : SessionState
@@ -22,6 +22,7 @@ pub record IsCycle (s : SessionState) (out : List Frame) (answer : Cycle) (s' : 
   pub mixes : MixesOnce met.fast out answer s'.fast out'
   pub sizes : (s'.fast.frames ≡ met.fast.frames) × (s'.fast.cycles ≡ met.fast.cycles)
   pub others : s' ≡ record met { fast = s'.fast }
+  pub order : IsFastInOrder polled × IsFastInOrder met.fast × IsFastInOrder s'.fast
 
 -- the same with some buffer that has the frames of a cycle, and the bytes of what was mixed
 pub record WritesCycle (s : SessionState) (answer : Cycle) (bytes : List ℕ) (s' : SessionState) : Type 0 where

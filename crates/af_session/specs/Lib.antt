@@ -14,4 +14,6 @@ pub mod SideBySide
 pub mod PlayedRuns
 pub mod Spelled
 pub mod Hostile
+pub mod Leads
+pub mod FastSpared
 pub mod Logging

@@ -6,6 +6,7 @@ ghost use Rattle.af_io.specs.Files.{Files, SetsFile, LeavesFront};
 ghost use Rattle.af_model.specs.JournalForm.{IsJournal, IsWhole};
 ghost use Rattle.af_model.specs.Journals.{RoundNoted, cycles_of, journal_of};
 ghost use Rattle.af_script.specs.Form.{IsTurn};
+ghost use Rattle.af_session.specs.FastSpared.{FastSparesSoFar};
 ghost use Rattle.af_session.specs.Hostile.{SparesSoFar};
 ghost use Rattle.af_session.specs.Noted.{NotesFrames};
 ghost use Rattle.af_session.specs.Rendered.{Runs};
@@ -191,6 +192,7 @@ impl Parties {
         ensures tally { OnOk result ((first : State) → IsTally (shown_at first (length tracks.now) rounds.new.rounds self.new.fast) tally.new) }
         ensures frames { OnOk result (self.new.fast.frames ≡ self.old.fast.frames) }
         ensures spares { SparesSoFar [] self.old → OnOk result (SparesSoFar rounds.new.rounds self.new) }
+        ensures entries { FastSparesSoFar self.old → OnOk result (FastSparesSoFar self.new) }
         ensures written { S.told store.old → (base : Files) → SetsFile base name.now (Some (pcm_of self.old.fast.frames self.old.fast.log)) (S.files store.old) → OnOk result (SetsFile base name.now (Some (pcm_of self.old.fast.frames self.new.fast.log)) (S.files store.new)) }
         ensures left { S.told store.old → (base : Files) → SetsFile base name.now (Some (pcm_of self.old.fast.frames self.old.fast.log)) (S.files store.old) → OnErr result (LeavesFront base name.now (pcm_of self.old.fast.frames self.new.fast.log) (S.files store.new)) }
         ensures tells { S.told store.old → S.told store.new }

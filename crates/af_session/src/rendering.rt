@@ -6,7 +6,7 @@ ghost use Rattle.af_io.specs.Files.{Files, SetsFile, LeavesFront};
 ghost use Rattle.af_link.specs.declared.links.Links.{Links};
 ghost use Rattle.af_model.specs.JournalForm.{IsJournal, IsWhole};
 ghost use Rattle.af_model.specs.Journals.{journal_of};
-ghost use Rattle.af_session.specs.Hostile.{PokesSpareOthers};
+ghost use Rattle.af_session.specs.Hostile.{PokesSpareEntries, PokesSpareOthers};
 ghost use Rattle.af_session.specs.NewSession.{IsNewSession};
 ghost use Rattle.af_session.specs.Ends.{command_proxy, ends_from, stream_proxy};
 ghost use Rattle.af_session.specs.Rendered.{HandsBack, HasStoreCause, HaveFiles, LeavesSound, Rendered, Renders, is_limit};
@@ -167,6 +167,7 @@ fn play_turns<S: Store>(
     ensures tally { OnOk result (IsTally (shown_in script.now.frames rounds.new parties.new.fast.log parties.new.normal.mutator.past.events) tally.new) }
     ensures released { OnOk result (All (λ p. p.stream.released < 2 ^ 58) parties.new.clients) }
     ensures spared { OnOk result (PokesSpareOthers (shown_in script.now.frames rounds.new parties.new.fast.log parties.new.normal.mutator.past.events)) }
+    ensures entries { OnOk result (PokesSpareEntries (shown_in script.now.frames rounds.new parties.new.fast.log parties.new.normal.mutator.past.events)) }
     ensures written { S.told store.old → (base : Files) → SetsFile base name.now (Some []) (S.files store.old) → OnOk result (SetsFile base name.now (Some (pcm_of script.now.frames parties.new.fast.log)) (S.files store.new)) }
     ensures left { S.told store.old → (base : Files) → SetsFile base name.now (Some []) (S.files store.old) → OnErr result (LeavesFront base name.now (pcm_of script.now.frames parties.new.fast.log) (S.files store.new)) }
     ensures tells { S.told store.old → S.told store.new }
@@ -209,6 +210,7 @@ fn play_new<S: Store>(
     ensures tally { OnOk result (IsTally (shown_in script.now.frames rounds.new parties.new.fast.log parties.new.normal.mutator.past.events) tally.new) }
     ensures released { OnOk result (All (λ p. p.stream.released < 2 ^ 58) parties.new.clients) }
     ensures spared { OnOk result (PokesSpareOthers (shown_in script.now.frames rounds.new parties.new.fast.log parties.new.normal.mutator.past.events)) }
+    ensures entries { OnOk result (PokesSpareEntries (shown_in script.now.frames rounds.new parties.new.fast.log parties.new.normal.mutator.past.events)) }
     ensures written { S.told store.old → OnOk result (SetsFile (S.files store.old) name.now (Some (pcm_of script.now.frames parties.new.fast.log)) (S.files store.new)) }
     ensures left { S.told store.old → OnErr result (LeavesSound script.now files.now name.now (S.files store.old) (S.files store.new)) }
     ensures tells { S.told store.old → S.told store.new }
@@ -279,7 +281,7 @@ pub(crate) fn hand_back(parties: Parties, rounds: Rounds, summary: Summary) -> P
 
 /// Plays the turns of a script one after the other, each as a round after which all parties meet, and writes the sound to the file of this name. All blocks, logs and mixers are made before the file is; the rounds are noted as they are played.
 ///
-/// What was played is a turn run of the script and its files, whose rounds the journal has and of which the summary is, and where the store tells it the file is the sound of the journal. Whatever clients stored in their words, each track on whose blocks nothing was poked is spared: no call of its client was answered Corrupt, and no look of the normal mixer at its blocks was Shut. It never answers CycleLimit. After a fault no file has changed, or the file holds a front of the sound of some first turns.
+/// What was played is a turn run of the script and its files, whose rounds the journal has and of which the summary is, and where the store tells it the file is the sound of the journal. Whatever clients stored in their words, each track on whose blocks nothing was poked is spared: no call of its client was answered Corrupt, and no look of either mixer at its blocks was Shut. It never answers CycleLimit. After a fault no file has changed, or the file holds a front of the sound of some first turns.
 pub fn render<S: Store>(
     alloc: Global,
     script: &Script,
@@ -292,6 +294,7 @@ pub fn render<S: Store>(
     ensures summary { IfOk result (λ p. p.summary ≡ summary_told script.now.frames p.journal p.ends) }
     ensures never { IfErr result (λ f. is_limit f ≡ false) }
     ensures spared { IfOk result (λ p. PokesSpareOthers (shown_by script.now.frames p.journal p.ends.normal.mutator.past.events)) }
+    ensures entries { IfOk result (λ p. PokesSpareEntries (shown_by script.now.frames p.journal p.ends.normal.mutator.past.events)) }
     ensures written { S.told store.old → IfOk result (λ p. SetsFile (S.files store.old) name.now (Some (journal_pcm script.now.frames p.journal)) (S.files store.new)) }
     ensures left { S.told store.old → OnErr result (LeavesSound script.now files.now name.now (S.files store.old) (S.files store.new)) }
     ensures tells { S.told store.old → S.told store.new }

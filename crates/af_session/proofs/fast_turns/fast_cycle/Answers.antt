@@ -1,4 +1,4 @@
-use Rattle.std.proofs.Common.{length, sym, subst, ◌∙◌}
+use Rattle.std.proofs.Common.{length, refl, sym, subst, ◌∙◌}
 use Rattle.af_base.specs.Log.{Logged}
 use Rattle.af_session.specs.Shown.{HasPlaces}
 use Rattle.af_session.specs.Together.{SessionState}
@@ -18,3 +18,15 @@ returns-clause-places g c = λ n tracks held.
     let met : SessionState = record { clients = c.meet.new.clients; normal = c.meet.new.normal; fast = c.meet.new.fast } in
     let kept = (met_keeps (record s { fast = c.adopt.new.self }) met c.meet.ensures.met).0 ∙ (polled_keeps s.fast c.adopt.new.self c.adopt.ensures.adopts).0 in
     c.mix_noted-cycle.ensures.places n tracks (subst (λ (l : Logged). HasPlaces n tracks (length l.entries) c.args.tally.now) (sym kept) held)
+
+pub returns-clause-cycle : goal.returns-clause-cycle
+returns-clause-cycle g c = record {
+  polled = c.adopt.new.self;
+  met = record { clients = c.meet.new.clients; normal = c.meet.new.normal; fast = c.meet.new.fast };
+  adopts = c.adopt.ensures.adopts;
+  meets = c.meet.ensures.met;
+  mixes = c.mix_noted-cycle.ensures.mixes;
+  sizes = c.mix_noted-cycle.ensures.sizes;
+  others = refl;
+  order = (c.adopt.ensures.order, c.meet.ensures.together.fast.0, c.mix_noted-cycle.ensures.order);
+}

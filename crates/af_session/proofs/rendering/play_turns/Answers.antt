@@ -7,6 +7,7 @@ use Rattle.af_model.specs.Journals.{RoundNoted, RoundsNoted}
 use Rattle.af_script.specs.Form.{IsScript, IsTurn}
 use Rattle.af_script.specs.declared.op.TurnSpec.{TurnSpec}
 use Rattle.af_script.specs.declared.track.TrackSpec.{TrackSpec}
+use Rattle.af_session.specs.FastSpared.{FastSparesSoFar}
 use Rattle.af_session.specs.Hostile.{SparesSoFar}
 use Rattle.af_session.specs.Rendered.{Runs}
 use Rattle.af_session.specs.Rounds.{Given, IsReady}
@@ -18,6 +19,7 @@ use Rattle.af_session.specs.Together.{SessionState}
 use Rattle.af_session.proofs.FirstRound.{empty_first, frames_first, ready_first, rendered, silent_first}
 use Rattle.af_session.proofs.ShownWhole.{on_ok_both, released_few, tally_end}
 use Rattle.af_session.proofs.Spared.{spares_first, spares_noted}
+use Rattle.af_session.proofs.SparedEntries.{entries_end, entries_first}
 use Rattle.af_session.proofs.rendering.play_turns.Goals as goal
 
 pub play_all-requires-clause-turns : goal.play_all-requires-clause-turns
@@ -161,3 +163,28 @@ returns-clause-spared g c =
     (λ (x : Ready × Two). spares_noted c.args.script.now.frames noted is.fast.log is.normal.mutator.past.events is (sym x.0.given.0 ∙ sym x.1.0) x.1.1)
     (on_ok_both Ready Two c.play_all.result done.ready
     (on_ok_both Tracks Spares c.play_all.result done.tracks (done.spares (spares_first c.args.script.now c.args.shared.now was c.requires.new))))
+
+pub returns-clause-entries : goal.returns-clause-entries
+returns-clause-entries g c =
+    let given : Given = record { tracks = c.tracks-tracks.result.now; files = c.args.files.now } in
+    let turns : List TurnSpec = c.turns-turns.result.now in
+    let was : SessionState = c.args.parties.now in
+    let is : SessionState = c.play_all.new.self in
+    let noted : RoundsNoted = c.play_all.new.rounds in
+    let done = c.play_all.ensures in
+    let script = c.args.script.now in
+    let shared = c.args.shared.now in
+    let Ready : Type 0 = IsReady c.links-links.result given (length turns) is in
+    let Ran : Type 0 = Runs given turns was noted.rounds is in
+    let Tracks : Type 0 = noted.tracks ≡ length c.tracks-tracks.result.now in
+    let Spares : Type 0 = SparesSoFar noted.rounds is in
+    let Entries : Type 0 = FastSparesSoFar is in
+    let Two : Type 0 = Spares × Entries in
+    let Three : Type 0 = Tracks × Two in
+    let Four : Type 0 = Ran × Three in
+    on_ok_weaker c.play_all.result
+    (λ (x : Ready × Four). entries_end script shared was c.requires.new c.links-links.result given (length turns) turns noted is x.0 x.1.0 x.1.1.0 x.1.1.1.0 x.1.1.1.1)
+    (on_ok_both Ready Four c.play_all.result done.ready
+    (on_ok_both Ran Three c.play_all.result done.all
+    (on_ok_both Tracks Two c.play_all.result done.tracks
+    (on_ok_both Spares Entries c.play_all.result (done.spares (spares_first script shared was c.requires.new)) (done.entries (entries_first script shared was c.requires.new))))))

@@ -10,6 +10,7 @@ use Rattle.af_runs.specs.Pcm.{journal_pcm}
 use Rattle.af_session.proofs.JournalSound.{journal_sounds}
 use Rattle.af_session.proofs.ShownWhole.{is_told, tally_tracks}
 use Rattle.af_session.proofs.Spared.{spares_told}
+use Rattle.af_session.proofs.SparedEntries.{entries_told}
 use Rattle.af_session.proofs.Outgoing.{cause_memory, cause_ok, cause_store, on_err}
 use Rattle.af_session.proofs.PlayAnswers.{memory_never, store_never}
 use Rattle.af_session.proofs.rendering.render.Goals as goal
@@ -115,3 +116,10 @@ returns-clause-spared g c =
     let parties = c.play_new.new.parties in
     spares_told c.args.script.now.frames noted parties.fast.log parties.normal.mutator.past.events c.hand_back.result.journal c.hand_back.result.ends c.in_ok-play_new.ensures.whole c.hand_back.ensures.journal
     (ap (λ (e : EndsState). e.normal.mutator.past.events) c.hand_back.ensures.ends) c.in_ok-play_new.ensures.spared
+
+pub returns-clause-entries : goal.returns-clause-entries
+returns-clause-entries g c =
+    let noted : RoundsNoted = c.play_new.new.rounds in
+    let parties = c.play_new.new.parties in
+    entries_told c.args.script.now.frames noted parties.fast.log parties.normal.mutator.past.events c.hand_back.result.journal c.hand_back.result.ends c.in_ok-play_new.ensures.whole c.hand_back.ensures.journal
+    (ap (λ (e : EndsState). e.normal.mutator.past.events) c.hand_back.ensures.ends) c.in_ok-play_new.ensures.entries

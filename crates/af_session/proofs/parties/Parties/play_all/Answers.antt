@@ -19,6 +19,7 @@ use Rattle.af_session.proofs.JournalSound.{journal_form, journal_whole}
 use Rattle.af_session.proofs.Outgoing.{on_err, stays_at}
 use Rattle.af_session.proofs.RoundForms.{AreNoted, noted_none, noted_round}
 use Rattle.af_session.proofs.RunMore.{run_none, run_more}
+use Rattle.af_session.proofs.SparedFast.{fast_round_spares}
 use Rattle.af_session.proofs.SparedRounds.{spares_round}
 use Rattle.af_session.proofs.parties.Parties.play_all.Goals as goal
 
@@ -34,6 +35,7 @@ loop-i-init g c =
       places = places_first tracks (length was.clients) (length was.fast.log.entries) c.args.tally.now (sym c.requires.ready.given.0) c.requires.tally;
       noted = subst (λ (x : RoundsNoted). AreNoted tracks x was.fast.log) (sym c.requires.rounds) (noted_none tracks was.fast.log c.requires.log.0 c.requires.log.1);
       spares = subst (λ (x : RoundsNoted). SparesSoFar [] was → SparesSoFar x.rounds was) (sym c.requires.rounds) (λ new. new);
+      entries = (λ new. new);
       sizes = (refl, refl);
       buffer = c.requires.buffer;
       tells = (λ told. told);
@@ -66,6 +68,7 @@ loop-i-preserved g c =
           (noted_round c.args.links.now given i now inv.ready _ _ more next round c.in_ok-play_noted.ensures.frames c.loop-i.rounds inv.noted);
       spares = subst (λ (x : RoundsNoted). SparesSoFar [] c.args.self.now → SparesSoFar x.rounds next) (sym noted)
           (λ new. spares_round c.args.links.now given i now inv.ready next (c.play_noted.ensures.ready i inv.ready) more _ _ c.loop-i.rounds.rounds round (inv.spares new));
+      entries = (λ new. fast_round_spares c.args.links.now given i now inv.ready next (c.play_noted.ensures.ready i inv.ready) more (inv.entries new) _ _ round);
       sizes = (c.play_noted.ensures.sizes.0 ∙ inv.sizes.0, c.play_noted.ensures.sizes.1 ∙ inv.sizes.1);
       buffer = search rules;
       tells = (λ told. c.play_noted.ensures.tells (inv.tells told));
@@ -130,3 +133,6 @@ returns-clause-frames g c = c.loop-i.invariant.sizes.0
 
 pub returns-clause-spares : goal.returns-clause-spares
 returns-clause-spares g c = λ new. c.loop-i.invariant.spares new
+
+pub returns-clause-entries : goal.returns-clause-entries
+returns-clause-entries g c = λ new. c.loop-i.invariant.entries new

@@ -1,5 +1,6 @@
 use Rattle.std.proofs.Common.{◌≡◌, [], Some, length, take}
 use Rattle.af_io.specs.Files.{Files, SetsFile}
+use Rattle.af_session.specs.FastSpared.{FastSparesSoFar}
 use Rattle.af_session.specs.Hostile.{SparesSoFar}
 use Rattle.af_session.specs.Rendered.{Runs}
 use Rattle.af_session.specs.Rounds.{IsReady}
@@ -18,6 +19,7 @@ invariant-loop-i g l = record {
   places : HasPlaces l.i (length l.self.clients) (length l.self.fast.log.entries) l.tally;
   noted : AreNoted (length l.tracks) l.rounds l.self.fast.log;
   spares : SparesSoFar [] l.fn.self → SparesSoFar l.rounds.rounds l.self;
+  entries : FastSparesSoFar l.fn.self → FastSparesSoFar l.self;
   sizes : (l.self.fast.frames ≡ l.fn.self.fast.frames) × (l.bytes.room ≡ l.fn.bytes.room);
   buffer : length l.buffer ≡ l.fn.self.fast.frames;
   tells : g.S.Store.told l.fn.store → g.S.Store.told l.store;
