@@ -43,7 +43,7 @@ module _ (states : List FastState) (len tracks : ℕ) (rounds : List RoundNoted)
   abbrev run : Shown
   run = shows states len tracks (map (λ (r : RoundNoted). r.calls) rounds) (map (λ (r : RoundNoted). r.turn) rounds) log.frames log.entries
 
-  calls_shown : (i : ℕ) → i < tracks → calls_of run i ≡ all_calls rounds i
+  pub calls_shown : (i : ℕ) → i < tracks → calls_of run i ≡ all_calls rounds i
   unfolding shows
   calls_shown i lt = get_or-map-range_with_len (calls_over (map (λ (r : RoundNoted). r.calls) rounds)) 0 tracks i i [] lt (omega arith)
 

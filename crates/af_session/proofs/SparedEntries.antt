@@ -2,7 +2,6 @@
 use Rattle.std.proofs.Common.{◌≡◌, ℕ, ◌<◌, ◌≤◌, inl, ⊎_elim, true, true≢false, List, [], length, map, slice_get, Some, None, refl, sym, ap, subst, ◌∙◌, arith}
 use Rattle.std.specs.Prelude.{slice_index_or}
 use Rattle.std.specs.List.{list_all}
-use Rattle.std.proofs.lemmas.List.FromFn.{get_or-map-range_with_len}
 use Rattle.std.proofs.lemmas.Option.{slice_get_cases}
 use Rattle.af_base.specs.declared.log.CycleEntry.{CycleEntry}
 use Rattle.af_base.specs.declared.state.FastState.{FastState}
@@ -22,7 +21,7 @@ use Rattle.af_server.specs.Order.{ServerState}
 use Rattle.af_stateq.specs.Laws.{polled_states, pushed_states}
 use Rattle.af_stateq.proofs.Start.{initial_none}
 use Rattle.af_party.specs.Parties.{PartyState}
-use Rattle.af_tally.specs.Summaries.{Shown, calls_of, has_no_poke, is_lawful}
+use Rattle.af_tally.specs.Summaries.{has_no_poke, is_lawful}
 use Rattle.af_session.specs.Ends.{EndsState}
 use Rattle.af_session.specs.FastSpared.{FastSparesSoFar, entries_used}
 use Rattle.af_session.specs.Hostile.{PokesSpareEntries, SparesSoFar, all_calls, is_spared_in_entry}
@@ -31,11 +30,12 @@ use Rattle.af_session.specs.NewSession.{IsNewSession}
 use Rattle.af_session.specs.Rendered.{Runs}
 use Rattle.af_session.specs.Rounds.{Given, IsReady}
 use Rattle.af_session.specs.Shares.{SharedState}
-use Rattle.af_session.specs.Shown.{calls_over, shown_by, shown_in, shows, use_of}
+use Rattle.af_session.specs.Shown.{shown_by, shown_in, shows, use_of}
 use Rattle.af_session.specs.Together.{SessionState}
 use Rattle.af_session.proofs.Following.{uses_stay}
 use Rattle.af_session.proofs.FollowingRounds.{shows_tracks}
 use Rattle.af_session.proofs.ShownWhole.{AreInStep, in_step_new, in_step_run, shown_journal}
+use Rattle.af_session.proofs.Spared.{calls_shown}
 
 -- ## At the start
 
@@ -75,18 +75,10 @@ module _ (script : ScriptData) (shared : SharedState) (s : SessionState) (new : 
 
 -- ## At the end
 
--- what rounds show of a track's calls, and of the entries
-module _ (states : List FastState) (len tracks : ℕ) (rounds : List RoundNoted) (log : Logged) where
-  abbrev run : Shown
-  run = shows states len tracks (map (λ (r : RoundNoted). r.calls) rounds) (map (λ (r : RoundNoted). r.turn) rounds) log.frames log.entries
-
-  calls_shown : (i : ℕ) → i < tracks → calls_of run i ≡ all_calls rounds i
-  unfolding shows
-  calls_shown i lt = get_or-map-range_with_len (calls_over (map (λ (r : RoundNoted). r.calls) rounds)) 0 tracks i i [] lt (omega arith)
-
-  entries_shown : run.entries ≡ map (use_of states) log.entries
-  unfolding shows
-  entries_shown = refl
+-- what rounds show of the entries
+entries_shown : (states : List FastState) (len : ℕ) (noted : RoundsNoted) (log : Logged) → (shows states len noted.tracks (map (λ (r : RoundNoted). r.calls) noted.rounds) (map (λ (r : RoundNoted). r.turn) noted.rounds) log.frames log.entries).entries ≡ map (use_of states) log.entries
+unfolding shows
+entries_shown states len noted log = refl
 
 -- the states pushed give the entries those that were polled
 entries_pushed : (t : SessionState) → IsInOrder t.fast → AreInStep t → map (use_of (pushed_states t.normal.mutator.past.events)) t.fast.log.entries ≡ entries_used t.normal.mutator.past.first t.fast
@@ -108,7 +100,7 @@ module _ (len : ℕ) (rounds : RoundsNoted) (t : SessionState) (long : length t.
       let calm_here : has_no_poke (all_calls rounds.rounds i) ≡ true = ap has_no_poke (sym (calls_shown pushed len rounds.tracks rounds.rounds t.fast.log i lt)) ∙ calm in
       ⊎_elim
       (λ (here : (p : PartyState) × (i < length t.clients) × (slice_get t.clients i ≡ Some p) × (slice_index_or t.clients i p ≡ p)).
-      ap (list_all (is_spared_in_entry i)) (entries_shown pushed len rounds.tracks rounds.rounds t.fast.log ∙ entries_pushed t order step)
+      ap (list_all (is_spared_in_entry i)) (entries_shown pushed len rounds t.fast.log ∙ entries_pushed t order step)
       ∙ fast.spared i here.0 here.2 (so_far.tame i here.0 here.2 calm_here) t.normal.mutator.past.first)
       (λ (none : (length t.clients ≤ i) × (slice_get t.clients i ≡ None)). absurd (omega (arith, inside, none.0)))
       (slice_get_cases t.clients i).1

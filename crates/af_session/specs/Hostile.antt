@@ -44,7 +44,7 @@ pub record PokesSpareOthers (run : Shown) : Type 0 where
 abbrev pub is_spared_in_entry : ℕ → EntryUsed → Bool
 is_spared_in_entry i used = none_shut i (entry_looks used)
 
--- Nor was any look of the fast mixer at the stream of such a track Shut
+-- Whatever the clients stored in their words, no look of the fast mixer at the stream of a track on whose blocks no poke was performed was Shut
 pub record PokesSpareEntries (run : Shown) : Type 0 where
   pub each : (i : ℕ) → i < length run.calls → is_lawful run i ≡ true → list_all (is_spared_in_entry i) run.entries ≡ true
 
