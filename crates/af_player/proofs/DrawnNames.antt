@@ -4,7 +4,7 @@ use Rattle.std.specs.List.{list_any, range_with_len}
 use Rattle.std.specs.Str.{bytes_eq}
 use Rattle.std.proofs.lemmas.Bool.{leb-true, leb-false}
 use Rattle.af_script.specs.Text.{is_name}
-use Rattle.af_player.specs.Requests.{is_drawn, two_names}
+use Rattle.af_words.specs.Requests.{is_drawn, two_names}
 use Rattle.af_player.proofs.PlainWords.{neither}
 
 either : (a b : Bool) → b ≡ true → (a || b) ≡ true

@@ -1,6 +1,6 @@
 //! Which words fit, how runs end, and what is refused.
 use crate::run::run;
-use crate::words::request_of;
+use af_words::request_of;
 use af_io::{MemSink, MemStore, NoGate};
 use std::alloc::Global;
 use std::process::Abort;

@@ -1,0 +1,9 @@
+mod PlainWords
+mod RenderWords
+mod RecordWords
+mod LoopWords
+mod GenerateWords
+mod PlayWords
+mod VerifyWords
+mod TraceWords
+mod PlayerWords
