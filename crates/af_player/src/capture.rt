@@ -14,11 +14,11 @@ ghost use Rattle.af_player.specs.Status.{HasFault, IsNoUsage, Meets};
 
 use crate::deliver::{Output, deliver};
 use crate::load::{MOST_FILE, frames_in, load_file};
-use af_words::Sizes;
 use crate::status::{Role, Stop};
 use af_base::{Frame, Memory};
 use af_io::{Store, bytes_of};
 use af_record::InHand;
+use af_words::Sizes;
 use std::alloc::{AllocError, Global};
 use std::fmt;
 

@@ -14,11 +14,11 @@ ghost use Rattle.af_player.specs.Status.{HasFault, IsNoUsage, Meets};
 
 use crate::deliver::{Output, deliver};
 use crate::load::{file_fault, frames_in, load_file};
-use af_words::Turns;
 use crate::status::{Role, Stop, Why};
 use af_base::{Frame, Gains, Memory};
 use af_io::{Pcm, Store, bytes_of};
 use af_static::{InHand, Unrolled};
+use af_words::Turns;
 use std::alloc::{AllocError, Global};
 use std::fmt;
 

@@ -1,4 +1,6 @@
 mod PlainWords
+mod Spelled
+pub mod DrawnNames
 mod RenderWords
 mod RecordWords
 mod LoopWords

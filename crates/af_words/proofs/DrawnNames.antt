@@ -5,7 +5,7 @@ use Rattle.std.specs.Str.{bytes_eq}
 use Rattle.std.proofs.lemmas.Bool.{leb-true, leb-false}
 use Rattle.af_script.specs.Text.{is_name}
 use Rattle.af_words.specs.Requests.{is_drawn, two_names}
-use Rattle.af_player.proofs.PlainWords.{neither}
+use Rattle.af_words.proofs.PlainWords.{neither}
 
 either : (a b : Bool) → b ≡ true → (a || b) ≡ true
 either true b is = refl
