@@ -12,7 +12,7 @@ use Rattle.af_player.specs.declared.status.Stop.TheVariants.{Over}
 use Rattle.af_player.specs.Asked.{Job, Work, Exact, Session, Rounds, Judge, Traced}
 use Rattle.af_player.specs.Ends.{AsksEnding, EndsAsAsked, EndsWork, IsCutOff, IsEnded, IsOver, LeavesWork, Printed, Prints, PrintsFront, PrintsOwnLine, PrintsSomeLine, Renders, Works, work_limit}
 use Rattle.af_player.specs.Line.{ending_text, limit_text}
-use Rattle.af_player.specs.Requests.{Request}
+use Rattle.af_words.specs.Requests.{Request}
 use Rattle.af_player.specs.Status.{JudgesWords, RefusesWords, ended_status}
 
 -- a file that was made anew holds a front of its bytes: all of them

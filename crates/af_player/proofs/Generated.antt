@@ -14,8 +14,8 @@ use Rattle.af_io.proofs.Outputs.{with_files-append, LeavesFronts-first, LeavesFr
 use Rattle.af_script.specs.Generated.{generated_name, generated_script}
 use Rattle.af_script.specs.Printing.{printed_script}
 use Rattle.af_player.specs.Generated.{drawn_file, drawn_files, script_file, generated_file, generated_files}
-use Rattle.af_player.specs.Requests.{is_drawn}
-use Rattle.af_player.proofs.DrawnNames.{none_is}
+use Rattle.af_words.specs.Requests.{is_drawn}
+use Rattle.af_words.proofs.DrawnNames.{none_is}
 
 -- ## Files that are written one after the other
 

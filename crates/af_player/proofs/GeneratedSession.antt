@@ -22,7 +22,7 @@ use Rattle.af_player.specs.Asked.{◌>>=◌, then_cons, most_file, most_files, t
 use Rattle.af_player.specs.Ends.{Makes}
 use Rattle.af_player.specs.Generated.{samples_of, samples_before, generated_file, generated_files, generated_frames}
 use Rattle.af_player.specs.Loading.{loaded_view}
-use Rattle.af_player.specs.Requests.{is_drawn}
+use Rattle.af_words.specs.Requests.{is_drawn}
 use Rattle.af_player.specs.Status.{Meets}
 use Rattle.af_player.proofs.Draws.{file_length}
 use Rattle.af_player.proofs.Generated.{file_there}

@@ -13,7 +13,7 @@ use Rattle.af_player.specs.declared.status.Stop.{Stop}
 use Rattle.af_player.specs.declared.status.Stop.TheVariants.{Over, Store, Memory}
 use Rattle.af_player.specs.declared.status.Ending.{Ending}
 use Rattle.af_player.specs.declared.status.Ending.TheVariants.{Limit}
-use Rattle.af_player.specs.Requests.{Request}
+use Rattle.af_words.specs.Requests.{Request}
 use Rattle.af_player.specs.Status.{HasFault, SuitsRequest, stop_of}
 
 -- what is so of the stop of the store's refusal is so of the answer

@@ -7,7 +7,7 @@ use Rattle.af_static.specs.declared.setting.Setting.{Setting}
 use Rattle.af_static.specs.declared.head.Head.{Head}
 use Rattle.af_static.specs.InStep.{HandState}
 use Rattle.af_static.specs.Loops.{adopted, at_first, head_after, heard, is_valid, opening, output, shut_by, taken}
-use Rattle.af_player.specs.declared.request.Turns.{Turns}
+use Rattle.af_words.specs.declared.request.Turns.{Turns}
 use Rattle.af_player.specs.Looped.{filled_of, first_head, heard_of, next_head, next_setting, setting_of, unity}
 use Rattle.af_player.proofs.Entries.{pcm_bytes-append}
 

@@ -6,7 +6,7 @@ use Rattle.std.specs.List.{flat_map}
 use Rattle.std.proofs.Common.{of_z, w16}
 use Rattle.af_base.specs.declared.frame.Frame.{Frame}
 use Rattle.af_base.specs.Sample.{packed_word, frame_bytes, pcm_bytes}
-use Rattle.af_player.specs.declared.request.Sizes.{Sizes}
+use Rattle.af_words.specs.declared.request.Sizes.{Sizes}
 use Rattle.af_player.specs.Recorded.{Recording, empty, supplied, read_up_to, period, periods, recorded, heard}
 use Rattle.af_player.specs.Captured.{word_bytes}
 

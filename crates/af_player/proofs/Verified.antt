@@ -13,7 +13,7 @@ use Rattle.af_player.specs.declared.status.Stop.TheVariants.{Refused, Over, Stor
 use Rattle.af_player.specs.Asked.{Case, verify_job}
 use Rattle.af_player.specs.Ends.{Makes}
 use Rattle.af_player.specs.Line.{legal_text}
-use Rattle.af_player.specs.Requests.{Verify}
+use Rattle.af_words.specs.Requests.{Verify}
 use Rattle.af_player.specs.Status.{HasFault, SuitsRequest}
 use Rattle.af_player.specs.Verified.{FoundTo, IsTextFor, IsJudgedIn, JudgesTo}
 use Rattle.af_player.proofs.Made.{IsCutOff-same}

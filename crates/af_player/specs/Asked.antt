@@ -16,9 +16,9 @@ use Rattle.af_player.specs.declared.status.Refusal.TheVariants.{Usage, Script, F
 use Rattle.af_player.specs.declared.status.Role.{Role}
 use Rattle.af_player.specs.declared.status.Role.TheVariants as role
 use Rattle.af_player.specs.declared.status.Why.TheVariants.{Missing, Long, Ragged, Short, Total}
-use Rattle.af_player.specs.declared.request.Sizes.{Sizes}
-use Rattle.af_player.specs.declared.request.Turns.{Turns}
-use Rattle.af_player.specs.Requests.{Request, Render, Record, Loop, Generate, Play, Verify, Trace, request_of}
+use Rattle.af_words.specs.declared.request.Sizes.{Sizes}
+use Rattle.af_words.specs.declared.request.Turns.{Turns}
+use Rattle.af_words.specs.Requests.{Request, Render, Record, Loop, Generate, Play, Verify, Trace, request_of}
 use Rattle.af_player.specs.Recorded.{heard, recorded, counts_of}
 use Rattle.af_player.specs.Looped.{most_buffer, looped, rolls_of}
 use Rattle.af_player.specs.Generated.{generated_files, generated_frames}

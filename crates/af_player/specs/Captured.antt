@@ -3,18 +3,13 @@ use Rattle.std.specs.Prelude.{◌≡◌, ℕ, ◌+◌, ◌/◌, ◌%◌, ◌≤�
 use Rattle.std.specs.List.{flat_map}
 use Rattle.af_player.specs.declared.capture.Tape.{Tape}
 use Rattle.af_player.specs.declared.capture.Counted.{Counted}
-use Rattle.af_player.specs.declared.request.Sizes.{Sizes}
+use Rattle.af_words.specs.Asking.{AreSizes}
+use Rattle.af_words.specs.declared.request.Sizes.{Sizes}
 use Rattle.af_player.specs.Recorded.{Counts, Recording}
 
 -- the four bytes of a word that holds a frame, low byte first
 abbrev pub word_bytes : ℕ → List ℕ
 word_bytes word = word % 256 ∷ word / 256 % 256 ∷ word / 65536 % 256 ∷ word / 16777216 % 256 ∷ []
-
--- the sizes that words may ask for
-pub record AreSizes (sizes : Sizes) : Type 0 where
-  pub room : (1 ≤ sizes.room) × (sizes.room ≤ 8192)
-  pub supply : (1 ≤ sizes.supply) × (sizes.supply ≤ 1024)
-  pub read : (1 ≤ sizes.read) × (sizes.read ≤ 1024)
 
 -- how far it has come, by the words of frames
 abbrev pub state_of : Tape → Recording ℕ

@@ -5,7 +5,7 @@ use Rattle.af_static.specs.declared.setting.Setting.{Setting}
 use Rattle.af_static.specs.declared.head.Head.{Head}
 use Rattle.af_static.specs.InStep.{HandState}
 use Rattle.af_static.specs.Loops.{at_first, head_after, heard, is_valid, opening, output, shut_by, taken}
-use Rattle.af_player.specs.declared.request.Turns.{Turns}
+use Rattle.af_words.specs.declared.request.Turns.{Turns}
 
 -- the most bytes of a file that is looped: 8192 frames
 abbrev pub most_buffer : ℕ
@@ -50,11 +50,6 @@ rolls_of turns frames = record {
   filled = filled_of frames (setting_of turns) turns.places turns.calls (first_head turns frames);
   is_shut = is_some (shut_by (length frames) (setting_of turns));
 }
-
--- the places and calls that words may ask for
-pub record AreTurns (turns : Turns) : Type 0 where
-  pub places : (1 ≤ turns.places) × (turns.places ≤ 1024)
-  pub calls : (1 ≤ turns.calls) × (turns.calls ≤ 2048)
 
 -- the setting by which the next call of a player plays
 unfoldable pub next_setting : HandState → Setting

@@ -1,7 +1,7 @@
 -- A recording on one thread, in periods: a supply and then a read.
 use Rattle.std.specs.Prelude.{ℕ, zero, suc, ◌+◌, ◌-◌, min, List, [], ◌∷◌, ◌++◌, length, take, drop}
 use Rattle.af_base.specs.declared.frame.Frame.{Frame}
-use Rattle.af_player.specs.declared.request.Sizes.{Sizes}
+use Rattle.af_words.specs.declared.request.Sizes.{Sizes}
 
 -- the frames read so far and those that are queued, and how many were lost
 pub record Recording (X : Type 0) : Type 0 where

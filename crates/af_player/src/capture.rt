@@ -5,7 +5,8 @@ ghost use Rattle.af_base.specs.Sample.{packed_word, pcm_bytes};
 ghost use Rattle.af_io.specs.Files.{SameFiles};
 ghost use Rattle.af_player.specs.Asked.{record_asked};
 ghost use Rattle.af_player.specs.Asking.{output_job};
-ghost use Rattle.af_player.specs.Captured.{counts_in, state_of, word_bytes, AreSizes, IsTape};
+ghost use Rattle.af_player.specs.Captured.{counts_in, state_of, word_bytes, IsTape};
+ghost use Rattle.af_words.specs.Asking.{AreSizes};
 ghost use Rattle.af_player.specs.Ends.{Makes};
 ghost use Rattle.af_player.specs.Line.{counts_text};
 ghost use Rattle.af_player.specs.Recorded.{Counts, counts_of, empty, heard, period, periods, read_up_to, recorded};
@@ -13,11 +14,11 @@ ghost use Rattle.af_player.specs.Status.{HasFault, IsNoUsage, Meets};
 
 use crate::deliver::{Output, deliver};
 use crate::load::{MOST_FILE, frames_in, load_file};
-use crate::request::Sizes;
 use crate::status::{Role, Stop};
 use af_base::{Frame, Memory};
 use af_io::{Store, bytes_of};
 use af_record::InHand;
+use af_words::Sizes;
 use std::alloc::{AllocError, Global};
 use std::fmt;
 

@@ -9,7 +9,7 @@ ghost use Rattle.af_script.specs.Reading.{script_of};
 ghost use Rattle.af_player.specs.Asked.{generated_job};
 ghost use Rattle.af_player.specs.Ends.{Makes};
 ghost use Rattle.af_player.specs.Generated.{next_draw, drawn, sample_of, drawn_bytes, drawn_files, generated_files};
-ghost use Rattle.af_player.specs.Requests.{is_drawn};
+ghost use Rattle.af_words.specs.Requests.{is_drawn};
 ghost use Rattle.af_player.specs.Sessions.{IsSomeSessionLine};
 ghost use Rattle.af_player.specs.Status.{HasFault, IsNoUsage};
 

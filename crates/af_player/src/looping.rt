@@ -7,17 +7,18 @@ ghost use Rattle.af_player.specs.Asked.{buffer_in, loop_asked};
 ghost use Rattle.af_player.specs.Asking.{output_job};
 ghost use Rattle.af_player.specs.Ends.{Makes};
 ghost use Rattle.af_player.specs.Line.{rolls_text};
-ghost use Rattle.af_player.specs.Looped.{Rolls, filled_of, first_head, heard_of, looped, next_head, next_setting, rolls_of, setting_of, unity, AreTurns};
+ghost use Rattle.af_player.specs.Looped.{Rolls, filled_of, first_head, heard_of, looped, next_head, next_setting, rolls_of, setting_of, unity};
+ghost use Rattle.af_words.specs.Asking.{AreTurns};
 ghost use Rattle.af_player.specs.Rolled.{rolls_in};
 ghost use Rattle.af_player.specs.Status.{HasFault, IsNoUsage, Meets};
 
 use crate::deliver::{Output, deliver};
 use crate::load::{file_fault, frames_in, load_file};
-use crate::request::Turns;
 use crate::status::{Role, Stop, Why};
 use af_base::{Frame, Gains, Memory};
 use af_io::{Pcm, Store, bytes_of};
 use af_static::{InHand, Unrolled};
+use af_words::Turns;
 use std::alloc::{AllocError, Global};
 use std::fmt;
 

@@ -7,7 +7,7 @@ ghost use Rattle.af_player.specs.Asked.{play_asked, play_job};
 ghost use Rattle.af_player.specs.Ends.{Makes};
 ghost use Rattle.af_player.specs.Loading.{loaded_view, AreFilesFor};
 ghost use Rattle.af_player.specs.Plays.{IsSomePlayLine};
-ghost use Rattle.af_player.specs.Requests.{Play};
+ghost use Rattle.af_words.specs.Requests.{Play};
 ghost use Rattle.af_player.specs.Status.{HasFault, SuitsRequest};
 
 use crate::deliver::write_file;

@@ -1,7 +1,7 @@
 //! Which words fit, how runs end, and what is refused.
 use crate::run::run;
-use crate::words::request_of;
 use af_io::{MemSink, MemStore, NoGate};
+use af_words::request_of;
 use std::alloc::Global;
 use std::process::Abort;
 use std::test::Fail;

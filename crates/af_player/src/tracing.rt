@@ -4,7 +4,7 @@ ghost use Rattle.af_player.specs.Asked.{trace_asked, trace_job};
 ghost use Rattle.af_player.specs.Ends.{Makes};
 ghost use Rattle.af_player.specs.Loading.{loaded_view, AreFilesFor};
 ghost use Rattle.af_player.specs.Plays.{IsSomePlayLine};
-ghost use Rattle.af_player.specs.Requests.{Trace};
+ghost use Rattle.af_words.specs.Requests.{Trace};
 ghost use Rattle.af_player.specs.Status.{HasFault, SuitsRequest};
 
 use crate::deliver::write_file;

@@ -5,7 +5,7 @@ ghost use Rattle.af_player.specs.Asked.{case_of, verify_asked};
 ghost use Rattle.af_player.specs.Ends.{Makes};
 ghost use Rattle.af_player.specs.Line.{legal_text};
 ghost use Rattle.af_player.specs.Loading.{AreFilesFor};
-ghost use Rattle.af_player.specs.Requests.{Verify};
+ghost use Rattle.af_words.specs.Requests.{Verify};
 ghost use Rattle.af_player.specs.Status.{HasFault, IsNoUsage, Meets, SuitsRequest};
 ghost use Rattle.af_player.specs.Verified.{FoundTo, JudgesTo, ReadsTo, case_view};
 

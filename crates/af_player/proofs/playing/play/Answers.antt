@@ -11,7 +11,7 @@ use Rattle.af_player.specs.declared.status.Ending.TheVariants.{Limit}
 use Rattle.af_player.specs.Asked.{Loaded, play_job}
 use Rattle.af_player.specs.Ends.{IsCutOff, Makes}
 use Rattle.af_player.specs.Loading.{loaded_view}
-use Rattle.af_player.specs.Requests.{Play}
+use Rattle.af_words.specs.Requests.{Play}
 use Rattle.af_player.specs.Status.{stop_of}
 use Rattle.af_player.proofs.Played.{Makes-memory}
 use Rattle.af_player.proofs.PlayedRounds.{Makes-cut, Makes-rounds, rounds_behind, some_play_line, text_unwritten}

@@ -6,7 +6,7 @@ use Rattle.af_player.specs.declared.status.Status.{Status}
 use Rattle.af_player.specs.Ends.{EndsAsAsked, Prints, PrintsOwnLine, Works}
 use Rattle.af_player.specs.Line.{ending_text}
 use Rattle.af_player.specs.Status.{JudgesWords}
-use Rattle.af_player.specs.Requests.{request_of}
+use Rattle.af_words.specs.Requests.{request_of}
 use Rattle.af_player.proofs.Left.{Works-done, EndsAsAsked-done}
 use Rattle.af_player.proofs.Ended.{EndsAsAsked-ended, IsCutOff-ended, IsOver-ended, JudgesWords-ended, Prints-end_cut, Prints-ended, PrintsOwnLine-ended, Works-ended, end_asked, end_named, end_reached, end_unprinted}
 use Rattle.af_player.proofs.run.run.Goals as goal

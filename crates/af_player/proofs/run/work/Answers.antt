@@ -3,9 +3,9 @@ use Rattle.std.specs.declared.alloc.Global.{Global}
 use Rattle.af_io.specs.Causes.{Rose}
 use Rattle.af_player.specs.declared.status.Refusal.{Refusal}
 use Rattle.af_player.specs.Asked.{Job, asked_of, job_of}
-use Rattle.af_player.specs.Asking.{request_view}
+use Rattle.af_words.specs.Asking.{request_view}
 use Rattle.af_player.specs.Ends.{Makes, PrintsLine}
-use Rattle.af_player.specs.Requests.{request_of}
+use Rattle.af_words.specs.Requests.{request_of}
 use Rattle.af_player.proofs.Left.{asked_line, asked_named, Printed-printed, PrintsSomeLine-stopped, PrintsSomeLine-written, Renders-memory, Renders-printed, Renders-stopped, WholeUnless-printed}
 use Rattle.af_player.proofs.run.work.Goals as goal
 

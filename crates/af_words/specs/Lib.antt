@@ -1,0 +1,4 @@
+pub mod Dash
+pub mod Requests
+pub mod Asking
+pub mod Words
