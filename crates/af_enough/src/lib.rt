@@ -1,0 +1,8 @@
+//! How many cycles are enough for a script to be played to its end.
+#![tactic(auto)]
+
+mod enough;
+#[cfg(test)]
+mod tests;
+
+pub use enough::{MOST_GAINS, enough_cycles};
