@@ -1,22 +1,17 @@
 -- A mixer whose draft says Exit does no more: its turns change no track, and once it pushed the Exit they push nothing.
-use Rattle.std.proofs.Common.{◌≡◌, ℕ, zero, suc, ◌==◌, ◌&&◌, ◌||◌, not, Bool, true, false, true≢false, if◌then◌else◌, is_some, sym, refl, ap, subst, ◌∙◌, List, [], ◌∷◌, length, map, fold, slice_set, eqb-true, eq-eqb}
-use Rattle.std.specs.List.{AllByRecursion, list_any}
+use Rattle.std.proofs.Common.{◌≡◌, ℕ, zero, suc, ◌==◌, Bool, true, false, if◌then◌else◌, sym, refl, ap, subst, ◌∙◌, List, length}
+use Rattle.std.specs.List.{AllByRecursion}
 use Rattle.af_base.specs.declared.state.Command.{Command}
-use Rattle.af_base.specs.declared.state.Command.TheVariants.{ColdIdle, Exit, MixWrite}
-use Rattle.af_base.specs.declared.state.FastState.{FastState}
+use Rattle.af_base.specs.declared.state.Command.TheVariants.{Exit}
 use Rattle.af_base.specs.declared.state.Push.{Push}
 use Rattle.af_base.specs.declared.state.Push.TheVariants.{Pushed, Clean, Busy}
 use Rattle.af_base.specs.Command.{code_of}
-use Rattle.af_base.specs.Turn.{Turn, TrackSeen, TakeSeen}
+use Rattle.af_base.specs.Turn.{Turn, TakeSeen}
 use Rattle.af_model.specs.Draft.{commanded as with_command}
-use Rattle.af_life.specs.declared.kept.Holder.{Holder}
-use Rattle.af_life.specs.declared.kept.Holder.TheVariants.{Home, Lent, Returning}
-use Rattle.af_life.specs.declared.kept.TrackKept.{TrackKept}
-use Rattle.af_life.specs.Kept.{Setup, asked, pipe_size, NormalKept, new_normal, Learnt, Outside, track_at, plays, is_home, is_lent, is_returning}
+use Rattle.af_life.specs.Kept.{Setup, asked, pipe_size, NormalKept, new_normal, Learnt, Outside, track_at}
 use Rattle.af_life.specs.Heard.{learnt}
-use Rattle.af_life.specs.Serves.{served, served_to}
-use Rattle.af_life.specs.Edits.{welcomed, after_ack, is_exit, must_leave, must_enter, let_go, lend, edited, edited_to, is_over, next_command, ordered, commanded_by, mutated, after_push, LegalPush}
-use Rattle.af_life.specs.Plays.{after_take, after_takes}
+use Rattle.af_life.specs.Edits.{after_ack, is_exit, must_leave, must_enter, let_go, lend, edited, edited_to, next_command, ordered, mutated, after_push, LegalPush}
+use Rattle.af_life.specs.Plays.{after_takes}
 use Rattle.af_life.specs.Turn.{after_tracks, after_edits, turn_after, GoesOn, LegalTurn}
 use Rattle.af_audit.proofs.DoneTracks.{IsDone, exit_when_over, no, ordered_over, quiet_edits, takes_done}
 

@@ -247,15 +247,7 @@ fn play_with<R: Threads + Sync, S: Store, G: Gate>(
         logging,
         gate,
     )?;
-    answer(
-        alloc,
-        script,
-        files,
-        parties,
-        rounds,
-        &tally,
-        &mut released,
-    )
+    answer(alloc, script, files, parties, rounds, &tally, &mut released)
 }
 
 /// Plays a script in rounds. In each every party that has not ended makes one turn, on a thread of its own where one can be made: each client, the normal mixer, and the fast mixer, which makes sixteen cycles, or fewer after one that isn't mixed. Then all parties meet. A party's turn begins at the gate, by its number: the clients' are those of their tracks, and the mixers' come behind. The sound goes to the file of this name, round by round. All blocks, logs and mixers are made before the file is; the rounds are noted as they are played. It makes at most as many rounds as the script has cycles.

@@ -1,4 +1,4 @@
-use Rattle.std.proofs.Common.{◌≡◌, ◌*◌, ℕ, List, Some, false, true, inl, inr, refl, sym, ap, subst, ◌∙◌}
+use Rattle.std.proofs.Common.{◌≡◌, ◌*◌, ℕ, List, Some, false, true, inl, refl, sym, ap, subst, ◌∙◌}
 use Rattle.af_audit.specs.Fates.{EachFrameHasOneFate}
 use Rattle.af_audit.proofs.FatesTold.{frames-have-fates}
 use Rattle.af_base.specs.Roomy.{Roomy}
@@ -12,7 +12,6 @@ use Rattle.af_session.specs.PlayedRuns.{HandsBackRun, LeavesRun, all_ended}
 use Rattle.af_session.specs.Spelled.{CallsStandOnce, PushesStandOnce}
 use Rattle.af_runs.specs.LegalRuns.{IsLegalRun}
 use Rattle.af_runs.specs.Pcm.{journal_pcm}
-use Rattle.af_tally.specs.Sound.{pcm_of}
 use Rattle.af_session.specs.Together.{SessionState}
 use Rattle.af_session.proofs.JournalSound.{journal_sounds}
 use Rattle.af_session.proofs.LogEnds.{tells_log}
