@@ -1,5 +1,6 @@
 mod PlainWords
 mod Spelled
 pub mod DrawnNames
+mod Commands
 mod SubWords
 mod PlayerWords

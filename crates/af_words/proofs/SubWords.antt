@@ -35,93 +35,93 @@ pub record IsSub (name : Text) (shape : Shape) (asked : List Text → Option Req
   pub met : (words : List Text) → AreMet name shape asked words
   pub request : (words : List Text) → command_request (name ∷ words) ≡ asked words
 
-render_met : (words : List Text) → AreMet (codes "render") (sub 0) render_request words
+render_cases : (words : List Text) → AreMet (codes "render") (sub 0) render_request words
 unfolding clap_on_literals
-render_met [] = inr (refl, refl)
-render_met (script ∷ []) = inr (refl, refl)
-render_met (script ∷ target ∷ []) = inl (refl, refl)
-render_met (script ∷ target ∷ more ∷ rest) = inr (refl, refl)
+render_cases [] = inr (refl, refl)
+render_cases (script ∷ []) = inr (refl, refl)
+render_cases (script ∷ target ∷ []) = inl (refl, refl)
+render_cases (script ∷ target ∷ more ∷ rest) = inr (refl, refl)
 
 pub render_sub : IsSub (codes "render") (sub 0) render_request
 unfolding clap_on_literals
-render_sub = record { passes = refl; stops = refl; found = refl; named = refl; single = refl; met = render_met; request = λ words. refl }
+render_sub = record { passes = refl; stops = refl; found = refl; named = refl; single = refl; met = render_cases; request = λ words. refl }
 
-record_met : (words : List Text) → AreMet (codes "record") (sub 1) record_request words
+record_cases : (words : List Text) → AreMet (codes "record") (sub 1) record_request words
 unfolding clap_on_literals
-record_met [] = inr (refl, refl)
-record_met (input ∷ []) = inr (refl, refl)
-record_met (input ∷ target ∷ []) = inr (refl, refl)
-record_met (input ∷ target ∷ room ∷ []) = inr (refl, refl)
-record_met (input ∷ target ∷ room ∷ supply ∷ []) = inr (refl, refl)
-record_met (input ∷ target ∷ room ∷ supply ∷ read ∷ []) = inl (refl, refl)
-record_met (input ∷ target ∷ room ∷ supply ∷ read ∷ more ∷ rest) = inr (refl, refl)
+record_cases [] = inr (refl, refl)
+record_cases (input ∷ []) = inr (refl, refl)
+record_cases (input ∷ target ∷ []) = inr (refl, refl)
+record_cases (input ∷ target ∷ room ∷ []) = inr (refl, refl)
+record_cases (input ∷ target ∷ room ∷ supply ∷ []) = inr (refl, refl)
+record_cases (input ∷ target ∷ room ∷ supply ∷ read ∷ []) = inl (refl, refl)
+record_cases (input ∷ target ∷ room ∷ supply ∷ read ∷ more ∷ rest) = inr (refl, refl)
 
 pub record_sub : IsSub (codes "record") (sub 1) record_request
 unfolding clap_on_literals
-record_sub = record { passes = refl; stops = refl; found = refl; named = refl; single = refl; met = record_met; request = λ words. refl }
+record_sub = record { passes = refl; stops = refl; found = refl; named = refl; single = refl; met = record_cases; request = λ words. refl }
 
-loop_met : (words : List Text) → AreMet (codes "loop") (sub 2) loop_request words
+loop_cases : (words : List Text) → AreMet (codes "loop") (sub 2) loop_request words
 unfolding clap_on_literals
-loop_met [] = inr (refl, refl)
-loop_met (input ∷ []) = inr (refl, refl)
-loop_met (input ∷ target ∷ []) = inr (refl, refl)
-loop_met (input ∷ target ∷ places ∷ []) = inr (refl, refl)
-loop_met (input ∷ target ∷ places ∷ calls ∷ []) = inr (refl, refl)
-loop_met (input ∷ target ∷ places ∷ calls ∷ first ∷ []) = inr (refl, refl)
-loop_met (input ∷ target ∷ places ∷ calls ∷ first ∷ last ∷ []) = inr (refl, refl)
-loop_met (input ∷ target ∷ places ∷ calls ∷ first ∷ last ∷ count ∷ []) = inl (refl, refl)
-loop_met (input ∷ target ∷ places ∷ calls ∷ first ∷ last ∷ count ∷ more ∷ rest) = inr (refl, refl)
+loop_cases [] = inr (refl, refl)
+loop_cases (input ∷ []) = inr (refl, refl)
+loop_cases (input ∷ target ∷ []) = inr (refl, refl)
+loop_cases (input ∷ target ∷ places ∷ []) = inr (refl, refl)
+loop_cases (input ∷ target ∷ places ∷ calls ∷ []) = inr (refl, refl)
+loop_cases (input ∷ target ∷ places ∷ calls ∷ first ∷ []) = inr (refl, refl)
+loop_cases (input ∷ target ∷ places ∷ calls ∷ first ∷ last ∷ []) = inr (refl, refl)
+loop_cases (input ∷ target ∷ places ∷ calls ∷ first ∷ last ∷ count ∷ []) = inl (refl, refl)
+loop_cases (input ∷ target ∷ places ∷ calls ∷ first ∷ last ∷ count ∷ more ∷ rest) = inr (refl, refl)
 
 pub loop_sub : IsSub (codes "loop") (sub 2) loop_request
 unfolding clap_on_literals
-loop_sub = record { passes = refl; stops = refl; found = refl; named = refl; single = refl; met = loop_met; request = λ words. refl }
+loop_sub = record { passes = refl; stops = refl; found = refl; named = refl; single = refl; met = loop_cases; request = λ words. refl }
 
-generate_met : (words : List Text) → AreMet (codes "generate") (sub 3) generate_request words
+generate_cases : (words : List Text) → AreMet (codes "generate") (sub 3) generate_request words
 unfolding clap_on_literals
-generate_met [] = inr (refl, refl)
-generate_met (number ∷ []) = inr (refl, refl)
-generate_met (number ∷ script ∷ []) = inr (refl, refl)
-generate_met (number ∷ script ∷ target ∷ []) = inl (refl, refl)
-generate_met (number ∷ script ∷ target ∷ more ∷ rest) = inr (refl, refl)
+generate_cases [] = inr (refl, refl)
+generate_cases (number ∷ []) = inr (refl, refl)
+generate_cases (number ∷ script ∷ []) = inr (refl, refl)
+generate_cases (number ∷ script ∷ target ∷ []) = inl (refl, refl)
+generate_cases (number ∷ script ∷ target ∷ more ∷ rest) = inr (refl, refl)
 
 pub generate_sub : IsSub (codes "generate") (sub 3) generate_request
 unfolding clap_on_literals
-generate_sub = record { passes = refl; stops = refl; found = refl; named = refl; single = refl; met = generate_met; request = λ words. refl }
+generate_sub = record { passes = refl; stops = refl; found = refl; named = refl; single = refl; met = generate_cases; request = λ words. refl }
 
-play_met : (words : List Text) → AreMet (codes "play") (sub 4) play_request words
+play_cases : (words : List Text) → AreMet (codes "play") (sub 4) play_request words
 unfolding clap_on_literals
-play_met [] = inr (refl, refl)
-play_met (script ∷ []) = inr (refl, refl)
-play_met (script ∷ target ∷ []) = inr (refl, refl)
-play_met (script ∷ target ∷ journal ∷ []) = inl (refl, refl)
-play_met (script ∷ target ∷ journal ∷ more ∷ rest) = inr (refl, refl)
+play_cases [] = inr (refl, refl)
+play_cases (script ∷ []) = inr (refl, refl)
+play_cases (script ∷ target ∷ []) = inr (refl, refl)
+play_cases (script ∷ target ∷ journal ∷ []) = inl (refl, refl)
+play_cases (script ∷ target ∷ journal ∷ more ∷ rest) = inr (refl, refl)
 
 pub play_sub : IsSub (codes "play") (sub 4) play_request
 unfolding clap_on_literals
-play_sub = record { passes = refl; stops = refl; found = refl; named = refl; single = refl; met = play_met; request = λ words. refl }
+play_sub = record { passes = refl; stops = refl; found = refl; named = refl; single = refl; met = play_cases; request = λ words. refl }
 
-verify_met : (words : List Text) → AreMet (codes "verify") (sub 5) verify_request words
+verify_cases : (words : List Text) → AreMet (codes "verify") (sub 5) verify_request words
 unfolding clap_on_literals
-verify_met [] = inr (refl, refl)
-verify_met (script ∷ []) = inr (refl, refl)
-verify_met (script ∷ sound ∷ []) = inr (refl, refl)
-verify_met (script ∷ sound ∷ journal ∷ []) = inl (refl, refl)
-verify_met (script ∷ sound ∷ journal ∷ more ∷ rest) = inr (refl, refl)
+verify_cases [] = inr (refl, refl)
+verify_cases (script ∷ []) = inr (refl, refl)
+verify_cases (script ∷ sound ∷ []) = inr (refl, refl)
+verify_cases (script ∷ sound ∷ journal ∷ []) = inl (refl, refl)
+verify_cases (script ∷ sound ∷ journal ∷ more ∷ rest) = inr (refl, refl)
 
 pub verify_sub : IsSub (codes "verify") (sub 5) verify_request
 unfolding clap_on_literals
-verify_sub = record { passes = refl; stops = refl; found = refl; named = refl; single = refl; met = verify_met; request = λ words. refl }
+verify_sub = record { passes = refl; stops = refl; found = refl; named = refl; single = refl; met = verify_cases; request = λ words. refl }
 
-trace_met : (words : List Text) → AreMet (codes "trace") (sub 6) trace_request words
+trace_cases : (words : List Text) → AreMet (codes "trace") (sub 6) trace_request words
 unfolding clap_on_literals
-trace_met [] = inr (refl, refl)
-trace_met (script ∷ []) = inr (refl, refl)
-trace_met (script ∷ target ∷ []) = inr (refl, refl)
-trace_met (script ∷ target ∷ journal ∷ []) = inr (refl, refl)
-trace_met (script ∷ target ∷ journal ∷ log ∷ []) = inr (refl, refl)
-trace_met (script ∷ target ∷ journal ∷ log ∷ room ∷ []) = inl (refl, refl)
-trace_met (script ∷ target ∷ journal ∷ log ∷ room ∷ more ∷ rest) = inr (refl, refl)
+trace_cases [] = inr (refl, refl)
+trace_cases (script ∷ []) = inr (refl, refl)
+trace_cases (script ∷ target ∷ []) = inr (refl, refl)
+trace_cases (script ∷ target ∷ journal ∷ []) = inr (refl, refl)
+trace_cases (script ∷ target ∷ journal ∷ log ∷ []) = inr (refl, refl)
+trace_cases (script ∷ target ∷ journal ∷ log ∷ room ∷ []) = inl (refl, refl)
+trace_cases (script ∷ target ∷ journal ∷ log ∷ room ∷ more ∷ rest) = inr (refl, refl)
 
 pub trace_sub : IsSub (codes "trace") (sub 6) trace_request
 unfolding clap_on_literals
-trace_sub = record { passes = refl; stops = refl; found = refl; named = refl; single = refl; met = trace_met; request = λ words. refl }
+trace_sub = record { passes = refl; stops = refl; found = refl; named = refl; single = refl; met = trace_cases; request = λ words. refl }
