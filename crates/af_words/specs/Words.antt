@@ -1,5 +1,5 @@
 -- The words after the program's name, as a simple command of `clap` reads them.
-use Rattle.std.specs.Prelude.{ℕ, true, false, List, [], ◌∷◌, ◌++◌, codes, Option, Some, None, option_and_then, if◌then◌else◌}
+use Rattle.std.specs.Prelude.{ℕ, true, false, List, [], ◌∷◌, ◌++◌, codes, map, Option, Some, None, option_and_then, if◌then◌else◌}
 use Rattle.std.specs.Str.{bytes_eq}
 use Rattle.clap.specs.Walk.{Row, Rule, Text, first_of}
 use Rattle.clap.specs.Simple.{App, Shape, new_rule, new_shape}
@@ -13,37 +13,37 @@ needed id = record (new_rule id) { required = true }
 abbrev pub with_rules : Shape → List Rule → Shape
 with_rules shape rules = record shape { rules = shape.rules ++ rules }
 
+-- a subcommand with these arguments, none of which can be left out
+abbrev pub command_words : List ℕ → List (List ℕ) → Shape
+command_words name ids = record (new_shape name) { rules = map needed ids }
+
 -- the subcommand `render SCRIPT OUT`
 abbrev pub render_words : Shape
-render_words = record (new_shape (codes "render")) { rules = needed (codes "script") ∷ needed (codes "out") ∷ [] }
+render_words = command_words (codes "render") (codes "script" ∷ codes "out" ∷ [])
 
 -- the subcommand `record IN OUT N F K`
 abbrev pub record_words : Shape
-record_words = record (new_shape (codes "record")) {
-  rules = needed (codes "in") ∷ needed (codes "out") ∷ needed (codes "room") ∷ needed (codes "supply") ∷ needed (codes "read") ∷ [];
-}
+record_words = command_words (codes "record") (codes "in" ∷ codes "out" ∷ codes "room" ∷ codes "supply" ∷ codes "read" ∷ [])
 
 -- the subcommand `loop IN OUT F K START END COUNT`
 abbrev pub loop_words : Shape
-loop_words = record (new_shape (codes "loop")) {
-  rules = needed (codes "in") ∷ needed (codes "out") ∷ needed (codes "places") ∷ needed (codes "calls") ∷ needed (codes "start") ∷ needed (codes "end") ∷ needed (codes "count") ∷ [];
-}
+loop_words = command_words (codes "loop") (codes "in" ∷ codes "out" ∷ codes "places" ∷ codes "calls" ∷ codes "start" ∷ codes "end" ∷ codes "count" ∷ [])
 
 -- the subcommand `generate NUMBER SCRIPT OUT`
 abbrev pub generate_words : Shape
-generate_words = record (new_shape (codes "generate")) { rules = needed (codes "number") ∷ needed (codes "script") ∷ needed (codes "out") ∷ [] }
+generate_words = command_words (codes "generate") (codes "number" ∷ codes "script" ∷ codes "out" ∷ [])
 
 -- the subcommand `play SCRIPT OUT JOURNAL`
 abbrev pub play_words : Shape
-play_words = record (new_shape (codes "play")) { rules = needed (codes "script") ∷ needed (codes "out") ∷ needed (codes "journal") ∷ [] }
+play_words = command_words (codes "play") (codes "script" ∷ codes "out" ∷ codes "journal" ∷ [])
 
 -- the subcommand `verify SCRIPT OUT JOURNAL`
 abbrev pub verify_words : Shape
-verify_words = record (new_shape (codes "verify")) { rules = needed (codes "script") ∷ needed (codes "out") ∷ needed (codes "journal") ∷ [] }
+verify_words = command_words (codes "verify") (codes "script" ∷ codes "out" ∷ codes "journal" ∷ [])
 
 -- the subcommand `trace SCRIPT OUT JOURNAL LOG ROOM`
 abbrev pub trace_words : Shape
-trace_words = record (new_shape (codes "trace")) { rules = needed (codes "script") ∷ needed (codes "out") ∷ needed (codes "journal") ∷ needed (codes "log") ∷ needed (codes "room") ∷ [] }
+trace_words = command_words (codes "trace") (codes "script" ∷ codes "out" ∷ codes "journal" ∷ codes "log" ∷ codes "room" ∷ [])
 
 -- a command with subcommands of its own, and no help
 abbrev pub bare_words : App

@@ -8,7 +8,7 @@ ghost use Rattle.af_words.specs.Asking.{AreSizes};
 ghost use Rattle.af_words.specs.Dash.{begins_dash};
 ghost use Rattle.af_words.specs.Asking.{AreTurns};
 ghost use Rattle.af_words.specs.Requests.{is_drawn, are_three_names, are_four_names, room_of, free_names, number_of, request_of, sizes_of, turns_of, two_names};
-ghost use Rattle.af_words.specs.Words.{needed, with_rules, bare_words, render_words, record_words, loop_words, generate_words, play_words, verify_words, trace_words, player_words, render_met, record_met, loop_met, generate_met, play_met, verify_met, trace_met, matched_request};
+ghost use Rattle.af_words.specs.Words.{needed, command_words, with_rules, bare_words, render_words, record_words, loop_words, generate_words, play_words, verify_words, trace_words, player_words, render_met, record_met, loop_met, generate_met, play_met, verify_met, trace_met, matched_request};
 
 use crate::request::{Request, Sizes, Turns};
 use af_script::{GENERATED_TRACKS, generated_name, is_name, number_within};
@@ -41,16 +41,6 @@ fn needed<'a>(alloc: Global, id: &'a str) -> Arg<'a>
     Arg::new(alloc, id).required(true)
 }
 
-/// The subcommand `render SCRIPT OUT`.
-fn render_command<'a>(alloc: Global) -> Result<Command<'a>, AllocError>
-    ensures shape { IfOk result (λ command. shape_of command ≡ render_words) }
-    ensures local { IfOk result (λ command. (out-Command command).has_globals ≡ false) }
-{
-    let script = needed(alloc, "script");
-    let out = needed(alloc, "out");
-    Command::new(alloc, "render").arg(script)?.arg(out)
-}
-
 /// A command with one more argument that can't be left out.
 fn with_needed<'a>(
     alloc: Global,
@@ -64,16 +54,32 @@ fn with_needed<'a>(
     command.arg(needed(alloc, id))
 }
 
+/// A subcommand with these arguments, none of which can be left out.
+fn command_of<'a>(alloc: Global, name: &'a str, ids: &[&'a str]) -> Result<Command<'a>, AllocError>
+    ensures shape { IfOk result (λ command. shape_of command ≡ command_words name.entry.now (map (λ id. id.now) ids.now)) }
+    ensures local { IfOk result (λ command. (out-Command command).has_globals ≡ false) }
+{
+    let mut command = Command::new(alloc, name);
+    for id in ids {
+        command = with_needed(alloc, command, id)?;
+    }
+    Ok(command)
+}
+
+/// The subcommand `render SCRIPT OUT`.
+fn render_command<'a>(alloc: Global) -> Result<Command<'a>, AllocError>
+    ensures shape { IfOk result (λ command. shape_of command ≡ render_words) }
+    ensures local { IfOk result (λ command. (out-Command command).has_globals ≡ false) }
+{
+    command_of(alloc, "render", &["script", "out"])
+}
+
 /// The subcommand `record IN OUT N F K`.
 fn record_command<'a>(alloc: Global) -> Result<Command<'a>, AllocError>
     ensures shape { IfOk result (λ command. shape_of command ≡ record_words) }
     ensures local { IfOk result (λ command. (out-Command command).has_globals ≡ false) }
 {
-    let command = with_needed(alloc, Command::new(alloc, "record"), "in")?;
-    let command = with_needed(alloc, command, "out")?;
-    let command = with_needed(alloc, command, "room")?;
-    let command = with_needed(alloc, command, "supply")?;
-    with_needed(alloc, command, "read")
+    command_of(alloc, "record", &["in", "out", "room", "supply", "read"])
 }
 
 /// The subcommand `loop IN OUT F K START END COUNT`.
@@ -81,13 +87,11 @@ fn loop_command<'a>(alloc: Global) -> Result<Command<'a>, AllocError>
     ensures shape { IfOk result (λ command. shape_of command ≡ loop_words) }
     ensures local { IfOk result (λ command. (out-Command command).has_globals ≡ false) }
 {
-    let command = with_needed(alloc, Command::new(alloc, "loop"), "in")?;
-    let command = with_needed(alloc, command, "out")?;
-    let command = with_needed(alloc, command, "places")?;
-    let command = with_needed(alloc, command, "calls")?;
-    let command = with_needed(alloc, command, "start")?;
-    let command = with_needed(alloc, command, "end")?;
-    with_needed(alloc, command, "count")
+    command_of(
+        alloc,
+        "loop",
+        &["in", "out", "places", "calls", "start", "end", "count"],
+    )
 }
 
 /// The subcommand `generate NUMBER SCRIPT OUT`.
@@ -95,9 +99,7 @@ fn generate_command<'a>(alloc: Global) -> Result<Command<'a>, AllocError>
     ensures shape { IfOk result (λ command. shape_of command ≡ generate_words) }
     ensures local { IfOk result (λ command. (out-Command command).has_globals ≡ false) }
 {
-    let command = with_needed(alloc, Command::new(alloc, "generate"), "number")?;
-    let command = with_needed(alloc, command, "script")?;
-    with_needed(alloc, command, "out")
+    command_of(alloc, "generate", &["number", "script", "out"])
 }
 
 /// The subcommand `play SCRIPT OUT JOURNAL`.
@@ -105,9 +107,7 @@ fn play_command<'a>(alloc: Global) -> Result<Command<'a>, AllocError>
     ensures shape { IfOk result (λ command. shape_of command ≡ play_words) }
     ensures local { IfOk result (λ command. (out-Command command).has_globals ≡ false) }
 {
-    let command = with_needed(alloc, Command::new(alloc, "play"), "script")?;
-    let command = with_needed(alloc, command, "out")?;
-    with_needed(alloc, command, "journal")
+    command_of(alloc, "play", &["script", "out", "journal"])
 }
 
 /// The subcommand `verify SCRIPT OUT JOURNAL`.
@@ -115,9 +115,7 @@ fn verify_command<'a>(alloc: Global) -> Result<Command<'a>, AllocError>
     ensures shape { IfOk result (λ command. shape_of command ≡ verify_words) }
     ensures local { IfOk result (λ command. (out-Command command).has_globals ≡ false) }
 {
-    let command = with_needed(alloc, Command::new(alloc, "verify"), "script")?;
-    let command = with_needed(alloc, command, "out")?;
-    with_needed(alloc, command, "journal")
+    command_of(alloc, "verify", &["script", "out", "journal"])
 }
 
 /// The subcommand `trace SCRIPT OUT JOURNAL LOG ROOM`.
@@ -125,11 +123,7 @@ fn trace_command<'a>(alloc: Global) -> Result<Command<'a>, AllocError>
     ensures shape { IfOk result (λ command. shape_of command ≡ trace_words) }
     ensures local { IfOk result (λ command. (out-Command command).has_globals ≡ false) }
 {
-    let command = with_needed(alloc, Command::new(alloc, "trace"), "script")?;
-    let command = with_needed(alloc, command, "out")?;
-    let command = with_needed(alloc, command, "journal")?;
-    let command = with_needed(alloc, command, "log")?;
-    with_needed(alloc, command, "room")
+    command_of(alloc, "trace", &["script", "out", "journal", "log", "room"])
 }
 
 /// The command before its subcommands, without help.

@@ -1,20 +1,15 @@
 use Rattle.std.proofs.Common.{◌≡◌, ◌∙◌, IfOk, ap₂, subst}
 use Rattle.clap.specs.Simple.{App}
-use Rattle.clap.specs.Words.{app_of, shape_of, with_subcommand}
-use Rattle.af_words.specs.Words.{bare_words, render_words, record_words, loop_words, generate_words, play_words, verify_words, player_words}
+use Rattle.clap.specs.Words.{app_of, with_subcommand}
 use Rattle.af_words.proofs.words.player_command.Goals as goal
 
 pub returns : goal.returns
 returns c =
-    let one : app_of c.in_ok-command.command ≡ with_subcommand bare_words render_words = c.in_ok-command.ensures ∙ ap₂ with_subcommand c.bare_command.ensures c.in_ok-render_command.ensures.shape in
-    let two : app_of c.in_ok-command-2.command ≡ with_subcommand (with_subcommand bare_words render_words) record_words = c.in_ok-command-2.ensures ∙ ap₂ with_subcommand one c.in_ok-record_command.ensures.shape in
-    let three : app_of c.in_ok-command-3.command ≡ with_subcommand (with_subcommand (with_subcommand bare_words render_words) record_words) loop_words =
-    c.in_ok-command-3.ensures ∙ ap₂ with_subcommand two c.in_ok-loop_command.ensures.shape in
-    let four : app_of c.in_ok-command-4.command ≡ with_subcommand (with_subcommand (with_subcommand (with_subcommand bare_words render_words) record_words) loop_words) generate_words =
-    c.in_ok-command-4.ensures ∙ ap₂ with_subcommand three c.in_ok-generate_command.ensures.shape in
-    let five : app_of c.in_ok-command-5.command ≡ with_subcommand (with_subcommand (with_subcommand (with_subcommand (with_subcommand bare_words render_words) record_words) loop_words) generate_words) play_words =
-    c.in_ok-command-5.ensures ∙ ap₂ with_subcommand four c.in_ok-play_command.ensures.shape in
-    let six : app_of c.in_ok-command-6.command ≡ with_subcommand (with_subcommand (with_subcommand (with_subcommand (with_subcommand (with_subcommand bare_words render_words) record_words) loop_words) generate_words) play_words) verify_words =
-    c.in_ok-command-6.ensures ∙ ap₂ with_subcommand five c.in_ok-verify_command.ensures.shape in
-    let seven : with_subcommand (app_of c.in_ok-command-6.command) (shape_of c.in_ok-trace_command.field-0) ≡ player_words = ap₂ with_subcommand six c.in_ok-trace_command.ensures.shape in
+    let one = c.in_ok-command.ensures ∙ ap₂ with_subcommand c.bare_command.ensures c.in_ok-render_command.ensures.shape in
+    let two = c.in_ok-command-2.ensures ∙ ap₂ with_subcommand one c.in_ok-record_command.ensures.shape in
+    let three = c.in_ok-command-3.ensures ∙ ap₂ with_subcommand two c.in_ok-loop_command.ensures.shape in
+    let four = c.in_ok-command-4.ensures ∙ ap₂ with_subcommand three c.in_ok-generate_command.ensures.shape in
+    let five = c.in_ok-command-5.ensures ∙ ap₂ with_subcommand four c.in_ok-play_command.ensures.shape in
+    let six = c.in_ok-command-6.ensures ∙ ap₂ with_subcommand five c.in_ok-verify_command.ensures.shape in
+    let seven = ap₂ with_subcommand six c.in_ok-trace_command.ensures.shape in
     subst (λ (app : App). IfOk c.with_sub-7.result (λ command. app_of command ≡ app)) seven c.with_sub-7.ensures
