@@ -134,13 +134,13 @@ nothing_from low (t ∷ takes) i rise lt =
     let other : (t.track == i) ≡ false = grind (arith, nat_tests, r, lt) in
     ap (λ (b : Bool). cond b (t ∷ takes_from takes i) (takes_from takes i)) other ∙ nothing_from (t.track + 1) takes i rise.1 (omega (arith, r, lt))
 
-record OneTake (P : TakeSeen → Type 0) (i : ℕ) (takes : List TakeSeen) : Type 0 where
-  take : TakeSeen
-  is : takes ≡ take ∷ []
-  of_track : take.track ≡ i
-  holds : P take
+pub record OneTake (P : TakeSeen → Type 0) (i : ℕ) (takes : List TakeSeen) : Type 0 where
+  pub take : TakeSeen
+  pub is : takes ≡ take ∷ []
+  pub of_track : take.track ≡ i
+  pub holds : P take
 
-one_take : (P : TakeSeen → Type 0) (low : ℕ) (takes : List TakeSeen) (i : ℕ) → TracksRise low takes → AllByRecursion P takes → (takes_from takes i ≡ []) ⊎ OneTake P i (takes_from takes i)
+pub one_take : (P : TakeSeen → Type 0) (low : ℕ) (takes : List TakeSeen) (i : ℕ) → TracksRise low takes → AllByRecursion P takes → (takes_from takes i ≡ []) ⊎ OneTake P i (takes_from takes i)
 one_take P low [] i rise all = inl refl
 one_take P low (t ∷ takes) i rise all = by_case (t.track == i) refl (one_take P (t.track + 1) takes i rise.1 all.1)
   where

@@ -27,14 +27,14 @@ use Rattle.af_audit.proofs.TrackStands.{TrackStands}
 -- ## Before the first round
 
 -- a block on which nothing was done has a history
-new_history : (k : Shape) → HasBlockHistory (new_block k)
+pub new_history : (k : Shape) → HasBlockHistory (new_block k)
 new_history k = record { order = []; legal = tt; client_is = refl; server_is = refl; hand_is = refl; released_is = omega arith; taken_is = refl }
 
 module _ (s : Session) (track : ℕ) (low : track < track_count s) where
-  new_there : track < length (new_run s).tracks
+  pub new_there : track < length (new_run s).tracks
   new_there = let m = length-map-range_with_len (new_track s) 0 (track_count s) in omega (arith, m, low)
 
-  told_new : told_at (new_run s) track ≡ new_track s track
+  pub told_new : told_at (new_run s) track ≡ new_track s track
   told_new = get_or-map-range_with_len (new_track s) 0 (track_count s) track track no_track low (omega arith)
 
   new_stands : RunStands s track (new_run s)

@@ -32,3 +32,9 @@ mod TrackStands
 mod RunStands
 mod TakenRecorded
 pub mod FatesTold
+mod CallsUnshut
+mod LooksUnshut
+mod RearsSeen
+mod TrackUnshut
+mod RunUnshut
+pub mod SparedTold

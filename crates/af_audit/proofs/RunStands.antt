@@ -53,11 +53,11 @@ found_at p a (suc n) k e = by_first (p a) refl (found_at p (a + 1) n k) e
     by_first false is later f = let more = later f in let h = more.high in record { holds = more.holds; high = omega (arith, h) }
 
 module _ (s : Session) (marks : Marks) (r : Run) (e : EntrySeen) (legal : LegalEntry s marks r e) (n i : ℕ) where
-  abbrev x : FastState
+  abbrev pub x : FastState
   x = state_for s r e.entry.state
 
   -- the look answers by some front
-  abbrev Looks : Type 0
+  abbrev pub Looks : Type 0
   Looks = (front : ℕ) × LooksBy (cycle_frames s) (listed (told_at r n).stream) (entry_slot e.entry i) front
 
   not_still : i < slots → e.entry ≡ still_entry e.entry.state e.entry.cycle → is_shown (entry_slot e.entry i).seen ≡ true → ⊥
@@ -79,7 +79,7 @@ module _ (s : Session) (marks : Marks) (r : Run) (e : EntrySeen) (legal : LegalE
       by_mixed true is = by_state (state_of r.states e.entry.state) refl is
       by_mixed false is = absurd (not_still low (legal.cycle.still is) shown)
 
-  entry_looks : slot_for x e.entry n ≡ Some i → Looks
+  pub entry_looks : slot_for x e.entry n ≡ Some i → Looks
   entry_looks found =
       let at = found_at (plays_track x e.entry n) 0 slots i found in
       let here = both-true (plays x e.entry i) ((slot_of x i).track == n) at.holds in
@@ -156,11 +156,11 @@ pub record RunStands (s : Session) (n : ℕ) (run : Run) : Type 0 where
 -- ## A round
 
 module _ (cut : Bool) (s : Session) (marks : Marks) (run : Run) (round : RoundSeen) (tracks n : ℕ) (form : IsRound tracks round) (legal : LegalRound cut s marks run round) where
-  abbrev start : Run
+  abbrev pub start : Run
   start = with_calls round run
 
   -- its entries are legal
-  fast_parts : LegalEntries s marks start (early_of run round) × LegalEntries s marks (after_turn s run round) (late_of run round)
+  pub fast_parts : LegalEntries s marks start (early_of run round) × LegalEntries s marks (after_turn s run round) (late_of run round)
   fast_parts = by_ended (fast_ended run) legal.turns.fast
     where
       by_ended : (b : Bool) → MatchBool b (round.entries ≡ []) (IsFastTurn most_cycles (cut && fills s run round) round.entries × LegalEntries s marks start (early_of run round) × LegalEntries s marks (after_turn s run round) (late_of run round))
@@ -172,21 +172,21 @@ module _ (cut : Bool) (s : Session) (marks : Marks) (run : Run) (round : RoundSe
       by_ended false parts = (parts.1, parts.2)
 
   -- the turn that it has, if it has one
-  turn_legal : (e : Turn) → round.turn ≡ Some e → LegalTurnBy (setup_of s) marks (found_in s run round e) run.normal e
+  pub turn_legal : (e : Turn) → round.turn ≡ Some e → LegalTurnBy (setup_of s) marks (found_in s run round e) run.normal e
   turn_legal e is = by_ended run.normal.ended legal.turns.normal
     where
       by_ended : (b : Bool) → MatchBool b (round.turn ≡ None) (MatchOption round.turn ⊥ (λ e. LegalTurnBy (setup_of s) marks (found_in s run round e) run.normal e)) → LegalTurnBy (setup_of s) marks (found_in s run round e) run.normal e
       by_ended true none = no (sym (ap is_some none) ∙ ap is_some is)
       by_ended false turn = subst (λ (o : Option Turn). MatchOption o ⊥ (λ e. LegalTurnBy (setup_of s) marks (found_in s run round e) run.normal e)) is turn
 
-  rises : (e : Turn) → round.turn ≡ Some e → TracksRise 0 e.mixes
+  pub rises : (e : Turn) → round.turn ≡ Some e → TracksRise 0 e.mixes
   rises e is = by_form (subst (λ (o : Option Turn). MatchOption o (Unit {0}) (IsTurn tracks)) is form.turn)
     where
       by_form : IsTurn tracks e → TracksRise 0 e.mixes
       by_form (inl ended) = subst (λ (t : Turn). TracksRise 0 t.mixes) (sym ended) tt
       by_form (inr open_turn) = open_turn.rise
 
-  before_normal : (before_turn s run round).normal ≡ run.normal
+  pub before_normal : (before_turn s run round).normal ≡ run.normal
   unfolding with_calls
   before_normal = (cycles_beside s (early_of run round) (with_calls round run)).normal
 

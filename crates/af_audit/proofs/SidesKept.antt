@@ -59,7 +59,7 @@ side_served b es words = ap (λ (l : List ClientEvent). let y : Side = record { 
 side_handed : (b : BlockTold) (es : List HandEvent) → side_of (hand_does es b) ≡ side_of b
 side_handed b es = ap (λ (l : List ClientEvent). let y : Side = record { shape = b.shape; events = l; released = b.released } in y) (hand-client b.told es)
 
-sides_mixed : (s : Session) (x : FastState) (e : EntrySeen) (n : ℕ) (t : TrackTold) → sides_of (mixed_track s x e n t) ≡ sides_of t
+pub sides_mixed : (s : Session) (x : FastState) (e : EntrySeen) (n : ℕ) (t : TrackTold) → sides_of (mixed_track s x e n t) ≡ sides_of t
 sides_mixed s x e n t = by_slot (slot_for x e.entry n)
   where
     by_slot : (o : Option ℕ) → sides_of (elim o as (λ o. TrackTold) [ None ↦ t | Some i ↦ record t { stream = played (cycle_frames s) e i t.stream } ]) ≡ sides_of t
@@ -68,7 +68,7 @@ sides_mixed s x e n t = by_slot (slot_for x e.entry n)
         let slot = entry_slot e.entry i in
         ap (λ (y : Side). record (sides_of t) { stream = y }) (side_served t.stream (cycle_events (cycle_frames s) (listed t.stream) slot (front_of (cycle_frames s) (listed t.stream) slot)) (map packed_word (slot_frames e i)))
 
-sides_turned : (c : Setup) (o : Outside) (m : NormalKept) (e : Turn) (n : ℕ) (t : TrackTold) → sides_of (turned_track c o m e n t) ≡ sides_of t
+pub sides_turned : (c : Setup) (o : Outside) (m : NormalKept) (e : Turn) (n : ℕ) (t : TrackTold) → sides_of (turned_track c o m e n t) ≡ sides_of t
 sides_turned c o m e n t =
     let marks : List HandEvent = hand_list e n in
     let flags : List ServerEvent = stream_list c o e (tracks_at c (learnt o) m e n) n in

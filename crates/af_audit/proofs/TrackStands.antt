@@ -37,14 +37,14 @@ pub record TrackStands (file : List ℕ) (t : TrackTold) : Type 0 where
 
 -- ## The lists of a block
 
-abbrev told_more : List Moment → List Moment → List Moment
+abbrev pub told_more : List Moment → List Moment → List Moment
 told_more told moments = fold (λ (sofar : List Moment) (m : Moment). m ∷ sofar) told moments
 
-server-server : (told : List Moment) (es : List ServerEvent) → server_of (told_more told (map by_server es)) ≡ server_of told ++ es
+pub server-server : (told : List Moment) (es : List ServerEvent) → server_of (told_more told (map by_server es)) ≡ server_of told ++ es
 server-server told [] = sym (append-nil (server_of told))
 server-server told (e ∷ es) = server-server (by_server e ∷ told) es ∙ append_assoc (server_of told) (e ∷ []) es
 
-hand-server : (told : List Moment) (es : List HandEvent) → server_of (told_more told (map by_hand es)) ≡ server_of told
+pub hand-server : (told : List Moment) (es : List HandEvent) → server_of (told_more told (map by_hand es)) ≡ server_of told
 hand-server told [] = refl
 hand-server told (e ∷ es) = hand-server (by_hand e ∷ told) es
 

@@ -5,3 +5,4 @@ pub mod RunKept
 pub mod RoundTold
 pub mod MeetingsJudged
 pub mod Fates
+pub mod Spared

@@ -1,0 +1,117 @@
+-- In a legal run each track without a poke is spared.
+use Rattle.std.proofs.Common.{◌≡◌, ℕ, ◌<◌, Bool, true, false, if◌then◌else◌, not, List, [], ◌∷◌, length, inl, refl, sym, ap, ◌∙◌, subst, arith}
+use Rattle.std.specs.List.{list_any}
+use Rattle.std.proofs.lemmas.List.Elements.{All-get_or}
+use Rattle.af_base.specs.declared.frame.Frame.{Frame}
+use Rattle.af_model.proofs.Logic.{both_left, both_right}
+use Rattle.af_model.proofs.RoomKept.{never_corrupt, never_shut}
+use Rattle.af_model.specs.ClientCalls as list
+use Rattle.af_model.specs.Journals.{JournalData, RoundSeen}
+use Rattle.af_model.specs.declared.shape.Shape.{Shape}
+use Rattle.af_runs.specs.Blocks.{BlockTold, HasBlockHistory, Marks, is_tame}
+use Rattle.af_runs.specs.Clients.{ends}
+use Rattle.af_runs.specs.LegalRuns.{IsLegalRun, LegalRounds, is_lawful_block, is_poke_on, marks_of, run_from, run_of, session_of}
+use Rattle.af_runs.specs.Rounds.{LegalRound, after_round, all_played, met_after}
+use Rattle.af_runs.specs.Runs.{Run, TrackTold, calls_in, each_track, new_run, new_track, sides_of, told_at, with_ends}
+use Rattle.af_runs.specs.Sessions.{Session, command_shape, no_spec, track_count}
+use Rattle.af_script.specs.Data.{ScriptData}
+use Rattle.af_script.specs.Form.{IsScript, IsTrack}
+use Rattle.af_judge.proofs.EachTrack.{each_long, told_each}
+use Rattle.af_judge.proofs.BlocksMeet.{met_many}
+use Rattle.af_audit.specs.RunKept.{IsFit}
+use Rattle.af_audit.specs.Spared.{EachLawfulTrackIsSpared}
+use Rattle.af_audit.proofs.FatesTold.{new_history, new_there, told_new, track_has_fates}
+use Rattle.af_audit.proofs.RearsSeen.{server_unshut}
+use Rattle.af_audit.proofs.RunUnshut.{spares_rounds}
+use Rattle.af_audit.proofs.SidesKept.{fit_round, played_many}
+use Rattle.af_audit.proofs.TrackUnshut.{IsTrim, IsUnshut}
+
+-- ## What is kept of a run
+
+-- the track's client keeps to its calls, and its command block has a history where no poke was told
+record StandsSo (s : Session) (n : ℕ) (run : Run) : Type 0 where
+  there : n < length run.tracks
+  fit : IsFit s n (sides_of (told_at run n))
+  history : is_tame (told_at run n).commands ≡ true → HasBlockHistory (told_at run n).commands
+
+ends_many : (run : Run) → length (with_ends run).tracks ≡ length run.tracks
+unfolding with_ends
+ends_many run = by_end run.normal.ended
+  where
+    by_end : (b : Bool) → length (if b then each_track (λ track t. record t { client = ends t.client }) run else run).tracks ≡ length run.tracks
+    by_end true = each_long (λ track t. record t { client = ends t.client }) 0 run.tracks
+    by_end false = refl
+
+ends_history : (run : Run) (n : ℕ) → n < length run.tracks → (is_tame (told_at run n).commands ≡ true → HasBlockHistory (told_at run n).commands) → is_tame (told_at (with_ends run) n).commands ≡ true → HasBlockHistory (told_at (with_ends run) n).commands
+unfolding with_ends
+ends_history run n low h = by_end run.normal.ended
+  where
+    by_end : (b : Bool) → (let r : Run = if b then each_track (λ track t. record t { client = ends t.client }) run else run in is_tame (told_at r n).commands ≡ true → HasBlockHistory (told_at r n).commands)
+    by_end true = subst (λ (b : BlockTold). is_tame b ≡ true → HasBlockHistory b) (sym (ap (λ (t : TrackTold). t.commands) (told_each (λ track t. record t { client = ends t.client }) run n low))) h
+    by_end false = h
+
+-- a legal round keeps it
+round_so : (cut : Bool) (s : Session) (marks : Marks) (n : ℕ) (run : Run) (round : RoundSeen) → n < track_count s → LegalRound cut s marks run round → StandsSo s n run → StandsSo s n (after_round s run round)
+round_so cut s marks n run round low legal h =
+    let played = all_played s run round in
+    let many : length (met_after s run round).tracks ≡ length run.tracks = met_many s played ∙ played_many s run round in
+    let there : n < length (met_after s run round).tracks = (let t = h.there in omega (arith, many, t)) in
+    record {
+      there = (let m = ends_many (met_after s run round) in omega (arith, m, there));
+      fit = fit_round s run round n h.there (legal.turns.clients n low) h.fit;
+      history = ends_history (met_after s run round) n there (λ tame. (legal.histories.blocks n low).commands refl tame);
+    }
+
+rounds_so : (cut : Bool) (s : Session) (marks : Marks) (n : ℕ) (rounds : List RoundSeen) (run : Run) → n < track_count s → LegalRounds cut s marks run rounds → StandsSo s n run → StandsSo s n (run_from s run rounds)
+rounds_so cut s marks n [] run low legal h = h
+rounds_so cut s marks n (round ∷ rounds) run low legal h = rounds_so cut s marks n rounds (after_round s run round) low legal.1 (round_so cut s marks n run round low legal.0 h)
+
+-- ## Before the first round
+
+module _ (s : Session) (script : IsScript s.script) (n : ℕ) (low : n < track_count s) where
+  new_fit : IsFit s n (sides_of (new_track s n))
+  new_fit = record {
+    file = refl;
+    spelled = record { stream = list.begins; commands = list.begins };
+    stream = (let b = (All-get_or IsTrack s.script.tracks n no_spec low script.tracks).buffer in omega (arith, b.1));
+    commands = omega arith;
+  }
+
+  new_so : StandsSo s n (new_run s)
+  new_so = record {
+    there = new_there s n low;
+    fit = subst (λ (t : TrackTold). IsFit s n (sides_of t)) (sym (told_new s n low)) new_fit;
+    history = λ tame. subst (λ (t : TrackTold). HasBlockHistory t.commands) (sym (told_new s n low)) (new_history command_shape);
+  }
+
+  new_trim : IsTrim (told_at (new_run s) n)
+  new_trim = subst IsTrim (sym (told_new s n low)) (record { rears = tt; tame = refl; shape = refl })
+
+-- ## At the end
+
+-- none of a track's proxies is shut, where both blocks have a history
+end_unshut : (s : Session) (n : ℕ) (t : TrackTold) → IsFit s n (sides_of t) → IsTrim t → HasBlockHistory t.stream → HasBlockHistory t.commands → IsUnshut t
+end_unshut s n t fit trim stream commands = record {
+  clients = record { stream = never_corrupt t.stream.shape fit.stream stream fit.spelled.stream; commands = never_corrupt t.commands.shape fit.commands commands fit.spelled.commands };
+  stream = server_unshut t.stream fit.stream stream fit.spelled.stream trim.rears;
+  commands = never_shut t.commands.shape fit.commands commands fit.spelled.commands (inl (ap (λ (k : Shape). k.wrap) trim.shape));
+}
+
+not_true : (b : Bool) → not b ≡ true → b ≡ false
+not_true true h = sym h
+not_true false h = refl
+
+-- in a legal run of a script each track without a poke is spared
+pub lawful-tracks-are-spared : (script : ScriptData) (files : List (List Frame)) (j : JournalData) → IsScript script → IsLegalRun script files j → EachLawfulTrackIsSpared script files j
+lawful-tracks-are-spared script files j is legal track low lawful =
+    let s = session_of script files in
+    let run = run_of script files j in
+    let stream : is_lawful_block false j.rounds track ≡ true = both_left (is_lawful_block false j.rounds track) (is_lawful_block true j.rounds track) lawful in
+    let commands : is_lawful_block true j.rounds track ≡ true = both_right (is_lawful_block false j.rounds track) (is_lawful_block true j.rounds track) lawful in
+    let calm = not_true (list_any (λ (round : RoundSeen). list_any (is_poke_on true) (calls_in round track)) j.rounds) commands in
+    let so = rounds_so false s (marks_of j.rounds) track j.rounds (new_run s) low legal.rounds.rounds (new_so s is track low) in
+    let spares = spares_rounds false s (marks_of j.rounds) j.tracks track j.rounds (new_run s) low (new_there s track low) legal.rounds.form.rounds legal.rounds.rounds calm in
+    let fates = track_has_fates script files j legal track low stream in
+    let new = new_trim s is track low in
+    let trim = spares.trim new in
+    (spares.unshut new (end_unshut s track (told_at run track) so.fit trim fates.history (so.history trim.tame))).1

@@ -1,0 +1,382 @@
+-- What each step of a round keeps of a track whose servers and client are never shut; and where they aren't shut after the step, they weren't before it, and the step spared the track.
+use Rattle.std.proofs.Common.{◌≡◌, inl, inr, ◌⊎◌, ℕ, ◌<◌, ◌≤◌, ◌^◌, ◌||◌, not, nat_lt, Bool, true, false, true≢false, if◌then◌else◌, is_some, fold, map, List, [], ◌∷◌, ◌++◌, flat_map, drop, length, Option, Some, None, refl, sym, ap, ◌∙◌, subst, append-nil, arith}
+use Rattle.std.specs.List.{AllByRecursion, list_all, list_any}
+use Rattle.std.proofs.lemmas.Bool.Decides.{nat_tests}
+use Rattle.std.proofs.lemmas.Grind.{fold-append}
+use Rattle.std.proofs.lemmas.List.{get_or_past}
+use Rattle.af_base.specs.declared.event.ClientCall.{ClientCall}
+use Rattle.af_base.specs.declared.event.ClientCall.TheVariants as call
+use Rattle.af_base.specs.declared.event.ClientEvent.{ClientEvent}
+use Rattle.af_base.specs.declared.event.HandEvent.{HandEvent}
+use Rattle.af_base.specs.declared.event.ServerEvent.{ServerEvent}
+use Rattle.af_base.specs.declared.event.ServerEvent.TheVariants as server
+use Rattle.af_base.specs.declared.event.ClientEvent.TheVariants as client
+use Rattle.af_base.specs.declared.state.FastState.{FastState}
+use Rattle.af_base.specs.declared.turn.CommandLook.{CommandLook}
+use Rattle.af_base.specs.Log.{entry_slot}
+use Rattle.af_base.specs.Turn.{TakeSeen, TrackSeen, Turn}
+use Rattle.af_life.specs.declared.kept.TrackKept.{TrackKept}
+use Rattle.af_life.specs.Heard.{learnt}
+use Rattle.af_life.specs.Kept.{NormalKept, Outside, Setup, asked, is_home, nothing_seen, track_at, track_in}
+use Rattle.af_life.specs.Looks.{LegalLooks, all_command_events}
+use Rattle.af_life.specs.Obeys.{is_shut}
+use Rattle.af_life.specs.Plays.{LegalTake}
+use Rattle.af_life.specs.Turn.{LegalTurn}
+use Rattle.af_life.specs.TurnEvents.{command_events_of, command_list, hand_list, invalid, mix_events, status_events, stream_list, takes_from, tracks_at}
+use Rattle.af_model.proofs.Logic.{both_are}
+use Rattle.af_model.proofs.RoomKept.{AllFollowRear}
+use Rattle.af_model.specs.ClientCalls.{ClientKept, client_begins, client_call_events, client_events_of, client_keeps, client_kept}
+use Rattle.af_model.specs.Cycles.{LooksBy, cycle_events, kept}
+use Rattle.af_model.specs.History.{by_hand, is_lawful}
+use Rattle.af_model.specs.JournalForm.{TracksRise}
+use Rattle.af_model.specs.Journals.{EntrySeen}
+use Rattle.af_model.specs.ServerCalls.{ServerKept, server_keeps, server_kept}
+use Rattle.af_model.specs.declared.shape.Shape.{Shape}
+use Rattle.af_runs.specs.Blocks.{BlockTold, client_list, listed, meets, server_list}
+use Rattle.af_runs.specs.Clients.{ends}
+use Rattle.af_runs.specs.ClientTurns.{LegalClientTurn, Track, after_call, after_calls, is_of_commands, released_by}
+use Rattle.af_runs.specs.ClientTurns as turns
+use Rattle.af_runs.specs.Found.{TurnFound, outside_of, take_front}
+use Rattle.af_runs.specs.Fronts.{front_of, fronts_by}
+use Rattle.af_runs.specs.LegalRuns.{is_poke_on}
+use Rattle.af_runs.specs.Runs.{TrackTold, called, mixed_track, played, sides_of, slot_for, stream_met, turned_track}
+use Rattle.af_runs.specs.Sessions.{Session, command_shape, cycle_frames}
+use Rattle.af_judge.proofs.BlocksTold.{client-server}
+use Rattle.af_judge.proofs.LooksAnswer.{alike}
+use Rattle.af_judge.proofs.TracksTold.{sides_called}
+use Rattle.af_audit.specs.Spared.{is_spared_in_turn, none_corrupt}
+use Rattle.af_audit.proofs.CallsUnshut.{AreUnshut, unshut_turn}
+use Rattle.af_audit.proofs.DropsNoticed.{OneTake, one_take}
+use Rattle.af_audit.proofs.FileReleased.{lawful_join}
+use Rattle.af_audit.proofs.LooksUnshut.{kept_more, shut_after, unshut_cycle, unshut_looks}
+use Rattle.af_audit.proofs.RearsSeen.{FollowAnywhere, cycle_follows, rear_join}
+use Rattle.af_audit.proofs.SidesKept.{sides_mixed, sides_turned}
+use Rattle.af_audit.proofs.TrackStands.{hand-server, server-server, told_more}
+
+-- its stream's server sees each front right after a rear, and nothing was poked on its command block
+pub record IsTrim (t : TrackTold) : Type 0 where
+  pub rears : AllFollowRear t.stream.shape false (server_list t.stream)
+  pub tame : is_lawful (client_list t.commands) ≡ true
+  pub shape : t.commands.shape ≡ command_shape
+
+-- none of the proxies of a track is shut
+pub record IsUnshut (t : TrackTold) : Type 0 where
+  pub clients : AreUnshut (sides_of t)
+  pub stream : (kept (listed t.stream)).shut ≡ None
+  pub commands : (kept (listed t.commands)).shut ≡ None
+
+-- ## The calls
+
+no : {A : Type 0} → false ≡ true → A
+no h = absurd (true≢false (sym h))
+
+-- the events of a call on the command block that doesn't poke it
+call_lawful : (shut : Bool) (answer : ClientCall) → is_poke_on true answer ≡ false → is_of_commands answer ≡ true → is_lawful (client_call_events shut answer) ≡ true
+call_lawful shut (call.Sent front code argument) calm on = refl
+call_lawful shut (call.SendFull front) calm on = refl
+call_lawful shut (call.SendDead flags) calm on = refl
+call_lawful true (call.SendCorrupt front rear) calm on = refl
+call_lawful false (call.SendCorrupt front rear) calm on = refl
+call_lawful shut (call.Status word) calm on = refl
+call_lawful shut (call.Poke true word value) calm on = no (sym calm)
+call_lawful shut (call.Poke false word value) calm on = no on
+call_lawful shut (call.Put front count) calm on = no on
+call_lawful shut (call.Full front) calm on = no on
+call_lawful shut (call.Dead flags) calm on = no on
+call_lawful shut (call.Corrupt front rear) calm on = no on
+call_lawful shut (call.Cleared flags) calm on = no on
+call_lawful shut (call.Flush count) calm on = no on
+call_lawful shut (call.Gain word) calm on = no on
+
+tame_call : (t : Track) (answer : ClientCall) → is_poke_on true answer ≡ false → is_lawful t.commands.events ≡ true → is_lawful (after_call t answer).commands.events ≡ true
+tame_call t answer calm h = by_side (is_of_commands answer) refl
+  where
+    by_side : (b : Bool) → is_of_commands answer ≡ b → is_lawful (let u : Track = if b then record t { commands = turns.called answer (released_by t answer) t.commands } else record t { stream = turns.called answer (released_by t answer) t.stream } in u.commands.events) ≡ true
+    by_side true is = lawful_join t.commands.events (client_events_of t.commands.shape.frames t.commands.shape.base t.commands.events answer) h (call_lawful (is_some (client_kept t.commands.shape.frames t.commands.shape.base t.commands.events).shut) answer calm is)
+    by_side false is = h
+
+neither : (a b : Bool) → (a || b) ≡ false → (a ≡ false) × (b ≡ false)
+neither true b h = no (sym h)
+neither false b h = (refl, h)
+
+tame_calls : (t : Track) (calls : List ClientCall) → list_any (is_poke_on true) calls ≡ false → is_lawful t.commands.events ≡ true → is_lawful (fold after_call t calls).commands.events ≡ true
+tame_calls t [] calm h = h
+tame_calls t (answer ∷ calls) calm h =
+    let two = neither (is_poke_on true answer) (list_any (is_poke_on true) calls) calm in
+    tame_calls (after_call t answer) calls two.1 (tame_call t answer two.0 h)
+
+pub trim_called : (calls : List ClientCall) (t : TrackTold) → list_any (is_poke_on true) calls ≡ false → IsTrim t → IsTrim (called calls t)
+trim_called calls t calm h = record {
+  rears = subst (AllFollowRear t.stream.shape false) (sym (client-server t.stream.told (drop (length (client_list t.stream)) (after_calls (sides_of t) calls).stream.events))) h.rears;
+  tame = ap (λ (x : Track). is_lawful x.commands.events) (sides_called t calls) ∙ tame_calls (sides_of t) calls calm h.tame;
+  shape = h.shape;
+}
+
+pub unshut_called : (calls : List ClientCall) (t : TrackTold) → LegalClientTurn (sides_of t) calls → IsUnshut (called calls t) → IsUnshut t × (none_corrupt calls ≡ true)
+unshut_called calls t legal h =
+    let after = after_calls (sides_of t) calls in
+    let one = unshut_turn (sides_of t) calls legal (subst AreUnshut (sides_called t calls) h.clients) in (
+      record {
+        clients = one.0;
+        stream = ap (λ es. (server_kept t.stream.shape es).shut) (sym (client-server t.stream.told (drop (length (client_list t.stream)) after.stream.events))) ∙ h.stream;
+        commands = ap (λ es. (server_kept t.commands.shape es).shut) (sym (client-server t.commands.told (drop (length (client_list t.commands)) after.commands.events))) ∙ h.commands;
+      },
+      one.1,
+    )
+
+-- ## An entry
+
+module _ (s : Session) (x : FastState) (e : EntrySeen) (n : ℕ) (t : TrackTold) where
+  abbrev with_slot : Option ℕ → TrackTold
+  with_slot o = elim o as (λ o. TrackTold) [ None ↦ t | Some i ↦ record t { stream = played (cycle_frames s) e i t.stream } ]
+
+  -- the events of the slot i
+  abbrev slot_events : ℕ → List ServerEvent
+  slot_events i = let slot = entry_slot e.entry i in cycle_events (cycle_frames s) (listed t.stream) slot (front_of (cycle_frames s) (listed t.stream) slot)
+
+  slot_list : (i : ℕ) → server_list (played (cycle_frames s) e i t.stream) ≡ server_list t.stream ++ slot_events i
+  slot_list i = server-server t.stream.told (slot_events i)
+
+  pub trim_mixed : IsTrim t → IsTrim (mixed_track s x e n t)
+  trim_mixed h = by_slot (slot_for x e.entry n)
+    where
+      by_slot : (o : Option ℕ) → IsTrim (with_slot o)
+      by_slot None = h
+      by_slot (Some i) =
+          let slot = entry_slot e.entry i in
+          record {
+            rears = subst (AllFollowRear t.stream.shape false) (sym (slot_list i)) (rear_join t.stream.shape false (server_list t.stream) (slot_events i) h.rears
+                (cycle_follows t.stream.shape (cycle_frames s) (listed t.stream) slot (front_of (cycle_frames s) (listed t.stream) slot)));
+            tame = h.tame;
+            shape = h.shape;
+          }
+
+  pub unshut_mixed : ((i : ℕ) → slot_for x e.entry n ≡ Some i → (front : ℕ) × LooksBy (cycle_frames s) (listed t.stream) (entry_slot e.entry i) front) → IsUnshut (mixed_track s x e n t)
+      → IsUnshut t × (elim (slot_for x e.entry n) as (λ o. Bool) [ None ↦ true | Some i ↦ not (is_shut (entry_slot e.entry i).seen) ] ≡ true)
+  unshut_mixed looks h = by_slot (slot_for x e.entry n) refl h.stream h.commands
+    where
+      clients : AreUnshut (sides_of t)
+      clients = subst AreUnshut (sides_mixed s x e n t) h.clients
+
+      by_slot : (o : Option ℕ) → slot_for x e.entry n ≡ o → (kept (listed (with_slot o).stream)).shut ≡ None → (kept (listed (with_slot o).commands)).shut ≡ None
+          → IsUnshut t × (elim o as (λ o. Bool) [ None ↦ true | Some i ↦ not (is_shut (entry_slot e.entry i).seen) ] ≡ true)
+      by_slot None is stream commands = (record { clients = clients; stream = stream; commands = commands }, refl)
+      by_slot (Some i) is stream commands =
+          let look = looks i is in
+          let fine : shut_after t.stream.shape (kept (listed t.stream)) (slot_events i) ≡ None = ap (λ (k : ServerKept). k.shut) (sym (kept_more t.stream.shape (server_list t.stream) (slot_events i))) ∙ ap (λ es. (server_kept t.stream.shape es).shut) (sym (slot_list i)) ∙ stream in
+          let one = unshut_cycle (cycle_frames s) (listed t.stream) (entry_slot e.entry i) look.0 look.1 fine in
+          (record { clients = clients; stream = one.0; commands = commands }, ap not one.1)
+
+-- ## A turn
+
+-- events that look at nothing: they follow a rear anywhere, and leave what is kept
+record AreBeside (k : Shape) (es : List ServerEvent) : Type 0 where
+  follow : FollowAnywhere k es
+  same : (x : ServerKept) → fold (server_keeps k) x es ≡ x
+
+flags_beside : (home shut : Bool) (k : Shape) → AreBeside k (if home then (if shut then server.SetFlags 4 ∷ [] else []) else [])
+flags_beside true true k = record { follow = λ b. (tt, tt); same = λ x. refl }
+flags_beside true false k = record { follow = λ b. tt; same = λ x. refl }
+flags_beside false shut k = record { follow = λ b. tt; same = λ x. refl }
+
+status_beside : (status : Option ℕ) (k : Shape) → AreBeside k (status_events status)
+status_beside None k = record { follow = λ b. tt; same = λ x. refl }
+status_beside (Some word) k = record { follow = λ b. (tt, tt); same = λ x. refl }
+
+module _ (c : Setup) (f : TurnFound) (m : NormalKept) (e : Turn) (o : Outside) (n : ℕ) (found : o ≡ record (outside_of c f e) { stream_front = o.stream_front; command_fronts = o.command_fronts }) (rise : TracksRise 0 e.mixes) (legal : LegalTurn c o m e) where
+  abbrev told : Outside
+  told = outside_of c f e
+
+  abbrev tracks : List TrackKept
+  tracks = tracks_at c (learnt told) m e n
+
+  abbrev stream : BlockTold
+  stream = f.streams n
+
+  abbrev commands : BlockTold
+  commands = f.commands n
+
+  -- the look for the buffer
+  abbrev mixes : List TakeSeen → List ServerEvent
+  mixes takes = flat_map (λ (take : TakeSeen). cycle_events (asked c) (listed stream) take.slot (take_front (front_of (asked c)) (listed stream) takes)) takes
+
+  mixes_follow : (takes : List TakeSeen) (front : ℕ) → FollowAnywhere stream.shape (flat_map (λ (take : TakeSeen). cycle_events (asked c) (listed stream) take.slot front) takes)
+  mixes_follow [] front b = tt
+  mixes_follow (take ∷ takes) front b = rear_join stream.shape b (cycle_events (asked c) (listed stream) take.slot front) _ (cycle_follows stream.shape (asked c) (listed stream) take.slot front b) (mixes_follow takes front)
+
+  none_shut : List TakeSeen → Bool
+  none_shut takes = list_all (λ (take : TakeSeen). not (is_shut take.slot.seen)) takes
+
+  -- the take of the track, if there is one, wasn't Shut
+  unshut_mixes : AllByRecursion (LegalTake c o) e.mixes → shut_after stream.shape (kept (listed stream)) (mixes (takes_from e.mixes n)) ≡ None → ((kept (listed stream)).shut ≡ None) × (none_shut (takes_from e.mixes n) ≡ true)
+  unfolding none_shut
+  unshut_mixes all fine = by_takes (one_take (LegalTake c o) 0 e.mixes n rise all)
+    where
+      by_takes : (takes_from e.mixes n ≡ []) ⊎ OneTake (LegalTake c o) n (takes_from e.mixes n) → ((kept (listed stream)).shut ≡ None) × (none_shut (takes_from e.mixes n) ≡ true)
+      by_takes (inl none) = (subst (λ takes. shut_after stream.shape (kept (listed stream)) (mixes takes) ≡ None) none fine, ap none_shut none)
+      by_takes (inr one) =
+          let by : LooksBy (asked c) (listed stream) one.take.slot (o.stream_front one.take.track) = subst (λ (y : Outside × ℕ). LooksBy (asked c) (y.0.streams y.1) one.take.slot (o.stream_front one.take.track)) (λ i. (found i, one.of_track i)) one.holds.looks in
+          let events = cycle_events (asked c) (listed stream) one.take.slot (front_of (asked c) (listed stream) one.take.slot) in
+          let alone : shut_after stream.shape (kept (listed stream)) (events ++ []) ≡ None = subst (λ takes. shut_after stream.shape (kept (listed stream)) (mixes takes) ≡ None) one.is fine in
+          let r = unshut_cycle (asked c) (listed stream) one.take.slot (o.stream_front one.take.track) by (subst (λ es. shut_after stream.shape (kept (listed stream)) es ≡ None) (append-nil events) alone) in
+          (r.0, ap none_shut one.is ∙ both_are (not (is_shut one.take.slot.seen)) true (ap not r.1) refl)
+
+  -- events behind others that leave what is kept
+  behind : (k : Shape) (x : ServerKept) (es more : List ServerEvent) → fold (server_keeps k) x es ≡ x → shut_after k x (es ++ more) ≡ shut_after k x more
+  behind k x es more same = ap (λ (y : ServerKept). y.shut) (fold-append (server_keeps k) x es more) ∙ ap (λ (y : ServerKept). shut_after k y more) same
+
+  abbrev flags : List ServerEvent
+  flags = if is_home (track_at tracks n).holder then invalid (learnt told) (track_in e n) tracks n else []
+
+  flags_fit : AreBeside stream.shape flags
+  flags_fit = flags_beside (is_home (track_at tracks n).holder) _ stream.shape
+
+  stream_follows : FollowAnywhere stream.shape (stream_list c told e tracks n)
+  stream_follows b = by_end e.ended
+    where
+      by_end : (ended : Bool) → AllFollowRear stream.shape b (if ended then [] else flags ++ mix_events c told e.mixes n)
+      by_end true = tt
+      by_end false = rear_join stream.shape b flags (mix_events c told e.mixes n) (flags_fit.follow b) (mixes_follow (takes_from e.mixes n) (told.stream_front n))
+
+  unshut_stream : shut_after stream.shape (kept (listed stream)) (stream_list c told e tracks n) ≡ None → ((kept (listed stream)).shut ≡ None) × (none_shut (takes_from e.mixes n) ≡ true)
+  unfolding none_shut
+  unshut_stream fine = by_end e.ended refl fine
+    where
+      by_end : (ended : Bool) → e.ended ≡ ended → shut_after stream.shape (kept (listed stream)) (if ended then [] else flags ++ mix_events c told e.mixes n) ≡ None → ((kept (listed stream)).shut ≡ None) × (none_shut (takes_from e.mixes n) ≡ true)
+      by_end true is fine = (fine, ap (λ (u : Turn). none_shut (takes_from u.mixes n)) (legal.still is))
+      by_end false is fine = unshut_mixes (legal.goes_on is).takes (sym (behind stream.shape (kept (listed stream)) flags (mixes (takes_from e.mixes n)) (flags_fit.same (kept (listed stream)))) ∙ fine)
+
+  -- ## The commands in a turn
+
+  abbrev looks : List CommandLook
+  looks = (track_in e n).looks
+
+  none_shut_look : List CommandLook → Bool
+  none_shut_look ls = list_all (λ (look : CommandLook). not (is_shut look.seen)) ls
+
+  -- the looks are legal by some fronts; of a track that isn't there are none
+  abbrev LooksLegal : Type 0
+  LooksLegal = (fronts : List ℕ) × LegalLooks (listed commands) looks fronts
+
+  looks_legal : e.ended ≡ false → LooksLegal
+  looks_legal is = by_low (nat_lt n (length m.tracks)) refl
+    where
+      by_low : (b : Bool) → nat_lt n (length m.tracks) ≡ b → LooksLegal
+      by_low true low = (o.command_fronts n, subst (λ (y : Outside). LegalLooks (y.commands n) looks (o.command_fronts n)) found ((legal.goes_on is).looks n (let l : n < length m.tracks = grind (arith, nat_tests, low) in l)))
+      by_low false high =
+          let none : track_in e n ≡ nothing_seen = get_or_past e.tracks n nothing_seen (let w = (legal.goes_on is).whole in let h : length m.tracks ≤ n = grind (arith, nat_tests, high) in omega (arith, w, h)) in
+          ([], subst (λ (seen : TrackSeen). LegalLooks (listed commands) seen.looks []) (sym none) tt)
+
+  -- what follows the looks
+  abbrev invalid_so : List ServerEvent
+  invalid_so = invalid (learnt told) (track_in e n) tracks n
+
+  invalid_fit : AreBeside commands.shape invalid_so
+  invalid_fit = flags_beside true _ commands.shape
+
+  unshut_commands : commands.shape.wrap ≤ 2 ^ 31 → shut_after commands.shape (kept (listed commands)) (command_list c told e tracks n) ≡ None → ((kept (listed commands)).shut ≡ None) × (none_shut_look looks ≡ true)
+  unfolding none_shut_look
+  unshut_commands few fine = by_end e.ended refl fine
+    where
+      by_end : (ended : Bool) → e.ended ≡ ended → shut_after commands.shape (kept (listed commands)) (if ended then [] else command_events_of c told (track_in e n) tracks n) ≡ None → ((kept (listed commands)).shut ≡ None) × (none_shut_look looks ≡ true)
+      by_end true is fine = (fine, ap (λ (u : Turn). none_shut_look (track_in u n).looks) (legal.still is) ∙ ap (λ (seen : TrackSeen). none_shut_look seen.looks) (get_or_past [] n nothing_seen (omega arith)))
+      by_end false is fine =
+          let events = all_command_events (listed commands) looks (fronts_by front_of (listed commands) looks) in
+          let status = status_events (track_in e n).status in
+          let start = kept (listed commands) in
+          let keeps = fold (server_keeps commands.shape) start in
+          let moved : shut_after commands.shape start (command_events_of c told (track_in e n) tracks n) ≡ shut_after commands.shape start events =
+          ap (λ (y : ServerKept). y.shut) (fold-append (server_keeps commands.shape) start (events ++ invalid_so) status
+          ∙ (status_beside (track_in e n).status commands.shape).same (keeps (events ++ invalid_so))
+          ∙ fold-append (server_keeps commands.shape) start events invalid_so ∙ invalid_fit.same (keeps events)) in
+          let by = looks_legal is in
+          unshut_looks commands.shape few (server_list commands) (server_list commands) looks by.0 (alike (server_kept commands.shape (server_list commands))) by.1 (sym moved ∙ fine)
+
+  -- ## The track in a turn
+
+  module _ (t : TrackTold) where
+    abbrev before : TrackTold
+    before = record t { stream = stream; commands = commands }
+
+    abbrev after : TrackTold
+    after = turned_track c told m e n before
+
+    stream_told : server_list after.stream ≡ server_list stream ++ stream_list c told e tracks n
+    stream_told =
+        let es = stream_list c told e tracks n in
+        let hs : List HandEvent = hand_list e n in
+        server-server (told_more stream.told (map by_hand hs)) es ∙ ap (λ l. l ++ es) (hand-server stream.told hs)
+
+    commands_told : server_list after.commands ≡ server_list commands ++ command_list c told e tracks n
+    commands_told = server-server commands.told (command_list c told e tracks n)
+
+    pub trim_turned : IsTrim before → IsTrim after
+    trim_turned h = record {
+      rears = subst (AllFollowRear stream.shape false) (sym stream_told) (rear_join stream.shape false (server_list stream) (stream_list c told e tracks n) h.rears stream_follows);
+      tame = ap (λ (x : Track). is_lawful x.commands.events) (sides_turned c told m e n before) ∙ h.tame;
+      shape = h.shape;
+    }
+
+    pub unshut_turned : IsTrim before → IsUnshut after → IsUnshut before × (is_spared_in_turn e n ≡ true)
+    unfolding none_shut none_shut_look
+    unshut_turned trim h =
+        let one = unshut_stream (ap (λ (k : ServerKept). k.shut) (sym (kept_more stream.shape (server_list stream) (stream_list c told e tracks n))) ∙ ap (λ es. (server_kept stream.shape es).shut) (sym stream_told) ∙ h.stream) in
+        let few : commands.shape.wrap ≤ 2 ^ 31 = (let w : commands.shape.wrap ≡ 0 = ap (λ (k : Shape). k.wrap) trim.shape in omega (arith, w)) in
+        let two = unshut_commands few (ap (λ (k : ServerKept). k.shut) (sym (kept_more commands.shape (server_list commands) (command_list c told e tracks n))) ∙ ap (λ es. (server_kept commands.shape es).shut) (sym commands_told) ∙ h.commands) in (
+          record { clients = subst AreUnshut (sides_turned c told m e n before) h.clients; stream = one.0; commands = two.0 },
+          both_are (none_shut_look looks) (none_shut (takes_from e.mixes n)) two.1 one.1,
+        )
+
+-- ## Meetings, and the end of a client
+
+server_met : (k : Shape) (es : List ServerEvent) (count : ℕ) → (server_kept k (es ++ server.Learn count ∷ [])).shut ≡ (server_kept k es).shut
+server_met k es count = ap (λ (x : ServerKept). x.shut) (kept_more k es (server.Learn count ∷ []))
+
+client_met : (frames base : ℕ) (es : List ClientEvent) (count : ℕ) → (client_kept frames base (es ++ client.Learn count ∷ [])).shut ≡ (client_kept frames base es).shut
+client_met frames base es count = ap (λ (x : ClientKept). x.shut) (fold-append (client_keeps frames) (client_begins base) es (client.Learn count ∷ []))
+
+-- of a block
+record IsUnshutBlock (b : BlockTold) : Type 0 where
+  client : (client_kept b.shape.frames b.shape.base (client_list b)).shut ≡ None
+  server : (kept (listed b)).shut ≡ None
+
+block_met : (b : BlockTold) → IsUnshutBlock (meets b) → IsUnshutBlock b
+block_met b h = record {
+  client = sym (client_met b.shape.frames b.shape.base (client_list b) (length (server_list b))) ∙ h.client;
+  server = sym (server_met b.shape (server_list b) _) ∙ h.server;
+}
+
+stream_met_so : (there hands : Bool) (b : BlockTold) → IsUnshutBlock (stream_met there hands b) → IsUnshutBlock b
+stream_met_so true true b h = block_met b (record { client = h.client; server = h.server })
+stream_met_so true false b h = block_met b h
+stream_met_so false true b h = record { client = h.client; server = h.server }
+stream_met_so false false b h = h
+
+module _ (there hands : Bool) (t : TrackTold) where
+  abbrev all_met : TrackTold
+  all_met = record t { stream = stream_met there hands t.stream; commands = meets t.commands }
+
+  rears_met : (x y : Bool) (b : BlockTold) → AllFollowRear b.shape false (server_list b) → AllFollowRear (stream_met x y b).shape false (server_list (stream_met x y b))
+  rears_met true true b h = rear_join b.shape false (server_list b) _ h (λ c. (tt, tt))
+  rears_met true false b h = rear_join b.shape false (server_list b) _ h (λ c. (tt, tt))
+  rears_met false true b h = h
+  rears_met false false b h = h
+
+  pub trim_met : IsTrim t → IsTrim all_met
+  trim_met h = record {
+    rears = rears_met there hands t.stream h.rears;
+    tame = lawful_join (client_list t.commands) (client.Learn (length (server_list t.commands)) ∷ []) h.tame refl;
+    shape = h.shape;
+  }
+
+  pub unshut_met : IsUnshut all_met → IsUnshut t
+  unshut_met h =
+      let stream = stream_met_so there hands t.stream (record { client = h.clients.stream; server = h.stream }) in
+      let commands = block_met t.commands (record { client = h.clients.commands; server = h.commands }) in
+      record { clients = record { stream = stream.client; commands = commands.client }; stream = stream.server; commands = commands.server }
+
+pub trim_ended : (t : TrackTold) → IsTrim t → IsTrim (record t { client = ends t.client })
+trim_ended t h = record { rears = h.rears; tame = h.tame; shape = h.shape }
+
+pub unshut_ended : (t : TrackTold) → IsUnshut (record t { client = ends t.client }) → IsUnshut t
+unshut_ended t h = record { clients = record { stream = h.clients.stream; commands = h.clients.commands }; stream = h.stream; commands = h.commands }
