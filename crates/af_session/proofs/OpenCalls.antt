@@ -11,7 +11,7 @@ use Rattle.af_model.specs.Point.{wrapped}
 use Rattle.af_client.proofs.Kept.{IsPoke, kept-more, lawful_call}
 use Rattle.af_runs.specs.ClientTurns.{AnswersOn, AreCalls, IsMade, LegalClientTurn, Side, Track, after_call, after_calls, asked_by, called, is_of_commands, most_calls, released_by, with_call}
 use Rattle.af_runs.specs.declared.want.Want.{Want}
-use Rattle.af_session.specs.Hostile.{is_corrupt, none_corrupt}
+use Rattle.af_audit.specs.Spared.{is_corrupt, none_corrupt}
 use Rattle.af_tally.specs.Summaries.{has_no_poke, is_poke}
 
 -- what a side's list tells of its client

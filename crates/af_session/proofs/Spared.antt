@@ -14,7 +14,8 @@ use Rattle.af_script.specs.Data.{ScriptData}
 use Rattle.af_server.specs.Order.{ServerState}
 use Rattle.af_stateq.specs.Laws.{pushed_states}
 use Rattle.af_session.specs.Ends.{EndsState}
-use Rattle.af_session.specs.Hostile.{IsSpared, IsTame, PokesSpareOthers, SparesSoFar, all_calls, all_turns, is_spared_in_turn, none_corrupt}
+use Rattle.af_audit.specs.Spared.{none_corrupt}
+use Rattle.af_session.specs.Hostile.{IsSpared, IsTame, PokesSpareOthers, SparesSoFar, all_calls, all_turns, is_spared_in_turn}
 use Rattle.af_session.specs.NewSession.{IsNewSession}
 use Rattle.af_party.specs.Parties.{PartyState}
 use Rattle.af_session.specs.Shares.{SharedState}

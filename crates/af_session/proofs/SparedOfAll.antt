@@ -11,7 +11,8 @@ use Rattle.af_model.proofs.Logic.{both_are}
 use Rattle.af_model.specs.Journals.{RoundNoted}
 use Rattle.af_normal.specs.LegalTurned.{IsLegal}
 use Rattle.af_server.specs.Order.{ServerState}
-use Rattle.af_session.specs.Hostile.{IsTame, SparesSoFar, is_spared_in_turn, none_corrupt}
+use Rattle.af_audit.specs.Spared.{none_corrupt}
+use Rattle.af_session.specs.Hostile.{IsTame, SparesSoFar, is_spared_in_turn}
 use Rattle.af_party.specs.Parties.{PartyState, track_of}
 use Rattle.af_session.specs.Rounds.{Given, IsReady, file_at, ops_at}
 use Rattle.af_session.specs.Shown.{turn_in}

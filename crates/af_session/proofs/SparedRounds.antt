@@ -27,7 +27,8 @@ use Rattle.af_script.specs.declared.op.TurnSpec.{TurnSpec}
 use Rattle.af_script.specs.declared.op.TurnSpec.TheVariants as spec
 use Rattle.af_server.specs.Order.{IsInOrder as IsServerInOrder, ServerState, server_kept_of}
 use Rattle.af_session.specs.FastTurns.{IsCycle, IsFastTurn}
-use Rattle.af_session.specs.Hostile.{IsTame, SparesSoFar, all_calls, all_turns, is_spared_in_turn, none_corrupt}
+use Rattle.af_audit.specs.Spared.{none_corrupt}
+use Rattle.af_session.specs.Hostile.{IsTame, SparesSoFar, all_calls, all_turns, is_spared_in_turn}
 use Rattle.af_session.specs.Met.{Met, Spot, SpotMet, TrackMet, proxies_of, spot_of}
 use Rattle.af_party.specs.Parties.{PartyState, track_of}
 use Rattle.af_session.specs.Rounds.{Given, IsReady, IsRound, NormalTurned, fast_round, file_at, no_calls, normal_round, ops_at, still_round, with_ends}

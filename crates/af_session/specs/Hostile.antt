@@ -1,8 +1,8 @@
 -- What pokes may do: shut their own track, and no other.
-use Rattle.std.specs.Prelude.{◌≡◌, ℕ, ◌<◌, ◌==◌, ◌&&◌, not, Bool, true, false, List, length, map, slice_get, Some}
+use Rattle.std.specs.Prelude.{◌≡◌, ℕ, ◌<◌, ◌==◌, ◌&&◌, not, Bool, true, List, length, map, slice_get, Some}
 use Rattle.std.specs.List.{list_all}
 use Rattle.af_base.specs.declared.event.ClientCall.{ClientCall}
-use Rattle.af_base.specs.declared.event.ClientCall.TheVariants.{Corrupt, SendCorrupt}
+use Rattle.af_audit.specs.Spared.{none_corrupt}
 use Rattle.af_base.specs.Turn.{Turn}
 use Rattle.af_life.specs.Kept.{track_in}
 use Rattle.af_life.specs.Obeys.{is_shut}
@@ -12,16 +12,6 @@ use Rattle.af_party.specs.Parties.{PartyState}
 use Rattle.af_session.specs.Shown.{calls_over, turns_over}
 use Rattle.af_tally.specs.Summaries.{EntryUsed, Look, Shown, calls_of, entry_looks, has_no_poke, is_lawful, turn_looks}
 use Rattle.af_session.specs.Together.{SessionState}
-
--- a write or a send found that the words of its block don't fit it
-abbrev pub is_corrupt : ClientCall → Bool
-is_corrupt (Corrupt front rear) = true
-is_corrupt (SendCorrupt front rear) = true
-is_corrupt _ = false
-
--- none of these calls did
-abbrev pub none_corrupt : List ClientCall → Bool
-none_corrupt calls = list_all (λ call. not (is_corrupt call)) calls
 
 -- of these looks at stream blocks none at the track i was Shut
 abbrev pub none_shut : ℕ → List Look → Bool

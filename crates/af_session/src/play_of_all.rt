@@ -12,6 +12,7 @@ ghost use Rattle.af_session.specs.Hostile.{PokesSpareOthers};
 ghost use Rattle.af_session.specs.Logging.{BeginsLog, IsLogOf, LogsPlay, TellsLog};
 ghost use Rattle.af_session.specs.NewSession.{IsNewSession};
 ghost use Rattle.af_audit.specs.Fates.{EachFrameHasOneFate};
+ghost use Rattle.af_audit.specs.Spared.{EachLawfulTrackIsSpared};
 ghost use Rattle.af_runs.specs.LegalRuns.{IsCutRun, IsLegalRun};
 ghost use Rattle.af_session.specs.declared.rendering.SessionFault.TheVariants.{CycleLimit, Memory as MemoryFault};
 ghost use Rattle.af_session.specs.PlayedRuns.{AtFault, AtLimit, HandedBack, HandsBackRun, LeavesRun, Plays, all_ended, is_full};
@@ -213,6 +214,7 @@ fn play_with<R: Threads + Sync, S: Store, G: Gate>(
     ensures limit { IfErr result (AtLimit (HandsBackRun false script.now files.now)) }
     ensures legal { IfOk result (λ p. IsLegalRun script.now files.now p.journal) }
     ensures fates { IfOk result (λ p. EachFrameHasOneFate script.now files.now p.journal) }
+    ensures unshut { IfOk result (λ p. EachLawfulTrackIsSpared script.now files.now p.journal) }
     ensures cut_run { IfErr result (AtLimit (λ journal _. IsCutRun script.now files.now journal)) }
     ensures summary { IfOk result (λ p. p.summary ≡ summary_told script.now.frames p.journal p.ends) }
     ensures calls { HandedBack CallsStandOnce result }
@@ -267,6 +269,7 @@ pub fn play<R: Threads + Sync, S: Store, G: Gate>(
     ensures limit { IfErr result (AtLimit (HandsBackRun false script.now files.now)) }
     ensures legal { IfOk result (λ p. IsLegalRun script.now files.now p.journal) }
     ensures fates { IfOk result (λ p. EachFrameHasOneFate script.now files.now p.journal) }
+    ensures unshut { IfOk result (λ p. EachLawfulTrackIsSpared script.now files.now p.journal) }
     ensures cut_run { IfErr result (AtLimit (λ journal _. IsCutRun script.now files.now journal)) }
     ensures summary { IfOk result (λ p. p.summary ≡ summary_told script.now.frames p.journal p.ends) }
     ensures calls { HandedBack CallsStandOnce result }
@@ -304,6 +307,7 @@ pub fn play_logged<R: Threads + Sync, S: Store, G: Gate>(
     ensures limit { IfErr result (AtLimit (HandsBackRun false script.now files.now)) }
     ensures legal { IfOk result (λ p. IsLegalRun script.now files.now p.journal) }
     ensures fates { IfOk result (λ p. EachFrameHasOneFate script.now files.now p.journal) }
+    ensures unshut { IfOk result (λ p. EachLawfulTrackIsSpared script.now files.now p.journal) }
     ensures cut_run { IfErr result (AtLimit (λ journal _. IsCutRun script.now files.now journal)) }
     ensures summary { IfOk result (λ p. p.summary ≡ summary_told script.now.frames p.journal p.ends) }
     ensures calls { HandedBack CallsStandOnce result }
