@@ -1,36 +1,87 @@
-//! A session that is generated into a store that fails.
+//! A session that is generated, and each call of the store that it makes failing in turn.
 use crate::run::run;
-use crate::tests::{sink, words_of};
-use af_io::{MemStore, NoGate};
+use crate::tests::words_of;
+use af_io::{MemSink, MemStore, NoGate};
+use std::alloc::Global;
 use std::process::Abort;
 use std::test::Fail;
+use std::thread::Threads;
+
+/// What is written before the session: the name of each file, the number of the call that makes it, which the one that fills it follows, and its bytes.
+const WRITTEN: &[(&str, u64, usize)] = &[
+    ("g0.pcm", 1, 200000),
+    ("g1.pcm", 3, 400000),
+    ("g2.pcm", 5, 200000),
+    ("g3.pcm", 7, 400000),
+    ("g4.pcm", 9, 200000),
+    ("g5.pcm", 11, 400000),
+    ("g6.pcm", 13, 200000),
+    ("g7.pcm", 15, 400000),
+    ("s.toml", 17, 50690),
+];
+
+/// Calls of the store and of the sink that fail, by their numbers (1000: none), the status, the bytes of OUT, and what is printed.
+type Failure<'a> = (u64, u64, u8, Option<usize>, &'a str);
+
+/// The first and the last call that fill OUT, and the line.
+const FAILURES: &[Failure<'static>] = &[
+    (28, 0, 5, Some(512), ""),
+    (420, 0, 5, Some(401920), ""),
+    (1000, 1, 5, Some(402432), "cycles 1572 mixed 800000 dr"),
+];
 
 /// The length of a file, None where it isn't there.
-fn expect_length<R: Abort>(rt: &R, store: &MemStore, name: &str, length: Option<usize>) {
-    let found = match store.file(name) {
+fn length_of(store: &MemStore, name: &str) -> Option<usize> {
+    match store.file(name) {
         Some(bytes) => Some(bytes.len()),
         None => None,
-    };
-    assert_eq!(rt; found, length, "{name}");
+    }
 }
 
-/// The third append fails: two files are whole, the third holds its first half, and nothing else is there or printed.
-#[test]
-fn generated_up_to_a_fault(rt: HostRuntime) -> Result<(), Fail> {
-    let alloc = rt.alloc();
-    let mut store = MemStore::new(alloc, [6].to_vec(alloc)?);
-    let mut out = sink(alloc);
+/// What is left of a file of so many bytes that one call makes and the next one fills, where one fails.
+fn length_left(failing: u64, made: u64, length: usize) -> Option<usize> {
+    match failing.saturating_sub(made) {
+        0 => None,
+        1 => Some(length / 2),
+        _ => Some(length),
+    }
+}
+
+/// A session that is generated while calls fail.
+fn expect_generated<R: Threads + Sync + Abort>(
+    rt: &R,
+    alloc: Global,
+    (failing, of_sink, status, sound, line): Failure<'_>,
+) -> Result<(), Fail> {
+    let mut store = MemStore::new(alloc, [failing].to_vec(alloc)?);
+    let mut out = MemSink::new(alloc, [of_sink].to_vec(alloc)?);
     let words = words_of(alloc, "generate 0 s.toml out.pcm")?;
-    let ended = run(&rt, alloc, &words, &mut store, &mut out, &NoGate);
-    assert_eq!(rt; ended.code(), 5);
-    assert_eq!(rt; out.bytes().len(), 0);
+    let ended = run(rt, alloc, &words, &mut store, &mut out, &NoGate);
+    assert_eq!(rt; ended.code(), status, "{failing}");
+    assert_eq!(rt; out.bytes(), line.as_bytes(), "{failing}");
+    assert_eq!(rt; length_of(&store, "out.pcm"), sound, "{failing}");
+    for (name, made, length) in WRITTEN {
+        let left = length_left(failing, *made, *length);
+        assert_eq!(rt; length_of(&store, name), left, "{name} {failing}");
+    }
     let first = store.file("g0.pcm").unwrap_or(&[]);
-    assert!(rt; first.starts_with(&[0x30, 0xe0, 0x16, 0xfc]));
-    expect_length(&rt, &store, "g0.pcm", Some(200000));
-    expect_length(&rt, &store, "g1.pcm", Some(400000));
-    expect_length(&rt, &store, "g2.pcm", Some(100000));
-    expect_length(&rt, &store, "g3.pcm", None);
-    expect_length(&rt, &store, "s.toml", None);
-    expect_length(&rt, &store, "out.pcm", None);
+    assert!(rt; first.is_empty() || first.starts_with(&[0x30, 0xe0, 0x16, 0xfc]));
+    Ok(())
+}
+
+/// Each call before the session: those that write the files and the script, the loads of the files (19 to 26), and the one that makes OUT.
+#[test]
+fn each_call_before_a_generated_session_fails(rt: HostRuntime) -> Result<(), Fail> {
+    for failing in 1..28 {
+        expect_generated(&rt, rt.alloc(), (failing, 0, 5, None, ""))?;
+    }
+    Ok(())
+}
+
+#[test]
+fn calls_of_a_generated_session_fail(rt: HostRuntime) -> Result<(), Fail> {
+    for failure in FAILURES {
+        expect_generated(&rt, rt.alloc(), *failure)?;
+    }
     Ok(())
 }

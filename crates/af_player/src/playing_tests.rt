@@ -25,7 +25,7 @@ struct End<'a> {
 }
 
 /// The bytes that aren't zero.
-fn loud(alloc: Global, bytes: &[u8]) -> Result<Vec<u8>, Fail> {
+pub(crate) fn loud(alloc: Global, bytes: &[u8]) -> Result<Vec<u8>, Fail> {
     let mut found = Vec::new(alloc);
     for byte in bytes {
         if *byte != 0 {

@@ -19,14 +19,18 @@ const IDLE: &str =
 const SECOND: &str =
     "version = 2\nframes = 2\nnormal = 1\ncycles = 100\nturns = [\"c 0\", \"n\", \"c 0\", \"f 1\"]\n[[track]]\nkind = \"fast\"\nframes = 8\nchannels = 2\nfile = \"in.pcm\"\nops = [\"open\", \"start\", \"write 2\"]\n";
 
+const DONE: &str = "cycles 1 mixed 2 dropped 0 queued 0 peak 2\n";
+
+const SILENT: &str = "cycles 0 mixed 0 dropped 0 queued 0 peak 0\n";
+
 const USAGE: &str =
     "usage: render SCRIPT OUT or play SCRIPT OUT JOURNAL or verify SCRIPT OUT JOURNAL or generate NUMBER SCRIPT OUT or record IN OUT N F K or loop IN OUT F K START END COUNT or trace SCRIPT OUT JOURNAL LOG ROOM\n";
 
 pub(crate) const RENDER: &str = "render one.toml out.pcm";
 
-const RECORD: &str = "record in.pcm out.pcm 20 20 20";
+pub(crate) const RECORD: &str = "record in.pcm out.pcm 20 20 20";
 
-const LOOP: &str = "loop in.pcm out.pcm 10 2 0 0 0";
+pub(crate) const LOOP: &str = "loop in.pcm out.pcm 10 2 0 0 0";
 
 /// Words that are separated by spaces.
 pub(crate) fn words_of(alloc: Global, line: &str) -> Result<Vec<String>, Fail> {
@@ -37,86 +41,97 @@ pub(crate) fn words_of(alloc: Global, line: &str) -> Result<Vec<String>, Fail> {
     Ok(words)
 }
 
-/// Which words fit.
-#[test]
-fn words_that_fit(rt: HostRuntime) -> Result<(), Fail> {
-    let alloc = rt.alloc();
-    for (line, fits) in [
-        ("render a b", true),
-        ("render a", false),
-        ("render a b c", false),
-        ("", false),
-        ("help", false),
-        ("--help", false),
-        ("--version", false),
-        ("-x", false),
-        ("render --help b", false),
-        ("render -- a b", false),
-        ("render a a", false),
-        ("render .a b", false),
-        ("generate 0 a b", true),
-        ("generate 2147483647 a b", true),
-        ("generate 2147483648 a b", false),
-        ("generate 00 a b", false),
-        ("generate 07 a b", false),
-        ("generate -1 a b", false),
-        ("generate a 0 b", false),
-        ("generate 0 a", false),
-        ("generate 0 a b c", false),
-        ("generate 0 a a", false),
-        ("generate 0 a .b", false),
-        ("generate 0 g0.pcm b", false),
-        ("generate 0 a g7.pcm", false),
-        ("generate 0 g8.pcm g.pcm", true),
-        ("play a b c", true),
-        ("play a b", false),
-        ("play a b c d", false),
-        ("play a a c", false),
-        ("play a b a", false),
-        ("play a b b", false),
-        ("play a b .c", false),
-        ("play -- a b c", false),
-        ("verify a b c", true),
-        ("verify a b", false),
-        ("verify a b c d", false),
-        ("verify a b b", false),
-        ("verify a .b c", false),
-        ("record a b 8192 1024 1024", true),
-        ("record a b 1 1 1", true),
-        ("record a b 1 1", false),
-        ("record a b 1 1 1 1", false),
-        ("record a a 1 1 1", false),
-        ("record a .b 1 1 1", false),
-        ("record a b 0 1 1", false),
-        ("record a b 8193 1 1", false),
-        ("record a b 1 1025 1", false),
-        ("record a b 1 1 0", false),
-        ("record a b 01 1 1", false),
-        ("record a b 1 +1 1", false),
-        ("record -- a b 1 1 1", false),
-        ("record", false),
-        ("loop a b 1024 2048 4294967295 4294967295 4294967295", true),
-        ("loop a b 1 1 0 0 0", true),
-        ("loop a b 1 1 0 0", false),
-        ("loop a b 1 1 0 0 0 0", false),
-        ("loop a a 1 1 0 0 0", false),
-        ("loop .a b 1 1 0 0 0", false),
-        ("loop a b 0 1 0 0 0", false),
-        ("loop a b 1025 1 0 0 0", false),
-        ("loop a b 1 0 0 0 0", false),
-        ("loop a b 1 2049 0 0 0", false),
-        ("loop a b 1 1 4294967296 0 0", false),
-        ("loop a b 1 1 0 4294967296 0", false),
-        ("loop a b 1 1 0 0 4294967296", false),
-        ("loop a b 1 1 00 0 0", false),
-        ("loop a b 1 1 0 0x1 0", false),
-        ("loop a b 1 1 0 0 -1", false),
-        ("loop", false),
-    ] {
+/// Words that fit.
+const FITTING: &[&str] = &[
+    "render a b",
+    "generate 0 a b",
+    "generate 2147483647 a b",
+    "generate 0 g8.pcm g.pcm",
+    "play a b c",
+    "verify a b c",
+    "record a b 8192 1024 1024",
+    "record a b 1 1 1",
+    "loop a b 1024 2048 4294967295 4294967295 4294967295",
+    "loop a b 1 1 0 0 0",
+];
+
+/// Words that do not fit.
+const MISFITS: &[&str] = &[
+    "render a",
+    "render a b c",
+    "",
+    "help",
+    "--help",
+    "--version",
+    "-x",
+    "render --help b",
+    "render -- a b",
+    "render a a",
+    "render .a b",
+    "generate 2147483648 a b",
+    "generate 00 a b",
+    "generate 07 a b",
+    "generate -1 a b",
+    "generate a 0 b",
+    "generate 0 a",
+    "generate 0 a b c",
+    "generate 0 a a",
+    "generate 0 a .b",
+    "generate 0 g0.pcm b",
+    "generate 0 a g7.pcm",
+    "play a b",
+    "play a b c d",
+    "play a a c",
+    "play a b a",
+    "play a b b",
+    "play a b .c",
+    "play -- a b c",
+    "verify a b",
+    "verify a b c d",
+    "verify a b b",
+    "verify a .b c",
+    "record a b 1 1",
+    "record a b 1 1 1 1",
+    "record a a 1 1 1",
+    "record a .b 1 1 1",
+    "record a b 0 1 1",
+    "record a b 8193 1 1",
+    "record a b 1 1025 1",
+    "record a b 1 1 0",
+    "record a b 01 1 1",
+    "record a b 1 +1 1",
+    "record -- a b 1 1 1",
+    "record",
+    "loop a b 1 1 0 0",
+    "loop a b 1 1 0 0 0 0",
+    "loop a a 1 1 0 0 0",
+    "loop .a b 1 1 0 0 0",
+    "loop a b 0 1 0 0 0",
+    "loop a b 1025 1 0 0 0",
+    "loop a b 1 0 0 0 0",
+    "loop a b 1 2049 0 0 0",
+    "loop a b 1 1 4294967296 0 0",
+    "loop a b 1 1 0 4294967296 0",
+    "loop a b 1 1 0 0 4294967296",
+    "loop a b 1 1 00 0 0",
+    "loop a b 1 1 0 0x1 0",
+    "loop a b 1 1 0 0 -1",
+    "loop",
+];
+
+/// Whether each line of words fits.
+fn expect_fit<R: Abort>(rt: &R, alloc: Global, lines: &[&str], fits: bool) -> Result<(), Fail> {
+    for line in lines {
         let words = words_of(alloc, line)?;
         assert_eq!(rt; request_of(alloc, &words)?.is_some(), fits, "{line}");
     }
     Ok(())
+}
+
+#[test]
+fn words_that_fit(rt: HostRuntime) -> Result<(), Fail> {
+    expect_fit(&rt, rt.alloc(), FITTING, true)?;
+    expect_fit(&rt, rt.alloc(), MISFITS, false)
 }
 
 /// A run over a store and a sink: the exit status, the line, and what OUT holds where it is made.
@@ -154,196 +169,107 @@ pub(crate) fn numbered(alloc: Global, length: usize) -> Result<Vec<u8>, Fail> {
     Ok(bytes)
 }
 
-/// Runs over a script and a file of so many bytes, of which OUT holds a front: what is done, what is refused, and each call of the store and of the sink that fails.
+/// A run: its words, the script and the length of the file that are there, the status, the line, and how many of the file's bytes OUT holds.
+type Ending<'a> = (
+    &'a str,
+    Option<&'a str>,
+    Option<usize>,
+    u8,
+    &'a str,
+    Option<usize>,
+);
+
+/// What is done and what is refused.
+const ENDINGS: &[Ending<'static>] = &[
+    (RENDER, Some(ONE), Some(80), 0, DONE, Some(8)),
+    (
+        RENDER,
+        Some(ONE),
+        Some(7),
+        4,
+        "file: track 0 ragged 7\n",
+        None,
+    ),
+    (
+        RENDER,
+        Some(ONE),
+        Some(4),
+        4,
+        "file: track 0 short 1 2\n",
+        None,
+    ),
+    (RENDER, Some(ONE), None, 4, "file: track 0 missing\n", None),
+    (RENDER, None, Some(80), 4, "file: script missing\n", None),
+    (RENDER, Some("= 1"), Some(80), 3, "script: toml\n", None),
+    (RENDER, Some(IDLE), Some(80), 0, SILENT, Some(0)),
+    (RENDER, Some(SECOND), Some(80), 0, DONE, Some(8)),
+    ("render one.toml", Some(ONE), Some(80), 2, USAGE, None),
+    ("", Some(ONE), Some(80), 2, USAGE, None),
+    (
+        "play one.toml out.pcm out.pcm",
+        Some(ONE),
+        Some(80),
+        2,
+        USAGE,
+        None,
+    ),
+    (
+        RECORD,
+        None,
+        Some(80),
+        0,
+        "supplied 20 read 20 lost 0\n",
+        Some(80),
+    ),
+    (RECORD, None, Some(7), 4, "file: track 0 ragged 7\n", None),
+    (RECORD, None, None, 4, "file: track 0 missing\n", None),
+    (
+        LOOP,
+        None,
+        Some(80),
+        0,
+        "cycles 2 filled 20 shut 0\n",
+        Some(80),
+    ),
+    (
+        LOOP,
+        None,
+        Some(32768),
+        0,
+        "cycles 2 filled 20 shut 0\n",
+        Some(80),
+    ),
+    (LOOP, None, Some(32769), 4, "file: track 0 long\n", None),
+    (LOOP, None, Some(7), 4, "file: track 0 ragged 7\n", None),
+    (LOOP, None, Some(0), 4, "file: track 0 short 0 1\n", None),
+    (LOOP, None, None, 4, "file: track 0 missing\n", None),
+];
+
+/// A run over a store with these files.
+fn expect_ending<R: Threads + Sync + Abort>(
+    rt: &R,
+    alloc: Global,
+    (words, script, length, status, line, left): Ending<'_>,
+) -> Result<(), Fail> {
+    let mut store = MemStore::new(alloc, Vec::new(alloc));
+    if let Some(text) = script {
+        store.put("one.toml", text.as_bytes())?;
+    }
+    if let Some(length) = length {
+        store.put("in.pcm", &numbered(alloc, length)?)?;
+    }
+    let file = numbered(alloc, 80)?;
+    let output = match left {
+        Some(left) => file.get(..left),
+        None => None,
+    };
+    expect(rt, alloc, words, (store, sink(alloc)), status, line, output)
+}
+
 #[test]
 fn each_run_ends_as_it_must(rt: HostRuntime) -> Result<(), Fail> {
-    let alloc = rt.alloc();
-    let done = "cycles 1 mixed 2 dropped 0 queued 0 peak 2\n";
-    for (words, script, length, failing, status, line, left) in [
-        (RENDER, Some(ONE), Some(80), (0, 0), 0, done, Some(8)),
-        (RENDER, Some(ONE), Some(80), (1, 0), 5, "", None),
-        (RENDER, Some(ONE), Some(80), (2, 0), 5, "", None),
-        (RENDER, Some(ONE), Some(80), (3, 0), 5, "", None),
-        (RENDER, Some(ONE), Some(80), (4, 0), 5, "", Some(4)),
-        (
-            RENDER,
-            Some(ONE),
-            Some(80),
-            (0, 1),
-            5,
-            "cycles 1 mixed 2 drop",
-            Some(8),
-        ),
-        (
-            RENDER,
-            Some(ONE),
-            Some(7),
-            (0, 0),
-            4,
-            "file: track 0 ragged 7\n",
-            None,
-        ),
-        (
-            RENDER,
-            Some(ONE),
-            Some(4),
-            (0, 0),
-            4,
-            "file: track 0 short 1 2\n",
-            None,
-        ),
-        (
-            RENDER,
-            Some(ONE),
-            None,
-            (0, 0),
-            4,
-            "file: track 0 missing\n",
-            None,
-        ),
-        (
-            RENDER,
-            None,
-            Some(80),
-            (0, 0),
-            4,
-            "file: script missing\n",
-            None,
-        ),
-        (
-            RENDER,
-            Some("= 1"),
-            Some(80),
-            (0, 0),
-            3,
-            "script: toml\n",
-            None,
-        ),
-        (
-            RENDER,
-            Some(IDLE),
-            Some(80),
-            (0, 0),
-            0,
-            "cycles 0 mixed 0 dropped 0 queued 0 peak 0\n",
-            Some(0),
-        ),
-        (RENDER, Some(SECOND), Some(80), (0, 0), 0, done, Some(8)),
-        (
-            "render one.toml",
-            Some(ONE),
-            Some(80),
-            (0, 0),
-            2,
-            USAGE,
-            None,
-        ),
-        ("", Some(ONE), Some(80), (0, 0), 2, USAGE, None),
-        (
-            "play one.toml out.pcm out.pcm",
-            Some(ONE),
-            Some(80),
-            (0, 0),
-            2,
-            USAGE,
-            None,
-        ),
-        (
-            RECORD,
-            None,
-            Some(80),
-            (0, 0),
-            0,
-            "supplied 20 read 20 lost 0\n",
-            Some(80),
-        ),
-        (RECORD, None, Some(80), (1, 0), 5, "", None),
-        (RECORD, None, Some(80), (2, 0), 5, "", None),
-        (RECORD, None, Some(80), (3, 0), 5, "", Some(40)),
-        (RECORD, None, Some(80), (0, 1), 5, "supplied 20 r", Some(80)),
-        (
-            RECORD,
-            None,
-            Some(7),
-            (0, 0),
-            4,
-            "file: track 0 ragged 7\n",
-            None,
-        ),
-        (
-            RECORD,
-            None,
-            None,
-            (0, 0),
-            4,
-            "file: track 0 missing\n",
-            None,
-        ),
-        (
-            LOOP,
-            None,
-            Some(80),
-            (0, 0),
-            0,
-            "cycles 2 filled 20 shut 0\n",
-            Some(80),
-        ),
-        (LOOP, None, Some(80), (1, 0), 5, "", None),
-        (LOOP, None, Some(80), (2, 0), 5, "", None),
-        (LOOP, None, Some(80), (3, 0), 5, "", Some(40)),
-        (LOOP, None, Some(80), (0, 1), 5, "cycles 2 fill", Some(80)),
-        (
-            LOOP,
-            None,
-            Some(32768),
-            (0, 0),
-            0,
-            "cycles 2 filled 20 shut 0\n",
-            Some(80),
-        ),
-        (
-            LOOP,
-            None,
-            Some(32769),
-            (0, 0),
-            4,
-            "file: track 0 long\n",
-            None,
-        ),
-        (
-            LOOP,
-            None,
-            Some(7),
-            (0, 0),
-            4,
-            "file: track 0 ragged 7\n",
-            None,
-        ),
-        (
-            LOOP,
-            None,
-            Some(0),
-            (0, 0),
-            4,
-            "file: track 0 short 0 1\n",
-            None,
-        ),
-        (LOOP, None, None, (0, 0), 4, "file: track 0 missing\n", None),
-    ] {
-        let mut store = MemStore::new(alloc, [failing.0].to_vec(alloc)?);
-        if let Some(text) = script {
-            store.put("one.toml", text.as_bytes())?;
-        }
-        if let Some(length) = length {
-            store.put("in.pcm", &numbered(alloc, length)?)?;
-        }
-        let file = numbered(alloc, 80)?;
-        let output = match left {
-            Some(left) => file.get(..left),
-            None => None,
-        };
-        let out = MemSink::new(alloc, [failing.1].to_vec(alloc)?);
-        expect(&rt, alloc, words, (store, out), status, line, output)?;
+    for ending in ENDINGS {
+        expect_ending(&rt, rt.alloc(), *ending)?;
     }
     Ok(())
 }
