@@ -27,11 +27,11 @@ abbrev pub play_through : List Op → Bool
 play_through (OpenTrack ∷ Start ∷ ops) = goes_on 0 ops
 play_through _ = false
 
--- the frames of a track that a turn of the normal mixer, or as many fast cycles, can take: a whole buffer, or a normal one
+-- the portion of a track: the lesser of its buffer and a buffer of the normal mixer, in frames
 abbrev pub portion : ScriptData → TrackSpec → ℕ
 portion script track = min track.frames (script.normal * script.frames)
 
--- the cost of an op in rounds: each portion that is written takes four
+-- the cost of an op in rounds: eight; of a write four, and four more for each portion that it has
 abbrev pub op_cost : ℕ → Op → ℕ
 op_cost q (Write count) = 4 + 4 * div_ceil count q
 op_cost q _ = 8

@@ -53,7 +53,7 @@ fn all_play_through(script: &Script) -> bool
         .all(|track| play_through(track.ops.as_slice()))
 }
 
-// The frames of a track that pass in a round or two.
+// The portion of a track: the lesser of its buffer and a buffer of the normal mixer, in frames.
 fn portion(script: &Script, track: &TrackSpec) -> u64
     requires { 1 ≤ track.now.frames }
     ensures value { result ≡ portion script.now track.now }
@@ -62,7 +62,7 @@ fn portion(script: &Script, track: &TrackSpec) -> u64
     u64::from(track.frames).min(u64::from(script.normal()) * u64::from(script.frames()))
 }
 
-// The cost of an op, in rounds.
+// The cost of an op: 8 rounds; of a write 4, and 4 more for each portion that it has.
 fn op_cost(op: Op, portion: u64) -> u64
     requires { 1 ≤ portion }
     ensures cost { result ≡ op_cost portion op }

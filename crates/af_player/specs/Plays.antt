@@ -20,7 +20,7 @@ abbrev pub run_line : Bool → ScriptData → JournalData → EndsState → List
 run_line true script journal ends = summary_line (summary_told script.frames journal ends)
 run_line false script journal ends = limit_text script.cycles
 
--- These bytes, this text and this line are of one run of all parties: its journal is by itself that of a legal run, in which each frame that a lawful client released has one fate, the bytes are the sound of that journal, the text is that of the same journal, and the line is its line. All parties have ended in it, or else it was cut off where the log was full.
+-- These bytes, this text and this line are of one run of all parties, in which all have ended, or which was cut off where the log was full: the sound of its journal, the text of the same journal, and its line. By itself that journal is a legal run in which each frame of a lawful client has one fate and each lawful track is spared, or else a cut run
 pub record IsPlay (ended : Bool) (script : ScriptData) (files : List (List Frame)) (bytes text line : List ℕ) : Type 0 where
   pub journal : JournalData
   pub ends : EndsState

@@ -21,10 +21,10 @@ const WRITTEN: &[(&str, u64, usize)] = &[
 ];
 
 /// Calls of the store and of the sink that fail, by their numbers (1000: none), the status, the bytes of OUT, and what is printed.
-type Failure<'a> = (u64, u64, u8, Option<usize>, &'a str);
+type GenerateFailure<'a> = (u64, u64, u8, Option<usize>, &'a str);
 
 /// The first and the last call that fill OUT, and the line.
-const FAILURES: &[Failure<'static>] = &[
+const FAILURES: &[GenerateFailure<'static>] = &[
     (28, 0, 5, Some(512), ""),
     (420, 0, 5, Some(401920), ""),
     (1000, 1, 5, Some(402432), "cycles 1572 mixed 800000 dr"),
@@ -51,7 +51,7 @@ fn length_left(failing: u64, made: u64, length: usize) -> Option<usize> {
 fn expect_generated<R: Threads + Sync + Abort>(
     rt: &R,
     alloc: Global,
-    (failing, of_sink, status, sound, line): Failure<'_>,
+    (failing, of_sink, status, sound, line): GenerateFailure<'_>,
 ) -> Result<(), Fail> {
     let mut store = MemStore::new(alloc, [failing].to_vec(alloc)?);
     let mut out = MemSink::new(alloc, [of_sink].to_vec(alloc)?);

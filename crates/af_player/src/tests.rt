@@ -53,6 +53,8 @@ const FITTING: &[&str] = &[
     "record a b 1 1 1",
     "loop a b 1024 2048 4294967295 4294967295 4294967295",
     "loop a b 1 1 0 0 0",
+    "trace a b c d 1",
+    "trace a b c d 1024",
 ];
 
 /// Words that do not fit.
@@ -69,6 +71,10 @@ const MISFITS: &[&str] = &[
     "render a a",
     "render .a b",
     "generate 2147483648 a b",
+    "trace a b c d",
+    "trace a b c d 0",
+    "trace a b c d 1025",
+    "trace a b c a 1",
     "generate 00 a b",
     "generate 07 a b",
     "generate -1 a b",

@@ -110,9 +110,9 @@ const EMPTY: &str =
 /// A played session: its script, the bytes of its file, and those of its sound.
 type Session<'a> = (&'a str, usize, usize);
 
-const HEARD: Session<'static> = (WHOLE, 8, 192);
+const HEARD_SESSION: Session<'static> = (WHOLE, 8, 192);
 
-const UNHEARD: Session<'static> = (EMPTY, 0, 128);
+const UNHEARD_SESSION: Session<'static> = (EMPTY, 0, 128);
 
 /// So many bytes of a journal, from a place on, replaced by a text, and what is found then.
 type Damage<'a> = (usize, usize, &'a str, &'a str);
@@ -191,13 +191,19 @@ fn journals_are_legal(rt: HostRuntime) -> Result<(), Fail> {
     let alloc = rt.alloc();
     let (heard, unheard) = (whole_journal(alloc)?, silent_journal(alloc)?);
     let more = judged(alloc, 0, (WHOLE, 8, 193), &heard)?;
-    expect_verdict(&rt, alloc, judged(alloc, 0, HEARD, &heard)?, 0, "legal\n")?;
+    expect_verdict(
+        &rt,
+        alloc,
+        judged(alloc, 0, HEARD_SESSION, &heard)?,
+        0,
+        "legal\n",
+    )?;
     expect_verdict(&rt, alloc, more, 7, "refused: pcm 192\n")?;
     let more = judged(alloc, 0, (EMPTY, 0, 129), &unheard)?;
     expect_verdict(
         &rt,
         alloc,
-        judged(alloc, 0, UNHEARD, &unheard)?,
+        judged(alloc, 0, UNHEARD_SESSION, &unheard)?,
         0,
         "legal\n",
     )?;
@@ -205,10 +211,10 @@ fn journals_are_legal(rt: HostRuntime) -> Result<(), Fail> {
 }
 
 /// Calls of the store and of the sink that fail, by their numbers (0: none), the bytes of the sound, the status, and what is printed.
-type Failure<'a> = (u64, u64, usize, u8, &'a str);
+type VerifyFailure<'a> = (u64, u64, usize, u8, &'a str);
 
 /// The store is asked for the script, the file, the sound and the journal.
-const FAILURES: &[Failure<'static>] = &[
+const FAILURES: &[VerifyFailure<'static>] = &[
     (1, 0, 192, 5, ""),
     (2, 0, 192, 5, ""),
     (3, 0, 192, 5, ""),
@@ -314,6 +320,6 @@ fn expect_found<R: Threads + Sync + Abort>(
 #[test]
 fn damaged_journals(rt: HostRuntime) -> Result<(), Fail> {
     let alloc = rt.alloc();
-    expect_found(&rt, alloc, HEARD, &whole_journal(alloc)?, DAMAGES)?;
-    expect_found(&rt, alloc, UNHEARD, &silent_journal(alloc)?, CUTS)
+    expect_found(&rt, alloc, HEARD_SESSION, &whole_journal(alloc)?, DAMAGES)?;
+    expect_found(&rt, alloc, UNHEARD_SESSION, &silent_journal(alloc)?, CUTS)
 }
