@@ -4,37 +4,6 @@ use af_script::read;
 use std::alloc::Global;
 use std::test::Fail;
 
-// A buffer of 8192 frames, and three of 1024, at 48 kHz.
-const LONG_AND_SHORT: &str = "version = 1
-frames = 240
-normal = 4
-cycles = 8700
-[[track]]
-kind = 'normal'
-frames = 8192
-channels = 2
-file = 'a.pcm'
-ops = ['open', 'start', 'write 96000', 'stop', 'drain', 'remove']
-[[track]]
-kind = 'fast'
-frames = 1024
-channels = 2
-file = 'b.pcm'
-ops = ['open', 'start', 'write 4800', 'stop', 'drain', 'remove']
-[[track]]
-kind = 'fast'
-frames = 1024
-channels = 2
-file = 'c.pcm'
-ops = ['open', 'start', 'write 4800', 'stop', 'drain', 'remove']
-[[track]]
-kind = 'fast'
-frames = 1024
-channels = 2
-file = 'd.pcm'
-ops = ['open', 'start', 'write 4800', 'stop', 'drain', 'remove']
-";
-
 // Two tones, as in examples/play.
 const TWO_TONES: &str = "version = 1
 frames = 64
@@ -66,6 +35,24 @@ channels = 2
 file = 'tone.pcm'
 ";
 
+// A track of a script, whose client writes so many frames through a buffer of its own.
+fn track(alloc: Global, kind: &str, frames: u32, written: u32) -> Result<String, Fail> {
+    let text = format!(in alloc;
+        "[[track]]\nkind = '{kind}'\nframes = {frames}\nchannels = 2\nfile = 'a.pcm'\nops = ['open', 'start', 'write {written}', 'stop', 'drain', 'remove']\n"
+    )?;
+    Ok(text)
+}
+
+// Four tracks, of 8192 frames and of 1024, at 48 kHz.
+fn long_and_short(alloc: Global) -> Result<String, Fail> {
+    let long = track(alloc, "normal", 8192, 96000)?;
+    let short = track(alloc, "fast", 1024, 4800)?;
+    let text = format!(in alloc;
+        "version = 1\nframes = 240\nnormal = 4\ncycles = 8700\n{long}{short}{short}{short}"
+    )?;
+    Ok(text)
+}
+
 // The cycles that are enough for the script that a text spells.
 fn enough_of(alloc: Global, text: &str) -> Result<Option<u64>, Fail> {
     let script = read(alloc, text.as_bytes()).ok().ok_or("no script")?;
@@ -92,7 +79,8 @@ fn enough_with_gains(alloc: Global, count: usize) -> Result<Option<u64>, Fail> {
 fn worked_examples(rt: HostRuntime) -> Result<(), Fail> {
     let alloc = rt.alloc();
     // 40 for five ops, 404 for the write of 100 portions, 18 for the drain of nine: 462, and 16 more
-    assert_eq!(rt; enough_of(alloc, LONG_AND_SHORT)?, Some(7648));
+    let text = long_and_short(alloc)?;
+    assert_eq!(rt; enough_of(alloc, text.as_str())?, Some(7648));
     // 48 for six ops, 132 for the write of 32 portions, 16 for the drain of eight: 196, and 16 more
     assert_eq!(rt; enough_of(alloc, TWO_TONES)?, Some(3392));
     // 40 for five ops, 8 for the drain of four: 48, and 16 more
