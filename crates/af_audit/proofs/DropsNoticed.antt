@@ -68,7 +68,7 @@ new_by k new asked flush rear front dropped false false true count is h = no h
 new_by k new asked flush rear front dropped false false false count is h = no h
 
 -- a look that flushed saw a new flush word
-saw_new : (k : Shape) (kept asked flush rear front dropped : ℕ) → seen.Flushed dropped ≡ look_at k kept asked flush rear front → flush ≢ kept
+pub saw_new : (k : Shape) (kept asked flush rear front dropped : ℕ) → seen.Flushed dropped ≡ look_at k kept asked flush rear front → flush ≢ kept
 unfolding is_flushed
 saw_new k kept asked flush rear front dropped is same =
     let new : not (flush == kept) ≡ true = new_by k (not (flush == kept)) asked flush rear front _ (is_noticed k (not (flush == kept)) rear front) _ _ _ refl (sym (ap is_flushed is)) in

@@ -38,3 +38,21 @@ mod RearsSeen
 mod TrackUnshut
 mod RunUnshut
 pub mod SparedTold
+mod Sending
+mod StepsTaken
+mod Undropped
+mod StopSent
+mod Stopped
+mod Older
+mod Growing
+mod Attached
+mod Bounded
+mod Late
+mod Bounds
+mod Quiet
+mod LateRuns
+mod FastCurrent
+mod LateRound
+mod Reached
+mod SentTold
+pub mod DrainedTold

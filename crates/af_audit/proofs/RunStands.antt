@@ -1,8 +1,7 @@
 -- What holds of a track and of the normal mixer through the legal rounds of a run.
-use Rattle.std.specs.Prelude.{MatchBool, MatchOption}
+use Rattle.std.specs.Prelude.{MatchOption}
 use Rattle.std.specs.List.{find, range_with_len, list_any}
-use Rattle.std.proofs.Common.{◌≡◌, inl, inr, ℕ, zero, suc, ◌+◌, ◌<◌, ◌==◌, ◌&&◌, ◌||◌, Bool, true, false, true≢false, if◌then◌else◌, is_some, unwrap_or, List, [], ◌∷◌, take, drop, length, All, Option, Some, None, refl, sym, ap, ◌∙◌, subst, eqb-true, arith}
-use Rattle.std.proofs.Math.Seq.{drop-nil, take-nil}
+use Rattle.std.proofs.Common.{◌≡◌, inl, inr, ℕ, zero, suc, ◌+◌, ◌<◌, ◌==◌, ◌&&◌, ◌||◌, Bool, true, false, true≢false, if◌then◌else◌, is_some, unwrap_or, List, [], ◌∷◌, length, All, Option, Some, None, refl, sym, ap, ◌∙◌, subst, eqb-true, arith}
 use Rattle.std.proofs.lemmas.List.{get_or-replicate}
 use Rattle.std.proofs.lemmas.List.Elements.{All-head, All-tail}
 use Rattle.af_base.specs.declared.log.CycleEntry.{CycleEntry}
@@ -12,7 +11,6 @@ use Rattle.af_base.specs.Log.{absent, entry_slot, slots}
 use Rattle.af_base.specs.Turn.{Turn}
 use Rattle.af_life.specs.Heard.{learnt}
 use Rattle.af_life.specs.Kept.{NormalKept, Outside, is_home, track_at}
-use Rattle.af_life.specs.Turn.{turn_after}
 use Rattle.af_model.specs.Cycles.{LooksBy, cycle_of, is_mixed, state_of, still_entry}
 use Rattle.af_model.specs.JournalForm.{IsRound, IsTurn, TracksRise}
 use Rattle.af_model.specs.Journals.{EntrySeen, RoundSeen}
@@ -22,17 +20,18 @@ use Rattle.af_runs.specs.Clients.{ends}
 use Rattle.af_runs.specs.Found.{LegalTurnBy, TurnFound, outside_of}
 use Rattle.af_runs.specs.Fronts.{is_shown}
 use Rattle.af_runs.specs.LegalRuns.{LegalRounds, is_poke_on, run_from}
-use Rattle.af_runs.specs.Rounds.{IsFastTurn, most_cycles, fills, early_count, LegalEntries, LegalEntry, LegalRound, after_round, after_turn, all_played, before_turn, early_of, found_in, late_of, loaded, met_after, turned}
+use Rattle.af_runs.specs.Rounds.{fills, LegalEntries, LegalEntry, LegalRound, after_round, after_turn, all_played, before_turn, early_of, found_in, late_of, loaded, met_after, turned}
 use Rattle.af_runs.specs.Runs.{Run, TrackTold, calls_in, each_track, fast_ended, holds, mixed_track, no_track, plays, met, slot_for, state_for, takes_part, told_at, turned_track, with_calls, with_cycle, with_cycles, with_ends, with_load, with_mix, with_poll, with_turn}
 use Rattle.af_runs.specs.Sessions.{Session, cycle_frames, file_words, setup_of, track_count}
 use Rattle.af_runs.specs.Told.{state_at}
 use Rattle.af_judge.proofs.BlocksMeet.{met_at, met_many}
 use Rattle.af_judge.proofs.EachTrack.{each_at, each_long, told_each}
-use Rattle.af_judge.proofs.EntriesFollow.{cycles_beside}
 use Rattle.af_judge.proofs.EntryTold.{cycle_beside}
 use Rattle.af_judge.proofs.EntryTracks.{both-true, plays_track}
 use Rattle.af_audit.proofs.CallsFollow.{calls_long, told_called}
 use Rattle.af_audit.proofs.MixerEnds.{EndsHome, turn_ends}
+use Rattle.af_audit.proofs.FastCurrent.{legal_parts}
+use Rattle.af_audit.proofs.Stopped.{before_normal, mixer_after, round_normal, turn_legal}
 use Rattle.af_audit.proofs.TrackStands.{TrackStands, stands_called, stands_ended, stands_met, stands_mixed, stands_turned}
 
 no : {A : Type 0} → false ≡ true → A
@@ -161,23 +160,7 @@ module _ (cut : Bool) (s : Session) (marks : Marks) (run : Run) (round : RoundSe
 
   -- its entries are legal
   pub fast_parts : LegalEntries s marks start (early_of run round) × LegalEntries s marks (after_turn s run round) (late_of run round)
-  fast_parts = by_ended (fast_ended run) legal.turns.fast
-    where
-      by_ended : (b : Bool) → MatchBool b (round.entries ≡ []) (IsFastTurn most_cycles (cut && fills s run round) round.entries × LegalEntries s marks start (early_of run round) × LegalEntries s marks (after_turn s run round) (late_of run round))
-          → LegalEntries s marks start (early_of run round) × LegalEntries s marks (after_turn s run round) (late_of run round)
-      by_ended true none = (
-        subst (LegalEntries s marks start) (sym (ap (take (early_count run round)) none ∙ take-nil (early_count run round))) tt,
-        subst (LegalEntries s marks (after_turn s run round)) (sym (ap (drop (early_count run round)) none ∙ drop-nil (early_count run round))) tt,
-      )
-      by_ended false parts = (parts.1, parts.2)
-
-  -- the turn that it has, if it has one
-  pub turn_legal : (e : Turn) → round.turn ≡ Some e → LegalTurnBy (setup_of s) marks (found_in s run round e) run.normal e
-  turn_legal e is = by_ended run.normal.ended legal.turns.normal
-    where
-      by_ended : (b : Bool) → MatchBool b (round.turn ≡ None) (MatchOption round.turn ⊥ (λ e. LegalTurnBy (setup_of s) marks (found_in s run round e) run.normal e)) → LegalTurnBy (setup_of s) marks (found_in s run round e) run.normal e
-      by_ended true none = no (sym (ap is_some none) ∙ ap is_some is)
-      by_ended false turn = subst (λ (o : Option Turn). MatchOption o ⊥ (λ e. LegalTurnBy (setup_of s) marks (found_in s run round e) run.normal e)) is turn
+  fast_parts = legal_parts (fast_ended run) (cut && fills s run round) s marks run round legal.turns.fast
 
   pub rises : (e : Turn) → round.turn ≡ Some e → TracksRise 0 e.mixes
   rises e is = by_form (subst (λ (o : Option Turn). MatchOption o (Unit {0}) (IsTurn tracks)) is form.turn)
@@ -186,15 +169,11 @@ module _ (cut : Bool) (s : Session) (marks : Marks) (run : Run) (round : RoundSe
       by_form (inl ended) = subst (λ (t : Turn). TracksRise 0 t.mixes) (sym ended) tt
       by_form (inr open_turn) = open_turn.rise
 
-  pub before_normal : (before_turn s run round).normal ≡ run.normal
-  unfolding with_calls
-  before_normal = (cycles_beside s (early_of run round) (with_calls round run)).normal
-
   -- ## The track
 
   stands_turned_if : (o : Option Turn) → round.turn ≡ o → StandsAt s n (before_turn s run round) → StandsAt s n (turned s (found_in s run round) o (before_turn s run round))
   stands_turned_if None is h = h
-  stands_turned_if (Some e) is h = stands_turn s marks n (found_in s run round e) e run.normal (before_turn s run round) refl before_normal (rises e is) (turn_legal e is) h
+  stands_turned_if (Some e) is h = stands_turn s marks n (found_in s run round e) e run.normal (before_turn s run round) refl (before_normal s run round) (rises e is) (turn_legal cut s marks run round legal e is) h
 
   stands_met_after : list_any (is_poke_on false) (calls_in round n) ≡ false → StandsAt s n run → StandsAt s n (met_after s run round)
   stands_met_after calm h =
@@ -208,37 +187,15 @@ module _ (cut : Bool) (s : Session) (marks : Marks) (run : Run) (round : RoundSe
 
   -- ## The normal mixer
 
-  mixer_turned : (o : Option Turn) → round.turn ≡ o → EndsHome run.normal → EndsHome (turned s (found_in s run round) o (before_turn s run round)).normal
-  unfolding with_turn
-  mixer_turned None is h = subst EndsHome (sym before_normal) h
+  mixer_turned : (o : Option Turn) → round.turn ≡ o → EndsHome run.normal → EndsHome (mixer_after s run round o)
+  mixer_turned None is h = h
   mixer_turned (Some e) is h =
       let c = setup_of s in
-      let f = found_in s run round e in
-      let t = turn_legal e is in
-      subst (λ (m : NormalKept). EndsHome (turn_after c (learnt (outside_of c f e)) m e)) (sym before_normal) (turn_ends c (learnt (outside_of c f e)) t.outside run.normal e t.legal h)
-
-  loaded_normal : (o : Option Turn) (r : Run) → (loaded o r).normal ≡ r.normal
-  unfolding with_load
-  loaded_normal None r = refl
-  loaded_normal (Some e) r = refl
-
-  ends_normal : (r : Run) → (with_ends r).normal ≡ r.normal
-  unfolding with_ends
-  ends_normal r = by_end r.normal.ended
-    where
-      by_end : (b : Bool) → (if b then each_track (λ track t. record t { client = ends t.client }) r else r).normal ≡ r.normal
-      by_end true = refl
-      by_end false = refl
-
-  met_normal : (r : Run) → (met s r).normal ≡ r.normal
-  unfolding met
-  met_normal r = refl
+      let t = turn_legal cut s marks run round legal e is in
+      turn_ends c (learnt (outside_of c (found_in s run round e) e)) t.outside run.normal e t.legal h
 
   mixer_round : EndsHome run.normal → EndsHome (after_round s run round).normal
-  mixer_round h =
-      let late = with_cycles s (late_of run round) (after_turn s run round) in
-      let same = ends_normal (met s (loaded round.turn late)) ∙ met_normal (loaded round.turn late) ∙ loaded_normal round.turn late ∙ (cycles_beside s (late_of run round) (after_turn s run round)).normal in
-      subst EndsHome (sym same) (mixer_turned round.turn refl h)
+  mixer_round h = subst EndsHome (sym (round_normal s run round)) (mixer_turned round.turn refl h)
 
   -- ## The history
 

@@ -22,7 +22,8 @@ use Rattle.af_judge.proofs.EntriesFollow.{cycles_beside}
 use Rattle.af_judge.proofs.EntryTold.{cycle_beside}
 use Rattle.af_audit.specs.Spared.{IsSpared, IsSparedIn, is_spared_by, is_spared_by_all, is_spared_by_turn, is_spared_in_turn, none_corrupt}
 use Rattle.af_audit.proofs.CallsFollow.{calls_long, told_called}
-use Rattle.af_audit.proofs.RunStands.{before_normal, entry_looks, fast_parts, rises, turn_legal}
+use Rattle.af_audit.proofs.RunStands.{entry_looks, fast_parts, rises}
+use Rattle.af_audit.proofs.Stopped.{before_normal, turn_legal}
 use Rattle.af_audit.proofs.TrackUnshut.{IsTrim, IsUnshut, trim_called, trim_ended, trim_met, trim_mixed, trim_turned, unshut_called, unshut_ended, unshut_met, unshut_mixed, unshut_turned}
 
 -- From one run to another the track is kept trim; and where its proxies aren't shut in the second, they aren't in the first, and this holds
@@ -115,7 +116,7 @@ module _ (cut : Bool) (s : Session) (marks : Marks) (run : Run) (round : RoundSe
   spares_turned None is low = spares_as n _ _ (Unit {0}) _ (λ u. refl) (spares_same n (before_turn s run round) (before_turn s run round) low refl)
   spares_turned (Some e) is low = spares_turn s marks n (found_in s run round e) e run.normal (before_turn s run round) low refl
       (let b = cycles_beside s (early_of run round) (with_calls round run) in sym (b.commands n))
-      (before_normal cut s marks run round tracks n form legal) (rises cut s marks run round tracks n form legal e is) (turn_legal cut s marks run round tracks n form legal e is)
+      (before_normal s run round) (rises cut s marks run round tracks n form legal e is) (turn_legal cut s marks run round legal e is)
 
   pub spares_round : n < track_count s → n < length run.tracks → list_any (is_poke_on true) (calls_in round n) ≡ false → Spares n run (after_round s run round) (IsSparedIn s run round n)
   spares_round track low calm =

@@ -1,7 +1,6 @@
 -- What each step of a round keeps of a track whose servers and client are never shut; and where they aren't shut after the step, they weren't before it, and the step spared the track.
-use Rattle.std.proofs.Common.{◌≡◌, inl, inr, ◌⊎◌, ℕ, ◌<◌, ◌≤◌, ◌^◌, ◌||◌, not, nat_lt, Bool, true, false, true≢false, if◌then◌else◌, is_some, fold, map, List, [], ◌∷◌, ◌++◌, flat_map, drop, length, Option, Some, None, refl, sym, ap, ◌∙◌, subst, append-nil, arith}
+use Rattle.std.proofs.Common.{◌≡◌, inl, inr, ◌⊎◌, ℕ, ◌≤◌, ◌^◌, ◌||◌, not, Bool, true, false, true≢false, if◌then◌else◌, is_some, fold, map, List, [], ◌∷◌, ◌++◌, flat_map, drop, length, Option, Some, None, refl, sym, ap, ◌∙◌, subst, append-nil, arith}
 use Rattle.std.specs.List.{AllByRecursion, list_all, list_any}
-use Rattle.std.proofs.lemmas.Bool.Decides.{nat_tests}
 use Rattle.std.proofs.lemmas.Grind.{fold-append}
 use Rattle.std.proofs.lemmas.List.{get_or_past}
 use Rattle.af_base.specs.declared.event.ClientCall.{ClientCall}
@@ -18,7 +17,7 @@ use Rattle.af_base.specs.Turn.{TakeSeen, TrackSeen, Turn}
 use Rattle.af_life.specs.declared.kept.TrackKept.{TrackKept}
 use Rattle.af_life.specs.Heard.{learnt}
 use Rattle.af_life.specs.Kept.{NormalKept, Outside, Setup, asked, is_home, nothing_seen, track_at, track_in}
-use Rattle.af_life.specs.Looks.{LegalLooks, all_command_events}
+use Rattle.af_life.specs.Looks.{all_command_events}
 use Rattle.af_life.specs.Obeys.{is_shut}
 use Rattle.af_life.specs.Plays.{LegalTake}
 use Rattle.af_life.specs.Turn.{LegalTurn}
@@ -52,6 +51,7 @@ use Rattle.af_audit.proofs.LooksUnshut.{kept_more, shut_after, unshut_cycle, uns
 use Rattle.af_audit.proofs.RearsSeen.{FollowAnywhere, cycle_follows, rear_join}
 use Rattle.af_audit.proofs.SidesKept.{sides_mixed, sides_turned}
 use Rattle.af_audit.proofs.TrackStands.{hand-server, server-server, told_more}
+use Rattle.af_audit.proofs.Undropped.{looks_legal}
 
 -- its stream's server sees each front right after a rear, and nothing was poked on its command block
 pub record IsTrim (t : TrackTold) : Type 0 where
@@ -254,19 +254,6 @@ module _ (c : Setup) (f : TurnFound) (m : NormalKept) (e : Turn) (o : Outside) (
   none_shut_look : List CommandLook → Bool
   none_shut_look ls = list_all (λ (look : CommandLook). not (is_shut look.seen)) ls
 
-  -- the looks are legal by some fronts; of a track that isn't there are none
-  abbrev LooksLegal : Type 0
-  LooksLegal = (fronts : List ℕ) × LegalLooks (listed commands) looks fronts
-
-  looks_legal : e.ended ≡ false → LooksLegal
-  looks_legal is = by_low (nat_lt n (length m.tracks)) refl
-    where
-      by_low : (b : Bool) → nat_lt n (length m.tracks) ≡ b → LooksLegal
-      by_low true low = (o.command_fronts n, subst (λ (y : Outside). LegalLooks (y.commands n) looks (o.command_fronts n)) found ((legal.goes_on is).looks n (let l : n < length m.tracks = grind (arith, nat_tests, low) in l)))
-      by_low false high =
-          let none : track_in e n ≡ nothing_seen = get_or_past e.tracks n nothing_seen (let w = (legal.goes_on is).whole in let h : length m.tracks ≤ n = grind (arith, nat_tests, high) in omega (arith, w, h)) in
-          ([], subst (λ (seen : TrackSeen). LegalLooks (listed commands) seen.looks []) (sym none) tt)
-
   -- what follows the looks
   abbrev invalid_so : List ServerEvent
   invalid_so = invalid (learnt told) (track_in e n) tracks n
@@ -289,7 +276,7 @@ module _ (c : Setup) (f : TurnFound) (m : NormalKept) (e : Turn) (o : Outside) (
           ap (λ (y : ServerKept). y.shut) (fold-append (server_keeps commands.shape) start (events ++ invalid_so) status
           ∙ (status_beside (track_in e n).status commands.shape).same (keeps (events ++ invalid_so))
           ∙ fold-append (server_keeps commands.shape) start events invalid_so ∙ invalid_fit.same (keeps events)) in
-          let by = looks_legal is in
+          let by = looks_legal c f m e o n found legal is in
           unshut_looks commands.shape few (server_list commands) (server_list commands) looks by.0 (alike (server_kept commands.shape (server_list commands))) by.1 (sym moved ∙ fine)
 
   -- ## The track in a turn

@@ -6,3 +6,5 @@ pub mod RoundTold
 pub mod MeetingsJudged
 pub mod Fates
 pub mod Spared
+pub mod Older
+pub mod Drained

@@ -2,11 +2,13 @@
 #![tactic(auto)]
 
 mod differ;
+mod drained;
 mod judgement;
 mod run_judge;
 mod sound;
 mod verdict;
 
+pub use drained::drained_tracks_have_reached_their_stop;
 pub use judgement::{judge, verify};
 pub use sound::pcm;
 pub use verdict::{Refusal, Verdict};

@@ -1,0 +1,173 @@
+-- The commands that a client sends: their words are those that it releases on its command block, on which it flushes nothing, and a STOP carries the number of frames released before it.
+use Rattle.std.proofs.Common.{◌≡◌, ℕ, ◌+◌, ◌-◌, ◌==◌, ◌&&◌, MatchBool, Bool, true, false, true≢false, if◌then◌else◌, is_some, fold, List, [], ◌∷◌, ◌++◌, length, refl, sym, ap, ◌∙◌, subst, append-nil, append_assoc, eqb-true, arith}
+use Rattle.af_base.specs.declared.event.ClientCall.{ClientCall}
+use Rattle.af_base.specs.declared.event.ClientCall.TheVariants as call
+use Rattle.af_base.specs.declared.event.ClientEvent.{ClientEvent}
+use Rattle.af_model.specs.ClientCalls.{client_call_events, client_events_of, client_kept}
+use Rattle.af_model.specs.History.{flushes_of}
+use Rattle.af_model.specs.Point.{wrapped}
+use Rattle.af_model.proofs.Logic.{both_left, both_right}
+use Rattle.af_runs.specs.ClientTurns.{AreCalls, IsWanted, LegalClientTurn, Track, after_call, after_calls, argument_of, called, is_of_commands, most_calls, released_by}
+use Rattle.af_runs.specs.Clients.{code_of}
+use Rattle.af_runs.specs.declared.want.ClientCommand.{ClientCommand}
+use Rattle.af_runs.specs.declared.want.ClientCommand.TheVariants as command
+use Rattle.af_runs.specs.declared.want.Want.{Want}
+use Rattle.af_runs.specs.declared.want.Want.TheVariants as want
+use Rattle.af_audit.specs.Drained.{Sent, sent_by, sent_by_all}
+
+no : {A : Type 0} → false ≡ true → A
+no h = absurd (true≢false (sym h))
+
+-- ## The words of commands
+
+-- one after the other
+abbrev pub words_sent : List Sent → List ℕ
+words_sent [] = []
+words_sent (one ∷ sent) = one.code ∷ one.argument ∷ words_sent sent
+
+pub words_join : (xs ys : List Sent) → words_sent (xs ++ ys) ≡ words_sent xs ++ words_sent ys
+words_join [] ys = refl
+words_join (x ∷ xs) ys = ap (λ (l : List ℕ). x.code ∷ x.argument ∷ l) (words_join xs ys)
+
+-- a STOP carries the number of frames released before it
+abbrev pub IsRight : Sent → Type 0
+IsRight one = one.code ≡ 4 → one.argument ≡ wrapped one.released
+
+abbrev pub AreRight : List Sent → Type 0
+AreRight [] = Unit {0}
+AreRight (one ∷ sent) = IsRight one × AreRight sent
+
+pub right_join : (xs ys : List Sent) → AreRight xs → AreRight ys → AreRight (xs ++ ys)
+right_join [] ys h g = g
+right_join (x ∷ xs) ys h g = (h.0, right_join xs ys h.1 g)
+
+-- ## Flushes
+
+pub flushes_join : (xs ys : List ClientEvent) → flushes_of (xs ++ ys) ≡ flushes_of xs + flushes_of ys
+flushes_join [] ys = omega arith
+flushes_join (x ∷ xs) ys = let r = flushes_join xs ys in omega (arith, r)
+
+-- a call on the command block flushes nothing
+unflushed : (shut : Bool) (answer : ClientCall) → is_of_commands answer ≡ true → flushes_of (client_call_events shut answer) ≡ 0
+unflushed shut (call.Sent front code argument) on = refl
+unflushed shut (call.SendFull front) on = refl
+unflushed shut (call.SendDead flags) on = refl
+unflushed true (call.SendCorrupt front rear) on = refl
+unflushed false (call.SendCorrupt front rear) on = refl
+unflushed shut (call.Status word) on = refl
+unflushed shut (call.Poke in_command word value) on = refl
+unflushed shut (call.Put front count) on = no on
+unflushed shut (call.Full front) on = no on
+unflushed shut (call.Dead flags) on = no on
+unflushed shut (call.Corrupt front rear) on = no on
+unflushed shut (call.Cleared flags) on = no on
+unflushed shut (call.Flush count) on = no on
+unflushed shut (call.Gain word) on = no on
+
+-- ## Calls
+
+-- by these commands the client came from one track to another
+pub record Sends (t u : Track) (sent : List Sent) : Type 0 where
+  pub released : u.commands.released ≡ t.commands.released ++ words_sent sent
+  pub flushes : flushes_of u.commands.events ≡ flushes_of t.commands.events
+
+same : (t : Track) → t.commands.released ≡ t.commands.released ++ []
+same t = sym (append-nil t.commands.released)
+
+call_released : (t : Track) (answer : ClientCall) → (after_call t answer).commands.released ≡ t.commands.released ++ words_sent (sent_by t answer)
+call_released t (call.Sent front code argument) = refl
+call_released t (call.SendFull front) = refl
+call_released t (call.SendDead flags) = refl
+call_released t (call.SendCorrupt front rear) = refl
+call_released t (call.Status word) = refl
+call_released t (call.Poke true word value) = refl
+call_released t (call.Poke false word value) = same t
+call_released t (call.Put front count) = same t
+call_released t (call.Full front) = same t
+call_released t (call.Dead flags) = same t
+call_released t (call.Corrupt front rear) = same t
+call_released t (call.Cleared flags) = same t
+call_released t (call.Flush count) = same t
+call_released t (call.Gain word) = same t
+
+call_flushes : (t : Track) (answer : ClientCall) → flushes_of (after_call t answer).commands.events ≡ flushes_of t.commands.events
+call_flushes t answer = by_side (is_of_commands answer) refl
+  where
+    by_side : (b : Bool) → is_of_commands answer ≡ b
+        → flushes_of (let u : Track = if b then record t { commands = called answer (released_by t answer) t.commands } else record t { stream = called answer (released_by t answer) t.stream } in u.commands.events) ≡ flushes_of t.commands.events
+    by_side true is =
+        let more : List ClientEvent = client_events_of t.commands.shape.frames t.commands.shape.base t.commands.events answer in
+        let a = flushes_join t.commands.events more in
+        let b : flushes_of more ≡ 0 = unflushed (is_some (client_kept t.commands.shape.frames t.commands.shape.base t.commands.events).shut) answer is in
+        omega (arith, a, b)
+    by_side false is = refl
+
+calls_send : (t : Track) (calls : List ClientCall) → Sends t (fold after_call t calls) (sent_by_all t calls)
+calls_send t [] = record { released = same t; flushes = refl }
+calls_send t (answer ∷ calls) =
+    let rest = calls_send (after_call t answer) calls in
+    let first : List Sent = sent_by t answer in
+    let second : List Sent = sent_by_all (after_call t answer) calls in
+    record {
+      released = rest.released ∙ ap (λ (l : List ℕ). l ++ words_sent second) (call_released t answer) ∙ append_assoc t.commands.released (words_sent first) (words_sent second)
+          ∙ ap (λ (l : List ℕ). t.commands.released ++ l) (sym (words_join first second));
+      flushes = rest.flushes ∙ call_flushes t answer;
+    }
+
+-- a turn
+pub turn_sends : (t : Track) (calls : List ClientCall) → Sends t (after_calls t calls) (sent_by_all t calls)
+turn_sends t calls = let h = calls_send t calls in record { released = h.released; flushes = h.flushes }
+
+-- ## Wants
+
+send_right : (t : Track) (sending : ClientCommand) (code argument : ℕ) → ((code == code_of sending) && (argument == argument_of t sending)) ≡ true → code ≡ 4 → argument ≡ wrapped (length t.stream.released)
+send_right t command.Open code argument h is = absurd (let e : code ≡ 1 = eqb-true code 1 (both_left _ _ h) in omega (arith, e, is))
+send_right t command.Start code argument h is = absurd (let e : code ≡ 2 = eqb-true code 2 (both_left _ _ h) in omega (arith, e, is))
+send_right t command.Pause code argument h is = absurd (let e : code ≡ 3 = eqb-true code 3 (both_left _ _ h) in omega (arith, e, is))
+send_right t command.Stop code argument h is = eqb-true argument (wrapped (length t.stream.released)) (both_right _ _ h)
+send_right t command.Flush code argument h is = absurd (let e : code ≡ 5 = eqb-true code 5 (both_left _ _ h) in omega (arith, e, is))
+send_right t command.Remove code argument h is = absurd (let e : code ≡ 6 = eqb-true code 6 (both_left _ _ h) in omega (arith, e, is))
+
+is_sent : ClientCall → Bool
+is_sent (call.Sent front code argument) = true
+is_sent _ = false
+
+sent_right : (t : Track) (w : Want) (front code argument : ℕ) → IsWanted t w (call.Sent front code argument) → code ≡ 4 → argument ≡ wrapped (length t.stream.released)
+unfolding is_sent
+sent_right t (want.Send sending) front code argument made is = send_right t sending code argument made is
+sent_right t want.Settled front code argument made is = no made
+sent_right t want.Drained front code argument made is = no made
+sent_right t want.Flush front code argument made is = no made
+sent_right t (want.Gain left right) front code argument made is = no (sym (ap is_sent made))
+sent_right t (want.Write count) front code argument made is = no made
+sent_right t want.Clear front code argument made is = no made
+sent_right t (want.Poke in_command word value) front code argument made is = no (sym (ap is_sent made))
+sent_right t want.Rest front code argument made is = absurd made
+sent_right t want.Leave front code argument made is = send_right t command.Remove code argument made is
+
+call_right : (t : Track) (w : Want) (answer : ClientCall) → IsWanted t w answer → AreRight (sent_by t answer)
+call_right t w (call.Sent front code argument) made = (sent_right t w front code argument made, tt)
+call_right t w (call.SendFull front) made = tt
+call_right t w (call.SendDead flags) made = tt
+call_right t w (call.SendCorrupt front rear) made = tt
+call_right t w (call.Status word) made = tt
+call_right t w (call.Poke in_command word value) made = tt
+call_right t w (call.Put front count) made = tt
+call_right t w (call.Full front) made = tt
+call_right t w (call.Dead flags) made = tt
+call_right t w (call.Corrupt front rear) made = tt
+call_right t w (call.Cleared flags) made = tt
+call_right t w (call.Flush count) made = tt
+call_right t w (call.Gain word) made = tt
+
+calls_right : (left : ℕ) (t : Track) (calls : List ClientCall) → AreCalls left t calls → AreRight (sent_by_all t calls)
+calls_right left t [] made = tt
+calls_right left t (answer ∷ calls) made = right_join (sent_by t answer) (sent_by_all (after_call t answer) calls) (call_right t made.1 answer made.3.0) (calls_right (left - 1) (after_call t answer) calls made.4)
+
+-- each STOP that a legal turn sends carries the number of frames released before it
+pub turn_right : (t : Track) (calls : List ClientCall) → LegalClientTurn t calls → AreRight (sent_by_all t calls)
+turn_right t calls legal = by_end t.client.ended legal
+  where
+    by_end : (b : Bool) → MatchBool b (calls ≡ []) (AreCalls most_calls t calls) → AreRight (sent_by_all t calls)
+    by_end true none = subst (λ (cs : List ClientCall). AreRight (sent_by_all t cs)) (sym none) tt
+    by_end false made = calls_right most_calls t calls made

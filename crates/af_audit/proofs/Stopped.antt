@@ -1,0 +1,138 @@
+-- In a legal round each track that is reported drained was stopped at a count that its mixer has heard to be consumed.
+use Rattle.std.specs.Prelude.{MatchBool, MatchOption}
+use Rattle.std.proofs.Common.{◌≡◌, ℕ, ◌<◌, Bool, true, false, true≢false, if◌then◌else◌, is_some, List, [], ◌∷◌, length, Option, Some, None, refl, sym, ap, ◌∙◌, subst, arith}
+use Rattle.std.proofs.lemmas.List.{length-replicate, length-map}
+use Rattle.af_base.specs.Turn.{Turn}
+use Rattle.af_life.specs.Drained.{LifeStep, Turned, DrainedIsReached, IsDrainedBy, AreLegal, kept_after, steps_of, track_steps, most_heard, reports_drained}
+use Rattle.af_life.specs.Heard.{learnt}
+use Rattle.af_life.specs.Kept.{Setup, NormalKept, new_normal, new_track, track_at, track_in}
+use Rattle.af_life.specs.declared.kept.TrackKept.{TrackKept}
+use Rattle.af_life.specs.Turn.{LegalTurn, turn_after}
+use Rattle.af_model.specs.Journals.{RoundSeen}
+use Rattle.af_runs.specs.Blocks.{Marks}
+use Rattle.af_runs.specs.Clients.{ends}
+use Rattle.af_runs.specs.Found.{LegalTurnBy, outside_of}
+use Rattle.af_runs.specs.Rounds.{LegalRound, after_round, after_turn, before_turn, early_of, found_in, late_of, loaded, turned}
+use Rattle.af_runs.specs.Runs.{Run, each_track, met, new_run, with_calls, with_cycles, with_ends, with_load, with_turn}
+use Rattle.af_runs.specs.Sessions.{Session, setup_of, spec_setting, track_count}
+use Rattle.af_judge.proofs.EntriesFollow.{cycles_beside}
+use Rattle.af_judge.proofs.SoundTurns.{at_new}
+use Rattle.af_audit.specs.Drained.{says_drained, turn_steps, round_steps}
+
+no : {A : Type 0} → false ≡ true → A
+no h = absurd (true≢false (sym h))
+
+-- ## The normal mixer of a round
+
+module _ (s : Session) (run : Run) (round : RoundSeen) where
+  pub before_normal : (before_turn s run round).normal ≡ run.normal
+  unfolding with_calls
+  before_normal = (cycles_beside s (early_of run round) (with_calls round run)).normal
+
+  loaded_normal : (o : Option Turn) (r : Run) → (loaded o r).normal ≡ r.normal
+  unfolding with_load
+  loaded_normal None r = refl
+  loaded_normal (Some e) r = refl
+
+  ends_normal : (r : Run) → (with_ends r).normal ≡ r.normal
+  unfolding with_ends
+  ends_normal r = by_end r.normal.ended
+    where
+      by_end : (b : Bool) → (if b then each_track (λ track t. record t { client = ends t.client }) r else r).normal ≡ r.normal
+      by_end true = refl
+      by_end false = refl
+
+  met_normal : (r : Run) → (met s r).normal ≡ r.normal
+  unfolding met
+  met_normal r = refl
+
+  -- the mixer after a turn, if one was made
+  abbrev pub mixer_after : Option Turn → NormalKept
+  mixer_after o = elim o as (λ o. NormalKept) [ None ↦ run.normal | Some e ↦ turn_after (setup_of s) (learnt (outside_of (setup_of s) (found_in s run round e) e)) run.normal e ]
+
+  turned_normal : (o : Option Turn) → (turned s (found_in s run round) o (before_turn s run round)).normal ≡ mixer_after o
+  unfolding with_turn
+  turned_normal None = before_normal
+  turned_normal (Some e) = ap (λ (m : NormalKept). turn_after (setup_of s) (learnt (outside_of (setup_of s) (found_in s run round e) e)) m e) before_normal
+
+  pub round_normal : (after_round s run round).normal ≡ mixer_after round.turn
+  round_normal =
+      let late : Run = with_cycles s (late_of run round) (after_turn s run round) in
+      ends_normal (met s (loaded round.turn late)) ∙ met_normal (loaded round.turn late) ∙ loaded_normal round.turn late ∙ (cycles_beside s (late_of run round) (after_turn s run round)).normal ∙ turned_normal round.turn
+
+-- ## The turns so far
+
+-- what holds of every list of legal turns
+abbrev pub Reaches : Type 0
+Reaches = (c : Setup) (m : NormalKept) (turn : Turned) (turns : List Turned) (i consumed : ℕ) → DrainedIsReached c m turn turns i consumed
+
+-- legal turns that led to this mixer, with the steps of the track
+pub record AreTurns (s : Session) (track : ℕ) (run : Run) (steps : List LifeStep) : Type 0 where
+  pub turns : List Turned
+  pub legal : AreLegal (setup_of s) (new_normal (setup_of s)) turns
+  pub mixer : kept_after (setup_of s) (new_normal (setup_of s)) turns ≡ run.normal
+  pub made : steps_of (setup_of s) (new_normal (setup_of s)) turns track ≡ steps
+
+pub new_turns : (s : Session) (track : ℕ) → AreTurns s track (new_run s) []
+new_turns s track = record { turns = []; legal = tt; mixer = refl; made = refl }
+
+pub track_new : (s : Session) (track : ℕ) → track < track_count s → (track < length (new_normal (setup_of s)).tracks) × (track_at (new_normal (setup_of s)).tracks track ≡ new_track)
+track_new s track low = (
+  (let a : length (new_normal (setup_of s)).tracks ≡ length (setup_of s).settings = length-replicate (length (setup_of s).settings) new_track in let b : length (setup_of s).settings ≡ track_count s = length-map s.script.tracks spec_setting in omega (arith, a, b, low)),
+  at_new (length (setup_of s).settings) track,
+)
+
+module _ (cut : Bool) (s : Session) (marks : Marks) (run : Run) (round : RoundSeen) (legal : LegalRound cut s marks run round) where
+  -- the turn that it has, if it has one
+  pub turn_legal : (e : Turn) → round.turn ≡ Some e → LegalTurnBy (setup_of s) marks (found_in s run round e) run.normal e
+  turn_legal e is = by_ended run.normal.ended legal.turns.normal
+    where
+      by_ended : (b : Bool) → MatchBool b (round.turn ≡ None) (MatchOption round.turn ⊥ (λ e. LegalTurnBy (setup_of s) marks (found_in s run round e) run.normal e)) → LegalTurnBy (setup_of s) marks (found_in s run round e) run.normal e
+      by_ended true none = no (sym (ap is_some none) ∙ ap is_some is)
+      by_ended false turn = subst (λ (o : Option Turn). MatchOption o ⊥ (λ e. LegalTurnBy (setup_of s) marks (found_in s run round e) run.normal e)) is turn
+
+  module _ (track : ℕ) (steps : List LifeStep) (h : AreTurns s track run steps) where
+    abbrev c : Setup
+    c = setup_of s
+
+    abbrev start : NormalKept
+    start = new_normal c
+
+    module _ (e : Turn) (is : round.turn ≡ Some e) where
+      abbrev by : LegalTurnBy c marks (found_in s run round e) run.normal e
+      by = turn_legal e is
+
+      abbrev turn : Turned
+      turn = (by.outside, e)
+
+      same_learnt : learnt by.outside ≡ learnt (outside_of c (found_in s run round e) e)
+      same_learnt = ap learnt by.found
+
+      same_steps : track_steps c (learnt by.outside) (kept_after c start h.turns) e track (steps_of c start h.turns track) ≡ turn_steps s run round e track steps
+      same_steps = λ i. track_steps c (same_learnt i) (h.mixer i) e track (h.made i)
+
+      now_legal : AreLegal c start (turn ∷ h.turns)
+      now_legal = (subst (λ (m : NormalKept). LegalTurn c by.outside m e) (sym h.mixer) by.legal, h.legal)
+
+      now_mixer : kept_after c start (turn ∷ h.turns) ≡ turn_after c (learnt (outside_of c (found_in s run round e) e)) run.normal e
+      now_mixer = λ i. turn_after c (same_learnt i) (h.mixer i) e
+
+      -- where its status says drained
+      pub turn_drained : Reaches → track < track_count s → reports_drained (track_in e track) ≡ true → IsDrainedBy (turn_steps s run round e track steps)
+      turn_drained reached low drained =
+          let new = track_new s track low in
+          subst IsDrainedBy same_steps (reached c start turn h.turns track (most_heard (steps_of c start (turn ∷ h.turns) track)) new.0 (ap (λ (t : TrackKept). t.life) new.1) now_legal (omega arith) drained)
+
+    by_turn : (o : Option Turn) → round.turn ≡ o → (after_round s run round).normal ≡ mixer_after s run round o → AreTurns s track (after_round s run round) (round_steps s run round o track steps)
+    by_turn None is same = record { turns = h.turns; legal = h.legal; mixer = h.mixer ∙ sym same; made = h.made }
+    by_turn (Some e) is same = record { turns = turn e is ∷ h.turns; legal = now_legal e is; mixer = now_mixer e is ∙ sym same; made = same_steps e is }
+
+    pub round_turns : AreTurns s track (after_round s run round) (round_steps s run round round.turn track steps)
+    round_turns = by_turn round.turn refl (round_normal s run round)
+
+    drained_by : Reaches → track < track_count s → (o : Option Turn) → round.turn ≡ o → says_drained o track ≡ true → IsDrainedBy (round_steps s run round o track steps)
+    drained_by reached low None is says = no says
+    drained_by reached low (Some e) is says = turn_drained e is reached low says
+
+    pub round_drained : Reaches → track < track_count s → says_drained round.turn track ≡ true → IsDrainedBy (round_steps s run round round.turn track steps)
+    round_drained reached low = drained_by reached low round.turn refl
