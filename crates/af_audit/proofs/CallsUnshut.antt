@@ -1,5 +1,5 @@
--- Where a client's proxies aren't shut after its calls, none of these was answered Corrupt.
-use Rattle.std.proofs.Common.{◌≡◌, ℕ, ◌-◌, ◌<◌, not, Bool, true, false, if◌then◌else◌, is_some, fold, MatchBool, MatchOption, List, [], ◌∷◌, Option, Some, None, refl, sym, ap, ◌∙◌, subst}
+-- Where a client's proxy of a block isn't shut after its calls, none of these found that block's words not to fit.
+use Rattle.std.proofs.Common.{◌≡◌, ℕ, ◌-◌, ◌<◌, not, Bool, true, false, true≢false, if◌then◌else◌, is_some, fold, MatchBool, MatchOption, List, [], ◌∷◌, Option, Some, None, refl, sym, ap, ◌∙◌, subst}
 use Rattle.std.proofs.lemmas.Grind.{fold-append}
 use Rattle.std.proofs.lemmas.Option.{none-some}
 use Rattle.af_base.specs.declared.event.ClientCall.{ClientCall}
@@ -16,10 +16,14 @@ use Rattle.af_audit.specs.Spared.{is_corrupt, none_corrupt}
 abbrev pub kept_of : Side → ClientKept
 kept_of b = client_kept b.shape.frames b.shape.base b.events
 
--- neither proxy of a client is shut
-pub record AreUnshut (t : Track) : Type 0 where
-  pub stream : (kept_of t.stream).shut ≡ None
-  pub commands : (kept_of t.commands).shut ≡ None
+-- one of its two sides: that of the commands, or of the stream
+abbrev pub side_on : Bool → Track → Side
+side_on true t = t.commands
+side_on false t = t.stream
+
+-- its proxy there isn't shut
+abbrev pub IsOpen : Bool → Track → Type 0
+IsOpen commands t = (kept_of (side_on commands t)).shut ≡ None
 
 -- ## One call
 
@@ -41,52 +45,82 @@ module _ (frames cells base : ℕ) (es : List ClientEvent) (asked : ℕ) where
   before = client_kept frames base es
 
   -- where the proxy isn't shut after a call it wasn't before it, and the call wasn't Corrupt
-  unshut_call : (answer : ClientCall) → ClientAnswers frames cells base es asked answer → (then_kept frames before before.shut answer).shut ≡ None → (before.shut ≡ None) × (is_corrupt answer ≡ false)
-  unshut_call (call.Put front count) a fine = (a.0.0, refl)
-  unshut_call (call.Full front) a fine = (a.0, refl)
-  unshut_call (call.Dead flags) a fine = (a.0, refl)
-  unshut_call (call.Corrupt front rear) a fine = absurd (shuts frames before before.shut front rear (call.Corrupt front rear) (λ was. refl) refl a fine)
-  unshut_call (call.Cleared flags) a fine = (fine, refl)
-  unshut_call (call.Flush count) a fine = (fine, refl)
-  unshut_call (call.Gain word) a fine = (fine, refl)
-  unshut_call (call.Sent front code argument) a fine = (a.0, refl)
-  unshut_call (call.SendFull front) a fine = (a.0, refl)
-  unshut_call (call.SendDead flags) a fine = (a.0, refl)
-  unshut_call (call.SendCorrupt front rear) a fine = absurd (shuts frames before before.shut front rear (call.SendCorrupt front rear) (λ was. refl) refl a fine)
-  unshut_call (call.Status word) a fine = (fine, refl)
-  unshut_call (call.Poke command word value) a fine = (fine, refl)
+  unshut_call : (commands : Bool) (answer : ClientCall) → ClientAnswers frames cells base es asked answer → (then_kept frames before before.shut answer).shut ≡ None → (before.shut ≡ None) × (is_corrupt commands answer ≡ false)
+  unshut_call commands (call.Put front count) a fine = (a.0.0, refl)
+  unshut_call commands (call.Full front) a fine = (a.0, refl)
+  unshut_call commands (call.Dead flags) a fine = (a.0, refl)
+  unshut_call commands (call.Corrupt front rear) a fine = absurd (shuts frames before before.shut front rear (call.Corrupt front rear) (λ was. refl) refl a fine)
+  unshut_call commands (call.Cleared flags) a fine = (fine, refl)
+  unshut_call commands (call.Flush count) a fine = (fine, refl)
+  unshut_call commands (call.Gain word) a fine = (fine, refl)
+  unshut_call commands (call.Sent front code argument) a fine = (a.0, refl)
+  unshut_call commands (call.SendFull front) a fine = (a.0, refl)
+  unshut_call commands (call.SendDead flags) a fine = (a.0, refl)
+  unshut_call commands (call.SendCorrupt front rear) a fine = absurd (shuts frames before before.shut front rear (call.SendCorrupt front rear) (λ was. refl) refl a fine)
+  unshut_call commands (call.Status word) a fine = (fine, refl)
+  unshut_call commands (call.Poke command word value) a fine = (fine, refl)
 
 -- the same of a side
-unshut_side : (b : Side) (asked : ℕ) (answer : ClientCall) (words : List ℕ) → AnswersOn b asked answer → (kept_of (called answer words b)).shut ≡ None → ((kept_of b).shut ≡ None) × (is_corrupt answer ≡ false)
-unshut_side b asked answer words a fine =
-    unshut_call b.shape.frames b.shape.cells b.shape.base b.events asked answer a
+unshut_side : (commands : Bool) (b : Side) (asked : ℕ) (answer : ClientCall) (words : List ℕ) → AnswersOn b asked answer → (kept_of (called answer words b)).shut ≡ None → ((kept_of b).shut ≡ None) × (is_corrupt commands answer ≡ false)
+unshut_side commands b asked answer words a fine =
+    unshut_call b.shape.frames b.shape.cells b.shape.base b.events asked commands answer a
     (sym (ap (λ (x : ClientKept). x.shut) (fold-append (client_keeps b.shape.frames) (client_begins b.shape.base) b.events (client_call_events (is_some (kept_of b).shut) answer))) ∙ fine)
+
+-- a call on the other block is no Corrupt of this one
+elsewhere : (commands : Bool) (answer : ClientCall) → is_of_commands answer ≡ not commands → is_corrupt commands answer ≡ false
+elsewhere true (call.SendCorrupt front rear) other = absurd (true≢false other)
+elsewhere false (call.SendCorrupt front rear) other = refl
+elsewhere true (call.Corrupt front rear) other = refl
+elsewhere false (call.Corrupt front rear) other = absurd (true≢false (sym other))
+elsewhere commands (call.Put front count) other = refl
+elsewhere commands (call.Full front) other = refl
+elsewhere commands (call.Dead flags) other = refl
+elsewhere commands (call.Cleared flags) other = refl
+elsewhere commands (call.Flush count) other = refl
+elsewhere commands (call.Gain word) other = refl
+elsewhere commands (call.Sent front code argument) other = refl
+elsewhere commands (call.SendFull front) other = refl
+elsewhere commands (call.SendDead flags) other = refl
+elsewhere commands (call.Status word) other = refl
+elsewhere commands (call.Poke command word value) other = refl
 
 -- and of a track
 module _ (t : Track) (wanted : Want) (answer : ClientCall) where
-  by_side : (b : Bool) → AnswersOn (if b then t.commands else t.stream) (asked_by wanted) answer
-      → AreUnshut (if b then record t { commands = called answer (released_by t answer) t.commands } else record t { stream = called answer (released_by t answer) t.stream }) → AreUnshut t × (is_corrupt answer ≡ false)
-  by_side true a fine = let s = unshut_side t.commands (asked_by wanted) answer (released_by t answer) a fine.commands in (record { stream = fine.stream; commands = s.0 }, s.1)
-  by_side false a fine = let s = unshut_side t.stream (asked_by wanted) answer (released_by t answer) a fine.stream in (record { stream = s.0; commands = fine.commands }, s.1)
+  by_side : (commands b : Bool) → is_of_commands answer ≡ b → AnswersOn (if b then t.commands else t.stream) (asked_by wanted) answer
+      → IsOpen commands (if b then record t { commands = called answer (released_by t answer) t.commands } else record t { stream = called answer (released_by t answer) t.stream }) → IsOpen commands t × (is_corrupt commands answer ≡ false)
+  by_side true true on a fine = unshut_side true t.commands (asked_by wanted) answer (released_by t answer) a fine
+  by_side true false on a fine = (fine, elsewhere true answer on)
+  by_side false true on a fine = (fine, elsewhere false answer on)
+  by_side false false on a fine = unshut_side false t.stream (asked_by wanted) answer (released_by t answer) a fine
 
-  unshut_made : IsMade t wanted answer → AreUnshut (with_call t answer) → AreUnshut t × (is_corrupt answer ≡ false)
-  unshut_made made fine = by_side (is_of_commands answer) made.1 fine
+  unshut_made : (commands : Bool) → IsMade t wanted answer → IsOpen commands (with_call t answer) → IsOpen commands t × (is_corrupt commands answer ≡ false)
+  unshut_made commands made fine = by_side commands (is_of_commands answer) refl made.1 fine
 
 -- ## A turn
 
-unshut_calls : (left : ℕ) (t : Track) (calls : List ClientCall) → AreCalls left t calls → AreUnshut (fold after_call t calls) → AreUnshut t × (none_corrupt calls ≡ true)
-unshut_calls left t [] are fine = (fine, refl)
-unshut_calls left t (answer ∷ calls) are fine =
-    let rest = unshut_calls (left - 1) (after_call t answer) calls are.4 fine in
-    let one = unshut_made t are.1 answer are.3 (record { stream = rest.0.stream; commands = rest.0.commands }) in
-    (one.0, both_are (not (is_corrupt answer)) (none_corrupt calls) (ap not one.1) rest.1)
+-- what follows a call leaves both sides
+same_sides : (commands : Bool) (t : Track) (answer : ClientCall) → IsOpen commands (after_call t answer) → IsOpen commands (with_call t answer)
+same_sides true t answer h = h
+same_sides false t answer h = h
 
--- where neither proxy is shut after a legal turn, neither was before it, and no call was Corrupt
-pub unshut_turn : (t : Track) (calls : List ClientCall) → LegalClientTurn t calls → AreUnshut (after_calls t calls) → AreUnshut t × (none_corrupt calls ≡ true)
-unshut_turn t calls legal fine = by_ended t.client.ended legal
+unshut_calls : (commands : Bool) (left : ℕ) (t : Track) (calls : List ClientCall) → AreCalls left t calls → IsOpen commands (fold after_call t calls) → IsOpen commands t × (none_corrupt commands calls ≡ true)
+unshut_calls commands left t [] are fine = (fine, refl)
+unshut_calls commands left t (answer ∷ calls) are fine =
+    let rest = unshut_calls commands (left - 1) (after_call t answer) calls are.4 fine in
+    let one = unshut_made t are.1 answer commands are.3 (same_sides commands t answer rest.0) in
+    (one.0, both_are (not (is_corrupt commands answer)) (none_corrupt commands calls) (ap not one.1) rest.1)
+
+all_sides : (commands : Bool) (t : Track) (calls : List ClientCall) → IsOpen commands (after_calls t calls) → IsOpen commands (fold after_call t calls)
+all_sides true t calls h = h
+all_sides false t calls h = h
+
+-- where a proxy isn't shut after a legal turn, it wasn't before it, and no call on its block was Corrupt
+pub unshut_turn : (commands : Bool) (t : Track) (calls : List ClientCall) → LegalClientTurn t calls → IsOpen commands (after_calls t calls) → IsOpen commands t × (none_corrupt commands calls ≡ true)
+unshut_turn commands t calls legal fine = by_ended t.client.ended legal
   where
-    by_ended : (ended : Bool) → MatchBool ended (calls ≡ []) (AreCalls most_calls t calls) → AreUnshut t × (none_corrupt calls ≡ true)
-    by_ended true none =
-        let all : AreUnshut (fold after_call t calls) = record { stream = fine.stream; commands = fine.commands } in
-        (subst (λ cs. AreUnshut (fold after_call t cs)) none all, ap none_corrupt none)
-    by_ended false are = unshut_calls most_calls t calls are (record { stream = fine.stream; commands = fine.commands })
+    all : IsOpen commands (fold after_call t calls)
+    all = all_sides commands t calls fine
+
+    by_ended : (ended : Bool) → MatchBool ended (calls ≡ []) (AreCalls most_calls t calls) → IsOpen commands t × (none_corrupt commands calls ≡ true)
+    by_ended true none = (subst (λ cs. IsOpen commands (fold after_call t cs)) none all, ap (none_corrupt commands) none)
+    by_ended false are = unshut_calls commands most_calls t calls are all

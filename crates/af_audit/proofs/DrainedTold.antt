@@ -28,7 +28,7 @@ no h = absurd (true≢false (sym h))
 
 -- what is kept of a track whose command block has no poke
 record SendsSo (n : ℕ) (run : Run) (steps : List LifeStep) (sent : List Sent) : Type 0 where
-  trim : IsTrim (told_at run n)
+  trim : IsTrim true (told_at run n)
   so : SentSo (commands_at n run) steps sent
 
 -- none of the calls of these rounds pokes the command block
@@ -44,7 +44,7 @@ neither false b h = (refl, h)
 module _ (s : Session) (marks : Marks) (tracks n : ℕ) (low : n < track_count s) (run : Run) (round : RoundSeen) (steps : List LifeStep) (sent : List Sent) (form : IsRound tracks round) (legal : LegalRound false s marks run round) where
   sends_round : n < length run.tracks → list_any (is_poke_on true) (calls_in round n) ≡ false → SendsSo n run steps sent → SendsSo n (after_round s run round) (round_steps s run round round.turn n steps) (sent ++ sent_in run round n)
   sends_round there calm h =
-      let trim = (spares_round false s marks run round tracks n form legal low there calm).trim h.trim in
+      let trim = (spares_round true false s marks run round tracks n form legal low there (λ on. calm)).trim h.trim in
       record { trim = trim; so = sent_round s run round n there false marks legal low steps sent trim h.so }
 
 -- ## All rounds
@@ -69,7 +69,7 @@ rounds_told reached s script marks tracks n lawful (round ∷ rounds) run steps 
 
 new_sends : (s : Session) (n : ℕ) → n < track_count s → SendsSo n (new_run s) [] []
 new_sends s n low = record {
-  trim = subst IsTrim (sym (told_new s n low)) (record { rears = tt; tame = refl; shape = refl });
+  trim = subst (IsTrim true) (sym (told_new s n low)) (record { rears = tt; tame = λ on. refl; shape = refl });
   so = subst (λ (t : TrackTold). SentSo t.commands [] []) (sym (told_new s n low)) (record { none = refl; calm = refl; released = refl; right = tt; taken = refl; begins = (0, refl) });
 }
 

@@ -1,4 +1,4 @@
--- Each legal round spares a track whose proxies aren't shut after it.
+-- Each legal round spares a block whose proxies aren't shut after it.
 use Rattle.std.proofs.Common.{◌≡◌, ℕ, ◌<◌, ◌||◌, Bool, true, false, true≢false, if◌then◌else◌, List, [], ◌∷◌, length, All, Option, Some, None, refl, sym, ◌∙◌, subst, arith}
 use Rattle.std.specs.List.{list_any}
 use Rattle.std.proofs.lemmas.List.Elements.{All-head, All-tail}
@@ -26,99 +26,101 @@ use Rattle.af_audit.proofs.RunStands.{entry_looks, fast_parts, rises}
 use Rattle.af_audit.proofs.Stopped.{before_normal, turn_legal}
 use Rattle.af_audit.proofs.TrackUnshut.{IsTrim, IsUnshut, trim_called, trim_ended, trim_met, trim_mixed, trim_turned, unshut_called, unshut_ended, unshut_met, unshut_mixed, unshut_turned}
 
--- From one run to another the track is kept trim; and where its proxies aren't shut in the second, they aren't in the first, and this holds
-pub record Spares (n : ℕ) (a b : Run) (Spared : Type 0) : Type 0 where
+-- From one run to another the track is kept trim; and where the proxies of its block aren't shut in the second, they aren't in the first, and this holds
+pub record Spares (commands : Bool) (n : ℕ) (a b : Run) (Spared : Type 0) : Type 0 where
   pub there : n < length b.tracks
-  pub trim : IsTrim (told_at a n) → IsTrim (told_at b n)
-  pub unshut : IsTrim (told_at a n) → IsUnshut (told_at b n) → IsUnshut (told_at a n) × Spared
+  pub trim : IsTrim commands (told_at a n) → IsTrim commands (told_at b n)
+  pub unshut : IsTrim commands (told_at a n) → IsUnshut commands (told_at b n) → IsUnshut commands (told_at a n) × Spared
 
--- one step after another
-spares_both : (n : ℕ) (a b c : Run) (S R : Type 0) → Spares n a b S → Spares n b c R → Spares n a c (S × R)
-spares_both n a b c S R f g = record {
-  there = g.there;
-  trim = λ h. g.trim (f.trim h);
-  unshut = λ h fine. (let two = g.unshut (f.trim h) fine in let one = f.unshut h two.0 in (one.0, (one.1, two.1)));
-}
+module _ (commands : Bool) where
+  -- one step after another
+  spares_both : (n : ℕ) (a b c : Run) (S R : Type 0) → Spares commands n a b S → Spares commands n b c R → Spares commands n a c (S × R)
+  spares_both n a b c S R f g = record {
+    there = g.there;
+    trim = λ h. g.trim (f.trim h);
+    unshut = λ h fine. (let two = g.unshut (f.trim h) fine in let one = f.unshut h two.0 in (one.0, (one.1, two.1)));
+  }
 
--- what is spared means something else as well
-spares_as : (n : ℕ) (a b : Run) (S R : Type 0) → (S → R) → Spares n a b S → Spares n a b R
-spares_as n a b S R f h = record { there = h.there; trim = h.trim; unshut = λ t fine. (let one = h.unshut t fine in (one.0, f one.1)) }
+  -- what is spared means something else as well
+  spares_as : (n : ℕ) (a b : Run) (S R : Type 0) → (S → R) → Spares commands n a b S → Spares commands n a b R
+  spares_as n a b S R f h = record { there = h.there; trim = h.trim; unshut = λ t fine. (let one = h.unshut t fine in (one.0, f one.1)) }
 
--- the track is the same
-spares_same : (n : ℕ) (a b : Run) → n < length b.tracks → told_at b n ≡ told_at a n → Spares n a b (Unit {0})
-spares_same n a b low same = record { there = low; trim = subst IsTrim (sym same); unshut = λ t fine. (subst IsUnshut same fine, tt) }
+  -- the track is the same
+  spares_same : (n : ℕ) (a b : Run) → n < length b.tracks → told_at b n ≡ told_at a n → Spares commands n a b (Unit {0})
+  spares_same n a b low same = record { there = low; trim = subst (IsTrim commands) (sym same); unshut = λ t fine. (subst (IsUnshut commands) same fine, tt) }
 
--- the track is changed so
-spares_by : (n : ℕ) (a b : Run) (t : TrackTold) (S : Type 0) → n < length b.tracks → told_at b n ≡ t → (IsTrim (told_at a n) → IsTrim t) → (IsTrim (told_at a n) → IsUnshut t → IsUnshut (told_at a n) × S) → Spares n a b S
-spares_by n a b t S low is trim unshut = record { there = low; trim = λ h. subst IsTrim (sym is) (trim h); unshut = λ h fine. unshut h (subst IsUnshut is fine) }
+  -- the track is changed so
+  spares_by : (n : ℕ) (a b : Run) (t : TrackTold) (S : Type 0) → n < length b.tracks → told_at b n ≡ t → (IsTrim commands (told_at a n) → IsTrim commands t)
+      → (IsTrim commands (told_at a n) → IsUnshut commands t → IsUnshut commands (told_at a n) × S) → Spares commands n a b S
+  spares_by n a b t S low is trim unshut = record { there = low; trim = λ h. subst (IsTrim commands) (sym is) (trim h); unshut = λ h fine. unshut h (subst (IsUnshut commands) is fine) }
 
 -- ## The steps of a round
 
-module _ (s : Session) (marks : Marks) (n : ℕ) where
-  spares_calls : (round : RoundSeen) (run : Run) → n < length run.tracks → list_any (is_poke_on true) (calls_in round n) ≡ false → LegalClientTurn (sides_of (told_at run n)) (calls_in round n)
-      → Spares n run (with_calls round run) (none_corrupt (calls_in round n) ≡ true)
-  spares_calls round run low calm legal = spares_by n run (with_calls round run) _ _ (let m = calls_long round run in omega (arith, m, low)) (told_called round run n low)
-      (trim_called (calls_in round n) (told_at run n) calm) (λ h fine. unshut_called (calls_in round n) (told_at run n) legal fine)
+module _ (commands : Bool) (s : Session) (marks : Marks) (n : ℕ) where
+  spares_calls : (round : RoundSeen) (run : Run) → n < length run.tracks → (commands ≡ true → list_any (is_poke_on true) (calls_in round n) ≡ false) → LegalClientTurn (sides_of (told_at run n)) (calls_in round n)
+      → Spares commands n run (with_calls round run) (none_corrupt commands (calls_in round n) ≡ true)
+  spares_calls round run low calm legal = spares_by commands n run (with_calls round run) _ _ (let m = calls_long round run in omega (arith, m, low)) (told_called round run n low)
+      (trim_called commands (calls_in round n) (told_at run n) calm) (λ h fine. unshut_called commands (calls_in round n) (told_at run n) legal fine)
 
-  spares_cycle : (run : Run) (e : EntrySeen) → n < length run.tracks → LegalEntry s marks (with_poll s e.entry.state run) e → Spares n run (with_cycle s run e) (is_spared_by s (with_poll s e.entry.state run) e n ≡ true)
+  spares_cycle : (run : Run) (e : EntrySeen) → n < length run.tracks → LegalEntry s marks (with_poll s e.entry.state run) e → Spares commands n run (with_cycle s run e) (commands ≡ false → is_spared_by s (with_poll s e.entry.state run) e n ≡ true)
   unfolding with_mix with_poll
   spares_cycle run e low legal =
       let r : Run = with_poll s e.entry.state run in
       let x : FastState = state_for s r e.entry.state in
-      spares_by n run (with_cycle s run e) (mixed_track s x e n (told_at r n)) (is_spared_by s r e n ≡ true) (let b = cycle_beside s run e in let m = b.many in omega (arith, m, low)) (told_each (mixed_track s x e) r n low)
-      (trim_mixed s x e n (told_at r n)) (λ h fine. unshut_mixed s x e n (told_at r n) (entry_looks s marks r e legal n) fine)
+      spares_by commands n run (with_cycle s run e) (mixed_track s x e n (told_at r n)) (commands ≡ false → is_spared_by s r e n ≡ true) (let b = cycle_beside s run e in let m = b.many in omega (arith, m, low)) (told_each (mixed_track s x e) r n low)
+      (trim_mixed commands s x e n (told_at r n)) (λ h fine. unshut_mixed commands s x e n (told_at r n) (entry_looks s marks r e legal n) fine)
 
-  spares_cycles : (es : List EntrySeen) (run : Run) → n < length run.tracks → LegalEntries s marks run es → Spares n run (with_cycles s es run) (is_spared_by_all s run es n ≡ true)
-  spares_cycles [] run low legal = spares_as n run run (Unit {0}) _ (λ u. refl) (spares_same n run run low refl)
+  spares_cycles : (es : List EntrySeen) (run : Run) → n < length run.tracks → LegalEntries s marks run es → Spares commands n run (with_cycles s es run) (commands ≡ false → is_spared_by_all s run es n ≡ true)
+  spares_cycles [] run low legal = spares_as commands n run run (Unit {0}) _ (λ u on. refl) (spares_same commands n run run low refl)
   spares_cycles (e ∷ es) run low legal =
       let one = spares_cycle run e low legal.0 in
-      spares_as n run (with_cycles s es (with_cycle s run e)) _ _ (λ both. both_are (is_spared_by s (with_poll s e.entry.state run) e n) (is_spared_by_all s (with_cycle s run e) es n) both.0 both.1)
-      (spares_both n run (with_cycle s run e) (with_cycles s es (with_cycle s run e)) _ _ one (spares_cycles es (with_cycle s run e) one.there legal.1))
+      spares_as commands n run (with_cycles s es (with_cycle s run e)) _ _ (λ both on. both_are (is_spared_by s (with_poll s e.entry.state run) e n) (is_spared_by_all s (with_cycle s run e) es n) (both.0 on) (both.1 on))
+      (spares_both commands n run (with_cycle s run e) (with_cycles s es (with_cycle s run e)) _ _ one (spares_cycles es (with_cycle s run e) one.there legal.1))
 
   spares_turn : (f : TurnFound) (e : Turn) (m : NormalKept) (run : Run) → n < length run.tracks → f.streams n ≡ (told_at run n).stream → f.commands n ≡ (told_at run n).commands → run.normal ≡ m → TracksRise 0 e.mixes
-      → LegalTurnBy (setup_of s) marks f m e → Spares n run (with_turn s f e run) (is_spared_in_turn e n ≡ true)
+      → LegalTurnBy (setup_of s) marks f m e → Spares commands n run (with_turn s f e run) (is_spared_in_turn commands e n ≡ true)
   unfolding with_turn
-  spares_turn f e m run low streams commands same rise legal =
+  spares_turn f e m run low streams sent same rise legal =
       let c = setup_of s in
       let t : TrackTold = told_at run n in
       let before : TrackTold = record t { stream = f.streams n; commands = f.commands n } in
-      let is : before ≡ t = λ i. record t { stream = streams i; commands = commands i } in
+      let is : before ≡ t = λ i. record t { stream = streams i; commands = sent i } in
       let told : told_at (with_turn s f e run) n ≡ turned_track c (outside_of c f e) m e n before =
       each_at (turned_track c (outside_of c f e) run.normal e) 0 run.tracks n n no_track low (omega arith)
       ∙ (λ i. turned_track c (outside_of c f e) (same i) e n (sym is i)) in
-      spares_by n run (with_turn s f e run) _ _ (let m = each_long (turned_track c (outside_of c f e) run.normal e) 0 run.tracks in omega (arith, m, low)) told
-      (λ h. trim_turned c f m e legal.outside n legal.found rise legal.legal t (subst IsTrim (sym is) h))
-      (λ h fine. (let one = unshut_turned c f m e legal.outside n legal.found rise legal.legal t (subst IsTrim (sym is) h) fine in (subst IsUnshut is one.0, one.1)))
+      spares_by commands n run (with_turn s f e run) _ _ (let m = each_long (turned_track c (outside_of c f e) run.normal e) 0 run.tracks in omega (arith, m, low)) told
+      (λ h. trim_turned c f m e legal.outside n legal.found rise legal.legal t commands (subst (IsTrim commands) (sym is) h))
+      (λ h fine. (let one = unshut_turned c f m e legal.outside n legal.found rise legal.legal t commands (subst (IsTrim commands) (sym is) h) fine in (subst (IsUnshut commands) is one.0, one.1)))
 
-  spares_loaded : (o : Option Turn) (run : Run) → n < length run.tracks → Spares n run (loaded o run) (Unit {0})
+  spares_loaded : (o : Option Turn) (run : Run) → n < length run.tracks → Spares commands n run (loaded o run) (Unit {0})
   unfolding with_load
-  spares_loaded None run low = spares_same n run run low refl
-  spares_loaded (Some e) run low = spares_same n run (with_load e run) low refl
+  spares_loaded None run low = spares_same commands n run run low refl
+  spares_loaded (Some e) run low = spares_same commands n run (with_load e run) low refl
 
-  spares_met : (run : Run) → n < length run.tracks → Spares n run (met s run) (Unit {0})
-  spares_met run low = spares_by n run (met s run) _ _ (let m = met_many s run in omega (arith, m, low)) (met_at s run n low)
-      (trim_met (takes_part s run n) run.handed (told_at run n)) (λ h fine. (unshut_met (takes_part s run n) run.handed (told_at run n) fine, tt))
+  spares_met : (run : Run) → n < length run.tracks → Spares commands n run (met s run) (Unit {0})
+  spares_met run low = spares_by commands n run (met s run) _ _ (let m = met_many s run in omega (arith, m, low)) (met_at s run n low)
+      (trim_met commands (takes_part s run n) run.handed (told_at run n)) (λ h fine. (unshut_met commands (takes_part s run n) run.handed (told_at run n) fine, tt))
 
-  spares_ends : (run : Run) → n < length run.tracks → Spares n run (with_ends run) (Unit {0})
+  spares_ends : (run : Run) → n < length run.tracks → Spares commands n run (with_ends run) (Unit {0})
   unfolding with_ends
   spares_ends run low = by_end run.normal.ended
     where
-      by_end : (b : Bool) → Spares n run (if b then each_track (λ track t. record t { client = ends t.client }) run else run) (Unit {0})
-      by_end true = spares_by n run (each_track (λ track t. record t { client = ends t.client }) run) _ _ (let m = each_long (λ track t. record t { client = ends t.client }) 0 run.tracks in omega (arith, m, low))
-          (told_each (λ track t. record t { client = ends t.client }) run n low) (trim_ended (told_at run n)) (λ h fine. (unshut_ended (told_at run n) fine, tt))
-      by_end false = spares_same n run run low refl
+      by_end : (b : Bool) → Spares commands n run (if b then each_track (λ track t. record t { client = ends t.client }) run else run) (Unit {0})
+      by_end true = spares_by commands n run (each_track (λ track t. record t { client = ends t.client }) run) _ _ (let m = each_long (λ track t. record t { client = ends t.client }) 0 run.tracks in omega (arith, m, low))
+          (told_each (λ track t. record t { client = ends t.client }) run n low) (trim_ended commands (told_at run n)) (λ h fine. (unshut_ended commands (told_at run n) fine, tt))
+      by_end false = spares_same commands n run run low refl
 
 -- ## A round
 
-module _ (cut : Bool) (s : Session) (marks : Marks) (run : Run) (round : RoundSeen) (tracks n : ℕ) (form : IsRound tracks round) (legal : LegalRound cut s marks run round) where
+module _ (commands cut : Bool) (s : Session) (marks : Marks) (run : Run) (round : RoundSeen) (tracks n : ℕ) (form : IsRound tracks round) (legal : LegalRound cut s marks run round) where
   -- the turn finds the blocks as the entries before it left them
-  spares_turned : (o : Option Turn) → round.turn ≡ o → n < length (before_turn s run round).tracks → Spares n (before_turn s run round) (turned s (found_in s run round) o (before_turn s run round)) (is_spared_by_turn o n ≡ true)
-  spares_turned None is low = spares_as n _ _ (Unit {0}) _ (λ u. refl) (spares_same n (before_turn s run round) (before_turn s run round) low refl)
-  spares_turned (Some e) is low = spares_turn s marks n (found_in s run round e) e run.normal (before_turn s run round) low refl
+  spares_turned : (o : Option Turn) → round.turn ≡ o → n < length (before_turn s run round).tracks → Spares commands n (before_turn s run round) (turned s (found_in s run round) o (before_turn s run round)) (is_spared_by_turn commands o n ≡ true)
+  spares_turned None is low = spares_as commands n _ _ (Unit {0}) _ (λ u. refl) (spares_same commands n (before_turn s run round) (before_turn s run round) low refl)
+  spares_turned (Some e) is low = spares_turn commands s marks n (found_in s run round e) e run.normal (before_turn s run round) low refl
       (let b = cycles_beside s (early_of run round) (with_calls round run) in sym (b.commands n))
       (before_normal s run round) (rises cut s marks run round tracks n form legal e is) (turn_legal cut s marks run round legal e is)
 
-  pub spares_round : n < track_count s → n < length run.tracks → list_any (is_poke_on true) (calls_in round n) ≡ false → Spares n run (after_round s run round) (IsSparedIn s run round n)
+  pub spares_round : n < track_count s → n < length run.tracks → (commands ≡ true → list_any (is_poke_on true) (calls_in round n) ≡ false) → Spares commands n run (after_round s run round) (IsSparedIn commands s run round n)
   spares_round track low calm =
       let start = with_calls round run in
       let before = before_turn s run round in
@@ -126,20 +128,20 @@ module _ (cut : Bool) (s : Session) (marks : Marks) (run : Run) (round : RoundSe
       let late = with_cycles s (late_of run round) after in
       let played_all = all_played s run round in
       let entries = fast_parts cut s marks run round tracks n form legal in
-      let a = spares_calls s marks n round run low calm (legal.turns.clients n track) in
-      let b = spares_cycles s marks n (early_of run round) start a.there entries.0 in
+      let a = spares_calls commands s marks n round run low calm (legal.turns.clients n track) in
+      let b = spares_cycles commands s marks n (early_of run round) start a.there entries.0 in
       let c = spares_turned round.turn refl b.there in
-      let d = spares_cycles s marks n (late_of run round) after c.there entries.1 in
-      let e = spares_loaded s marks n round.turn late d.there in
-      let f = spares_met s marks n played_all e.there in
-      let g = spares_ends s marks n (met_after s run round) f.there in
-      spares_as n run (after_round s run round) _ _ (λ all. record { calls = all.0; early = all.1.0; turn = all.1.1.0; late = all.1.1.1.0 })
-      (spares_both n run start (after_round s run round) _ _ a
-      (spares_both n start before (after_round s run round) _ _ b
-      (spares_both n before after (after_round s run round) _ _ c
-      (spares_both n after late (after_round s run round) _ _ d
-      (spares_both n late played_all (after_round s run round) _ _ e
-      (spares_both n played_all (met_after s run round) (after_round s run round) _ _ f g))))))
+      let d = spares_cycles commands s marks n (late_of run round) after c.there entries.1 in
+      let e = spares_loaded commands s marks n round.turn late d.there in
+      let f = spares_met commands s marks n played_all e.there in
+      let g = spares_ends commands s marks n (met_after s run round) f.there in
+      spares_as commands n run (after_round s run round) _ _ (λ all. record { calls = all.0; early = all.1.0; turn = all.1.1.0; late = all.1.1.1.0 })
+      (spares_both commands n run start (after_round s run round) _ _ a
+      (spares_both commands n start before (after_round s run round) _ _ b
+      (spares_both commands n before after (after_round s run round) _ _ c
+      (spares_both commands n after late (after_round s run round) _ _ d
+      (spares_both commands n late played_all (after_round s run round) _ _ e
+      (spares_both commands n played_all (met_after s run round) (after_round s run round) _ _ f g))))))
 
 -- ## All rounds
 
@@ -147,11 +149,11 @@ neither : (a b : Bool) → (a || b) ≡ false → (a ≡ false) × (b ≡ false)
 neither true b h = absurd (true≢false h)
 neither false b h = (refl, h)
 
-pub spares_rounds : (cut : Bool) (s : Session) (marks : Marks) (tracks n : ℕ) (rounds : List RoundSeen) (run : Run) → n < track_count s → n < length run.tracks → All (IsRound tracks) rounds → LegalRounds cut s marks run rounds
-    → list_any (λ round. list_any (is_poke_on true) (calls_in round n)) rounds ≡ false → Spares n run (run_from s run rounds) (IsSpared s run rounds n)
-spares_rounds cut s marks tracks n [] run track low forms legal calm = spares_same n run run low refl
-spares_rounds cut s marks tracks n (round ∷ rounds) run track low forms legal calm =
-    let two = neither (list_any (is_poke_on true) (calls_in round n)) (list_any (λ round. list_any (is_poke_on true) (calls_in round n)) rounds) calm in
-    let one = spares_round cut s marks run round tracks n (All-head (IsRound tracks) round rounds forms) legal.0 track low two.0 in
-    spares_both n run (after_round s run round) (run_from s (after_round s run round) rounds) _ _ one
-    (spares_rounds cut s marks tracks n rounds (after_round s run round) track one.there (All-tail (IsRound tracks) round rounds forms) legal.1 two.1)
+pub spares_rounds : (commands cut : Bool) (s : Session) (marks : Marks) (tracks n : ℕ) (rounds : List RoundSeen) (run : Run) → n < track_count s → n < length run.tracks → All (IsRound tracks) rounds → LegalRounds cut s marks run rounds
+    → (commands ≡ true → list_any (λ round. list_any (is_poke_on true) (calls_in round n)) rounds ≡ false) → Spares commands n run (run_from s run rounds) (IsSpared commands s run rounds n)
+spares_rounds commands cut s marks tracks n [] run track low forms legal calm = spares_same commands n run run low refl
+spares_rounds commands cut s marks tracks n (round ∷ rounds) run track low forms legal calm =
+    let two = λ (on : commands ≡ true). neither (list_any (is_poke_on true) (calls_in round n)) (list_any (λ round. list_any (is_poke_on true) (calls_in round n)) rounds) (calm on) in
+    let one = spares_round commands cut s marks run round tracks n (All-head (IsRound tracks) round rounds forms) legal.0 track low (λ on. (two on).0) in
+    spares_both commands n run (after_round s run round) (run_from s (after_round s run round) rounds) _ _ one
+    (spares_rounds commands cut s marks tracks n rounds (after_round s run round) track one.there (All-tail (IsRound tracks) round rounds forms) legal.1 (λ on. (two on).1))

@@ -148,7 +148,7 @@ module _ (s : Session) (run : Run) (round : RoundSeen) (n : ℕ) (low : n < leng
 
   -- ## A legal round
 
-  module _ (cut : Bool) (marks : Marks) (legal : LegalRound cut s marks run round) (track : n < track_count s) (steps : List LifeStep) (sent : List Sent) (trim : IsTrim (told_at (after_round s run round) n)) (h : SentSo (commands_at n run) steps sent) where
+  module _ (cut : Bool) (marks : Marks) (legal : LegalRound cut s marks run round) (track : n < track_count s) (steps : List LifeStep) (sent : List Sent) (trim : IsTrim true (told_at (after_round s run round) n)) (h : SentSo (commands_at n run) steps sent) where
     abbrev last : BlockTold
     last = commands_at n (after_round s run round)
 
@@ -159,7 +159,7 @@ module _ (s : Session) (run : Run) (round : RoundSeen) (n : ℕ) (low : n < leng
     last_is = after_is ∙ met_is
 
     history : HasBlockHistory last
-    history = subst HasBlockHistory (sym after_is) ((legal.histories.blocks n track).commands refl (ap is_tame (sym after_is) ∙ trim.tame))
+    history = subst HasBlockHistory (sym after_is) ((legal.histories.blocks n track).commands refl (ap is_tame (sym after_is) ∙ trim.tame refl))
 
     abbrev learns : List ServerEvent
     learns = server.Learn (length (client_list (with_its_turn o) ++ client.Learn (length (server_list (with_its_turn o))) ∷ [])) ∷ []

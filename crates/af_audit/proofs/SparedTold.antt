@@ -1,9 +1,8 @@
--- In a legal run each track without a poke is spared.
+-- In a legal run each block without a poke is spared.
 use Rattle.std.proofs.Common.{◌≡◌, ℕ, ◌<◌, Bool, true, false, if◌then◌else◌, not, List, [], ◌∷◌, length, inl, refl, sym, ap, ◌∙◌, subst, arith}
 use Rattle.std.specs.List.{list_any}
 use Rattle.std.proofs.lemmas.List.Elements.{All-get_or}
 use Rattle.af_base.specs.declared.frame.Frame.{Frame}
-use Rattle.af_model.proofs.Logic.{both_left, both_right}
 use Rattle.af_model.proofs.RoomKept.{never_corrupt, never_shut}
 use Rattle.af_model.specs.ClientCalls as list
 use Rattle.af_model.specs.Journals.{JournalData, RoundSeen}
@@ -19,10 +18,10 @@ use Rattle.af_script.specs.Form.{IsScript, IsTrack}
 use Rattle.af_judge.proofs.EachTrack.{each_long, told_each}
 use Rattle.af_judge.proofs.BlocksMeet.{met_many}
 use Rattle.af_audit.specs.RunKept.{IsFit}
-use Rattle.af_audit.specs.Spared.{EachLawfulTrackIsSpared}
+use Rattle.af_audit.specs.Spared.{EachLawfulBlockIsSpared, IsSpared}
 use Rattle.af_audit.proofs.FatesTold.{new_history, new_there, told_new, track_has_fates}
 use Rattle.af_audit.proofs.RearsSeen.{server_unshut}
-use Rattle.af_audit.proofs.RunUnshut.{spares_rounds}
+use Rattle.af_audit.proofs.RunUnshut.{Spares, spares_rounds}
 use Rattle.af_audit.proofs.SidesKept.{fit_round, played_many}
 use Rattle.af_audit.proofs.TrackUnshut.{IsTrim, IsUnshut}
 
@@ -84,34 +83,47 @@ module _ (s : Session) (script : IsScript s.script) (n : ℕ) (low : n < track_c
     history = λ tame. subst (λ (t : TrackTold). HasBlockHistory t.commands) (sym (told_new s n low)) (new_history command_shape);
   }
 
-  new_trim : IsTrim (told_at (new_run s) n)
-  new_trim = subst IsTrim (sym (told_new s n low)) (record { rears = tt; tame = refl; shape = refl })
+  new_trim : (commands : Bool) → IsTrim commands (told_at (new_run s) n)
+  new_trim commands = subst (IsTrim commands) (sym (told_new s n low)) (record { rears = tt; tame = λ on. refl; shape = refl })
 
 -- ## At the end
-
--- none of a track's proxies is shut, where both blocks have a history
-end_unshut : (s : Session) (n : ℕ) (t : TrackTold) → IsFit s n (sides_of t) → IsTrim t → HasBlockHistory t.stream → HasBlockHistory t.commands → IsUnshut t
-end_unshut s n t fit trim stream commands = record {
-  clients = record { stream = never_corrupt t.stream.shape fit.stream stream fit.spelled.stream; commands = never_corrupt t.commands.shape fit.commands commands fit.spelled.commands };
-  stream = server_unshut t.stream fit.stream stream fit.spelled.stream trim.rears;
-  commands = never_shut t.commands.shape fit.commands commands fit.spelled.commands (inl (ap (λ (k : Shape). k.wrap) trim.shape));
-}
 
 not_true : (b : Bool) → not b ≡ true → b ≡ false
 not_true true h = sym h
 not_true false h = refl
 
--- in a legal run of a script each track without a poke is spared
-pub lawful-tracks-are-spared : (script : ScriptData) (files : List (List Frame)) (j : JournalData) → IsScript script → IsLegalRun script files j → EachLawfulTrackIsSpared script files j
-lawful-tracks-are-spared script files j is legal track low lawful =
-    let s = session_of script files in
-    let run = run_of script files j in
-    let stream : is_lawful_block false j.rounds track ≡ true = both_left (is_lawful_block false j.rounds track) (is_lawful_block true j.rounds track) lawful in
-    let commands : is_lawful_block true j.rounds track ≡ true = both_right (is_lawful_block false j.rounds track) (is_lawful_block true j.rounds track) lawful in
-    let calm = not_true (list_any (λ (round : RoundSeen). list_any (is_poke_on true) (calls_in round track)) j.rounds) commands in
-    let so = rounds_so false s (marks_of j.rounds) track j.rounds (new_run s) low legal.rounds.rounds (new_so s is track low) in
-    let spares = spares_rounds false s (marks_of j.rounds) j.tracks track j.rounds (new_run s) low (new_there s track low) legal.rounds.form.rounds legal.rounds.rounds calm in
-    let fates = track_has_fates script files j legal track low stream in
-    let new = new_trim s is track low in
-    let trim = spares.trim new in
-    (spares.unshut new (end_unshut s track (told_at run track) so.fit trim fates.history (so.history trim.tame))).1
+-- in a legal run of a script each block without a poke is spared
+pub lawful-blocks-are-spared : (script : ScriptData) (files : List (List Frame)) (j : JournalData) → IsScript script → IsLegalRun script files j → EachLawfulBlockIsSpared script files j
+lawful-blocks-are-spared script files j is legal commands track low lawful = (spares.unshut new (by_block commands lawful trim)).1
+  where
+    s : Session
+    s = session_of script files
+
+    t : TrackTold
+    t = told_at (run_of script files j) track
+
+    so : StandsSo s track (run_of script files j)
+    so = rounds_so false s (marks_of j.rounds) track j.rounds (new_run s) low legal.rounds.rounds (new_so s is track low)
+
+    calm : commands ≡ true → list_any (λ (round : RoundSeen). list_any (is_poke_on true) (calls_in round track)) j.rounds ≡ false
+    calm on = not_true (list_any (λ (round : RoundSeen). list_any (is_poke_on true) (calls_in round track)) j.rounds) (subst (λ (b : Bool). is_lawful_block b j.rounds track ≡ true) on lawful)
+
+    spares : Spares commands track (new_run s) (run_of script files j) (IsSpared commands s (new_run s) j.rounds track)
+    spares = spares_rounds commands false s (marks_of j.rounds) j.tracks track j.rounds (new_run s) low (new_there s track low) legal.rounds.form.rounds legal.rounds.rounds calm
+
+    new : IsTrim commands (told_at (new_run s) track)
+    new = new_trim s is track low commands
+
+    trim : IsTrim commands t
+    trim = spares.trim new
+
+    -- a block that has a history has no proxy that is shut
+    by_block : (b : Bool) → is_lawful_block b j.rounds track ≡ true → IsTrim b t → IsUnshut b t
+    by_block true is h = let history = so.history (h.tame refl) in record {
+      client = never_corrupt t.commands.shape so.fit.commands history so.fit.spelled.commands;
+      server = never_shut t.commands.shape so.fit.commands history so.fit.spelled.commands (inl (ap (λ (k : Shape). k.wrap) h.shape));
+    }
+    by_block false is h = let history = (track_has_fates script files j legal track low is).history in record {
+      client = never_corrupt t.stream.shape so.fit.stream history so.fit.spelled.stream;
+      server = server_unshut t.stream so.fit.stream history so.fit.spelled.stream h.rears;
+    }

@@ -1,4 +1,4 @@
--- What each step of a round keeps of a track whose servers and client are never shut; and where they aren't shut after the step, they weren't before it, and the step spared the track.
+-- What each step of a round keeps of a track's block whose server and client are never shut; and where they aren't shut after the step, they weren't before it, and the step spared the block. `commands` says which block it is.
 use Rattle.std.proofs.Common.{◌≡◌, inl, inr, ◌⊎◌, ℕ, ◌≤◌, ◌^◌, ◌||◌, not, Bool, true, false, true≢false, if◌then◌else◌, is_some, fold, map, List, [], ◌∷◌, ◌++◌, flat_map, drop, length, Option, Some, None, refl, sym, ap, ◌∙◌, subst, append-nil, arith}
 use Rattle.std.specs.List.{AllByRecursion, list_all, list_any}
 use Rattle.std.proofs.lemmas.Grind.{fold-append}
@@ -44,7 +44,7 @@ use Rattle.af_judge.proofs.BlocksTold.{client-server}
 use Rattle.af_judge.proofs.LooksAnswer.{alike}
 use Rattle.af_judge.proofs.TracksTold.{sides_called}
 use Rattle.af_audit.specs.Spared.{is_spared_in_turn, none_corrupt}
-use Rattle.af_audit.proofs.CallsUnshut.{AreUnshut, unshut_turn}
+use Rattle.af_audit.proofs.CallsUnshut.{IsOpen, unshut_turn}
 use Rattle.af_audit.proofs.DropsNoticed.{OneTake, one_take}
 use Rattle.af_audit.proofs.FileReleased.{lawful_join}
 use Rattle.af_audit.proofs.LooksUnshut.{kept_more, shut_after, unshut_cycle, unshut_looks}
@@ -53,17 +53,21 @@ use Rattle.af_audit.proofs.SidesKept.{sides_mixed, sides_turned}
 use Rattle.af_audit.proofs.TrackStands.{hand-server, server-server, told_more}
 use Rattle.af_audit.proofs.Undropped.{looks_legal}
 
--- its stream's server sees each front right after a rear, and nothing was poked on its command block
-pub record IsTrim (t : TrackTold) : Type 0 where
+-- the stream's server sees each front right after a rear; and of the command block, nothing was poked on it
+pub record IsTrim (commands : Bool) (t : TrackTold) : Type 0 where
   pub rears : AllFollowRear t.stream.shape false (server_list t.stream)
-  pub tame : is_lawful (client_list t.commands) ≡ true
+  pub tame : commands ≡ true → is_lawful (client_list t.commands) ≡ true
   pub shape : t.commands.shape ≡ command_shape
 
--- none of the proxies of a track is shut
-pub record IsUnshut (t : TrackTold) : Type 0 where
-  pub clients : AreUnshut (sides_of t)
-  pub stream : (kept (listed t.stream)).shut ≡ None
-  pub commands : (kept (listed t.commands)).shut ≡ None
+-- one of its two blocks
+abbrev pub block_on : Bool → TrackTold → BlockTold
+block_on true t = t.commands
+block_on false t = t.stream
+
+-- neither proxy of that block is shut
+pub record IsUnshut (commands : Bool) (t : TrackTold) : Type 0 where
+  pub client : IsOpen commands (sides_of t)
+  pub server : (kept (listed (block_on commands t))).shut ≡ None
 
 -- ## The calls
 
@@ -105,28 +109,28 @@ tame_calls t (answer ∷ calls) calm h =
     let two = neither (is_poke_on true answer) (list_any (is_poke_on true) calls) calm in
     tame_calls (after_call t answer) calls two.1 (tame_call t answer two.0 h)
 
-pub trim_called : (calls : List ClientCall) (t : TrackTold) → list_any (is_poke_on true) calls ≡ false → IsTrim t → IsTrim (called calls t)
-trim_called calls t calm h = record {
+pub trim_called : (commands : Bool) (calls : List ClientCall) (t : TrackTold) → (commands ≡ true → list_any (is_poke_on true) calls ≡ false) → IsTrim commands t → IsTrim commands (called calls t)
+trim_called commands calls t calm h = record {
   rears = subst (AllFollowRear t.stream.shape false) (sym (client-server t.stream.told (drop (length (client_list t.stream)) (after_calls (sides_of t) calls).stream.events))) h.rears;
-  tame = ap (λ (x : Track). is_lawful x.commands.events) (sides_called t calls) ∙ tame_calls (sides_of t) calls calm h.tame;
+  tame = λ on. ap (λ (x : Track). is_lawful x.commands.events) (sides_called t calls) ∙ tame_calls (sides_of t) calls (calm on) (h.tame on);
   shape = h.shape;
 }
 
-pub unshut_called : (calls : List ClientCall) (t : TrackTold) → LegalClientTurn (sides_of t) calls → IsUnshut (called calls t) → IsUnshut t × (none_corrupt calls ≡ true)
-unshut_called calls t legal h =
-    let after = after_calls (sides_of t) calls in
-    let one = unshut_turn (sides_of t) calls legal (subst AreUnshut (sides_called t calls) h.clients) in (
-      record {
-        clients = one.0;
-        stream = ap (λ es. (server_kept t.stream.shape es).shut) (sym (client-server t.stream.told (drop (length (client_list t.stream)) after.stream.events))) ∙ h.stream;
-        commands = ap (λ es. (server_kept t.commands.shape es).shut) (sym (client-server t.commands.told (drop (length (client_list t.commands)) after.commands.events))) ∙ h.commands;
-      },
-      one.1,
-    )
+pub unshut_called : (commands : Bool) (calls : List ClientCall) (t : TrackTold) → LegalClientTurn (sides_of t) calls → IsUnshut commands (called calls t) → IsUnshut commands t × (none_corrupt commands calls ≡ true)
+unshut_called commands calls t legal h =
+    let one = unshut_turn commands (sides_of t) calls legal (subst (IsOpen commands) (sides_called t calls) h.client) in
+    (record { client = one.0; server = by_block commands h.server }, one.1)
+  where
+    after : Track
+    after = after_calls (sides_of t) calls
+
+    by_block : (b : Bool) → (kept (listed (block_on b (called calls t)))).shut ≡ None → (kept (listed (block_on b t))).shut ≡ None
+    by_block true h = ap (λ es. (server_kept t.commands.shape es).shut) (sym (client-server t.commands.told (drop (length (client_list t.commands)) after.commands.events))) ∙ h
+    by_block false h = ap (λ es. (server_kept t.stream.shape es).shut) (sym (client-server t.stream.told (drop (length (client_list t.stream)) after.stream.events))) ∙ h
 
 -- ## An entry
 
-module _ (s : Session) (x : FastState) (e : EntrySeen) (n : ℕ) (t : TrackTold) where
+module _ (commands : Bool) (s : Session) (x : FastState) (e : EntrySeen) (n : ℕ) (t : TrackTold) where
   abbrev with_slot : Option ℕ → TrackTold
   with_slot o = elim o as (λ o. TrackTold) [ None ↦ t | Some i ↦ record t { stream = played (cycle_frames s) e i t.stream } ]
 
@@ -137,10 +141,10 @@ module _ (s : Session) (x : FastState) (e : EntrySeen) (n : ℕ) (t : TrackTold)
   slot_list : (i : ℕ) → server_list (played (cycle_frames s) e i t.stream) ≡ server_list t.stream ++ slot_events i
   slot_list i = server-server t.stream.told (slot_events i)
 
-  pub trim_mixed : IsTrim t → IsTrim (mixed_track s x e n t)
+  pub trim_mixed : IsTrim commands t → IsTrim commands (mixed_track s x e n t)
   trim_mixed h = by_slot (slot_for x e.entry n)
     where
-      by_slot : (o : Option ℕ) → IsTrim (with_slot o)
+      by_slot : (o : Option ℕ) → IsTrim commands (with_slot o)
       by_slot None = h
       by_slot (Some i) =
           let slot = entry_slot e.entry i in
@@ -151,21 +155,29 @@ module _ (s : Session) (x : FastState) (e : EntrySeen) (n : ℕ) (t : TrackTold)
             shape = h.shape;
           }
 
-  pub unshut_mixed : ((i : ℕ) → slot_for x e.entry n ≡ Some i → (front : ℕ) × LooksBy (cycle_frames s) (listed t.stream) (entry_slot e.entry i) front) → IsUnshut (mixed_track s x e n t)
-      → IsUnshut t × (elim (slot_for x e.entry n) as (λ o. Bool) [ None ↦ true | Some i ↦ not (is_shut (entry_slot e.entry i).seen) ] ≡ true)
-  unshut_mixed looks h = by_slot (slot_for x e.entry n) refl h.stream h.commands
-    where
-      clients : AreUnshut (sides_of t)
-      clients = subst AreUnshut (sides_mixed s x e n t) h.clients
+  abbrev IsSlotSpared : Option ℕ → Type 0
+  IsSlotSpared o = elim o as (λ o. Bool) [ None ↦ true | Some i ↦ not (is_shut (entry_slot e.entry i).seen) ] ≡ true
 
-      by_slot : (o : Option ℕ) → slot_for x e.entry n ≡ o → (kept (listed (with_slot o).stream)).shut ≡ None → (kept (listed (with_slot o).commands)).shut ≡ None
-          → IsUnshut t × (elim o as (λ o. Bool) [ None ↦ true | Some i ↦ not (is_shut (entry_slot e.entry i).seen) ] ≡ true)
-      by_slot None is stream commands = (record { clients = clients; stream = stream; commands = commands }, refl)
-      by_slot (Some i) is stream commands =
+  pub unshut_mixed : ((i : ℕ) → slot_for x e.entry n ≡ Some i → (front : ℕ) × LooksBy (cycle_frames s) (listed t.stream) (entry_slot e.entry i) front) → IsUnshut commands (mixed_track s x e n t)
+      → IsUnshut commands t × (commands ≡ false → IsSlotSpared (slot_for x e.entry n))
+  unshut_mixed looks h = by_block commands (subst (IsOpen commands) (sides_mixed s x e n t) h.client) h.server
+    where
+      -- the commands stay, whatever the slot
+      stays : (o : Option ℕ) → (kept (listed (with_slot o).commands)).shut ≡ None → (kept (listed t.commands)).shut ≡ None
+      stays None h = h
+      stays (Some i) h = h
+
+      by_slot : (o : Option ℕ) → slot_for x e.entry n ≡ o → (kept (listed (with_slot o).stream)).shut ≡ None → ((kept (listed t.stream)).shut ≡ None) × IsSlotSpared o
+      by_slot None is fine = (fine, refl)
+      by_slot (Some i) is fine =
           let look = looks i is in
-          let fine : shut_after t.stream.shape (kept (listed t.stream)) (slot_events i) ≡ None = ap (λ (k : ServerKept). k.shut) (sym (kept_more t.stream.shape (server_list t.stream) (slot_events i))) ∙ ap (λ es. (server_kept t.stream.shape es).shut) (sym (slot_list i)) ∙ stream in
-          let one = unshut_cycle (cycle_frames s) (listed t.stream) (entry_slot e.entry i) look.0 look.1 fine in
-          (record { clients = clients; stream = one.0; commands = commands }, ap not one.1)
+          let open_is : shut_after t.stream.shape (kept (listed t.stream)) (slot_events i) ≡ None = ap (λ (k : ServerKept). k.shut) (sym (kept_more t.stream.shape (server_list t.stream) (slot_events i))) ∙ ap (λ es. (server_kept t.stream.shape es).shut) (sym (slot_list i)) ∙ fine in
+          let one = unshut_cycle (cycle_frames s) (listed t.stream) (entry_slot e.entry i) look.0 look.1 open_is in
+          (one.0, ap not one.1)
+
+      by_block : (b : Bool) → IsOpen b (sides_of t) → (kept (listed (block_on b (with_slot (slot_for x e.entry n))))).shut ≡ None → IsUnshut b t × (b ≡ false → IsSlotSpared (slot_for x e.entry n))
+      by_block true client fine = (record { client = client; server = stays (slot_for x e.entry n) fine }, λ on. absurd (true≢false on))
+      by_block false client fine = let one = by_slot (slot_for x e.entry n) refl fine in (record { client = client; server = one.0 }, λ on. one.1)
 
 -- ## A turn
 
@@ -297,22 +309,27 @@ module _ (c : Setup) (f : TurnFound) (m : NormalKept) (e : Turn) (o : Outside) (
     commands_told : server_list after.commands ≡ server_list commands ++ command_list c told e tracks n
     commands_told = server-server commands.told (command_list c told e tracks n)
 
-    pub trim_turned : IsTrim before → IsTrim after
-    trim_turned h = record {
+    pub trim_turned : (on : Bool) → IsTrim on before → IsTrim on after
+    trim_turned on h = record {
       rears = subst (AllFollowRear stream.shape false) (sym stream_told) (rear_join stream.shape false (server_list stream) (stream_list c told e tracks n) h.rears stream_follows);
-      tame = ap (λ (x : Track). is_lawful x.commands.events) (sides_turned c told m e n before) ∙ h.tame;
+      tame = λ is. ap (λ (x : Track). is_lawful x.commands.events) (sides_turned c told m e n before) ∙ h.tame is;
       shape = h.shape;
     }
 
-    pub unshut_turned : IsTrim before → IsUnshut after → IsUnshut before × (is_spared_in_turn e n ≡ true)
+    pub unshut_turned : (on : Bool) → IsTrim on before → IsUnshut on after → IsUnshut on before × (is_spared_in_turn on e n ≡ true)
     unfolding none_shut none_shut_look
-    unshut_turned trim h =
-        let one = unshut_stream (ap (λ (k : ServerKept). k.shut) (sym (kept_more stream.shape (server_list stream) (stream_list c told e tracks n))) ∙ ap (λ es. (server_kept stream.shape es).shut) (sym stream_told) ∙ h.stream) in
-        let few : commands.shape.wrap ≤ 2 ^ 31 = (let w : commands.shape.wrap ≡ 0 = ap (λ (k : Shape). k.wrap) trim.shape in omega (arith, w)) in
-        let two = unshut_commands few (ap (λ (k : ServerKept). k.shut) (sym (kept_more commands.shape (server_list commands) (command_list c told e tracks n))) ∙ ap (λ es. (server_kept commands.shape es).shut) (sym commands_told) ∙ h.commands) in (
-          record { clients = subst AreUnshut (sides_turned c told m e n before) h.clients; stream = one.0; commands = two.0 },
-          both_are (none_shut_look looks) (none_shut (takes_from e.mixes n)) two.1 one.1,
-        )
+    unshut_turned on trim h = by_block on (subst (IsOpen on) (sides_turned c told m e n before) h.client) h.server
+      where
+        few : commands.shape.wrap ≤ 2 ^ 31
+        few = let w : commands.shape.wrap ≡ 0 = ap (λ (k : Shape). k.wrap) trim.shape in omega (arith, w)
+
+        by_block : (b : Bool) → IsOpen b (sides_of before) → (kept (listed (block_on b after))).shut ≡ None → IsUnshut b before × (is_spared_in_turn b e n ≡ true)
+        by_block true client fine =
+            let two = unshut_commands few (ap (λ (k : ServerKept). k.shut) (sym (kept_more commands.shape (server_list commands) (command_list c told e tracks n))) ∙ ap (λ es. (server_kept commands.shape es).shut) (sym commands_told) ∙ fine) in
+            (record { client = client; server = two.0 }, two.1)
+        by_block false client fine =
+            let one = unshut_stream (ap (λ (k : ServerKept). k.shut) (sym (kept_more stream.shape (server_list stream) (stream_list c told e tracks n))) ∙ ap (λ es. (server_kept stream.shape es).shut) (sym stream_told) ∙ fine) in
+            (record { client = client; server = one.0 }, one.1)
 
 -- ## Meetings, and the end of a client
 
@@ -339,7 +356,7 @@ stream_met_so true false b h = block_met b h
 stream_met_so false true b h = record { client = h.client; server = h.server }
 stream_met_so false false b h = h
 
-module _ (there hands : Bool) (t : TrackTold) where
+module _ (commands there hands : Bool) (t : TrackTold) where
   abbrev all_met : TrackTold
   all_met = record t { stream = stream_met there hands t.stream; commands = meets t.commands }
 
@@ -349,21 +366,23 @@ module _ (there hands : Bool) (t : TrackTold) where
   rears_met false true b h = h
   rears_met false false b h = h
 
-  pub trim_met : IsTrim t → IsTrim all_met
+  pub trim_met : IsTrim commands t → IsTrim commands all_met
   trim_met h = record {
     rears = rears_met there hands t.stream h.rears;
-    tame = lawful_join (client_list t.commands) (client.Learn (length (server_list t.commands)) ∷ []) h.tame refl;
+    tame = λ on. lawful_join (client_list t.commands) (client.Learn (length (server_list t.commands)) ∷ []) (h.tame on) refl;
     shape = h.shape;
   }
 
-  pub unshut_met : IsUnshut all_met → IsUnshut t
-  unshut_met h =
-      let stream = stream_met_so there hands t.stream (record { client = h.clients.stream; server = h.stream }) in
-      let commands = block_met t.commands (record { client = h.clients.commands; server = h.commands }) in
-      record { clients = record { stream = stream.client; commands = commands.client }; stream = stream.server; commands = commands.server }
+  pub unshut_met : IsUnshut commands all_met → IsUnshut commands t
+  unshut_met h = by_block commands h.client h.server
+    where
+      by_block : (b : Bool) → IsOpen b (sides_of all_met) → (kept (listed (block_on b all_met))).shut ≡ None → IsUnshut b t
+      by_block true client fine = let one = block_met t.commands (record { client = client; server = fine }) in record { client = one.client; server = one.server }
+      by_block false client fine = let one = stream_met_so there hands t.stream (record { client = client; server = fine }) in record { client = one.client; server = one.server }
 
-pub trim_ended : (t : TrackTold) → IsTrim t → IsTrim (record t { client = ends t.client })
-trim_ended t h = record { rears = h.rears; tame = h.tame; shape = h.shape }
+pub trim_ended : (commands : Bool) (t : TrackTold) → IsTrim commands t → IsTrim commands (record t { client = ends t.client })
+trim_ended on t h = record { rears = h.rears; tame = h.tame; shape = h.shape }
 
-pub unshut_ended : (t : TrackTold) → IsUnshut (record t { client = ends t.client }) → IsUnshut t
-unshut_ended t h = record { clients = record { stream = h.clients.stream; commands = h.clients.commands }; stream = h.stream; commands = h.commands }
+pub unshut_ended : (commands : Bool) (t : TrackTold) → IsUnshut commands (record t { client = ends t.client }) → IsUnshut commands t
+unshut_ended true t h = record { client = h.client; server = h.server }
+unshut_ended false t h = record { client = h.client; server = h.server }
