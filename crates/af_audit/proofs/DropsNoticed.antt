@@ -28,7 +28,7 @@ no h = absurd (true≢false (sym h))
 
 -- ## Some events more
 
-drops_join : (k : Shape) (before xs ys : List ServerEvent) → DropsByFlush k before xs → DropsByFlush k (before ++ xs) ys → DropsByFlush k before (xs ++ ys)
+pub drops_join : (k : Shape) (before xs ys : List ServerEvent) → DropsByFlush k before xs → DropsByFlush k (before ++ xs) ys → DropsByFlush k before (xs ++ ys)
 drops_join k before [] ys h g = subst (λ (es : List ServerEvent). DropsByFlush k es ys) (append-nil before) g
 drops_join k before (x ∷ xs) ys h g = (h.0, drops_join k (before ++ x ∷ []) xs ys h.1 (subst (λ (es : List ServerEvent). DropsByFlush k es ys) (sym (append_assoc before (x ∷ []) xs)) g))
 
@@ -49,7 +49,7 @@ may_keep k before (server.SetStatus word) h = tt
 may_keep k before (server.Learn count) h = tt
 
 -- events without a drop
-none_dropped : (k : Shape) (before es : List ServerEvent) → drops_none es ≡ true → DropsByFlush k before es
+pub none_dropped : (k : Shape) (before es : List ServerEvent) → drops_none es ≡ true → DropsByFlush k before es
 none_dropped k before [] none = tt
 none_dropped k before (e ∷ es) none = (may_keep k before e (both_left (keeps_all e) (drops_none es) none), none_dropped k (before ++ e ∷ []) es (both_right (keeps_all e) (drops_none es) none))
 
@@ -74,7 +74,7 @@ saw_new k kept asked flush rear front dropped is same =
     let new : not (flush == kept) ≡ true = new_by k (not (flush == kept)) asked flush rear front _ (is_noticed k (not (flush == kept)) rear front) _ _ _ refl (sym (ap is_flushed is)) in
     no (ap not (sym (eq-eqb flush kept same)) ∙ new)
 
-three_more : (xs : List ServerEvent) (a b c : ServerEvent) → ((xs ++ a ∷ []) ++ b ∷ []) ++ c ∷ [] ≡ xs ++ a ∷ b ∷ c ∷ []
+pub three_more : (xs : List ServerEvent) (a b c : ServerEvent) → ((xs ++ a ∷ []) ++ b ∷ []) ++ c ∷ [] ≡ xs ++ a ∷ b ∷ c ∷ []
 three_more xs a b c = append_assoc (xs ++ a ∷ []) (b ∷ []) (c ∷ []) ∙ append_assoc xs (a ∷ []) (b ∷ c ∷ [])
 
 tally_none : (missing : ℕ) → drops_none (tally missing) ≡ true

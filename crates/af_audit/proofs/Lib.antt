@@ -56,3 +56,34 @@ mod LateRound
 mod Reached
 mod SentTold
 pub mod DrainedTold
+mod Flushes
+mod Drops
+mod Grown
+mod Meeting
+mod FewFlushes
+mod FewRounds
+mod SeenKept
+mod KnownSeen
+mod TurnSees
+mod StartWords
+mod SentWords
+mod StartsSettled
+mod StatusWords
+mod TurnSettles
+mod CommandDrops
+mod CommandRounds
+mod ToldMeasure
+mod ToldGrowing
+mod ToldOlder
+mod ToldCurrent
+mod ToldQuiet
+mod ToldAttached
+mod ToldBounded
+mod ToldBounds
+mod ToldLate
+mod ToldLateRuns
+mod ToldLateRound
+mod ToldTurns
+mod ToldHeard
+mod SettledRounds
+pub mod SettledTold

@@ -145,7 +145,7 @@ module _ (commands cut : Bool) (s : Session) (marks : Marks) (run : Run) (round 
 
 -- ## All rounds
 
-neither : (a b : Bool) → (a || b) ≡ false → (a ≡ false) × (b ≡ false)
+pub neither : (a b : Bool) → (a || b) ≡ false → (a ≡ false) × (b ≡ false)
 neither true b h = absurd (true≢false h)
 neither false b h = (refl, h)
 

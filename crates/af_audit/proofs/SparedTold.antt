@@ -33,7 +33,7 @@ record StandsSo (s : Session) (n : ℕ) (run : Run) : Type 0 where
   fit : IsFit s n (sides_of (told_at run n))
   history : is_tame (told_at run n).commands ≡ true → HasBlockHistory (told_at run n).commands
 
-ends_many : (run : Run) → length (with_ends run).tracks ≡ length run.tracks
+pub ends_many : (run : Run) → length (with_ends run).tracks ≡ length run.tracks
 unfolding with_ends
 ends_many run = by_end run.normal.ended
   where
@@ -83,12 +83,12 @@ module _ (s : Session) (script : IsScript s.script) (n : ℕ) (low : n < track_c
     history = λ tame. subst (λ (t : TrackTold). HasBlockHistory t.commands) (sym (told_new s n low)) (new_history command_shape);
   }
 
-  new_trim : (commands : Bool) → IsTrim commands (told_at (new_run s) n)
+  pub new_trim : (commands : Bool) → IsTrim commands (told_at (new_run s) n)
   new_trim commands = subst (IsTrim commands) (sym (told_new s n low)) (record { rears = tt; tame = λ on. refl; shape = refl })
 
 -- ## At the end
 
-not_true : (b : Bool) → not b ≡ true → b ≡ false
+pub not_true : (b : Bool) → not b ≡ true → b ≡ false
 not_true true h = sym h
 not_true false h = refl
 

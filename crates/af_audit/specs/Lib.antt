@@ -8,3 +8,5 @@ pub mod Fates
 pub mod Spared
 pub mod Older
 pub mod Drained
+pub mod Known
+pub mod Settled

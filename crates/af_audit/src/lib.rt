@@ -5,10 +5,12 @@ mod differ;
 mod drained;
 mod judgement;
 mod run_judge;
+mod settled;
 mod sound;
 mod verdict;
 
 pub use drained::drained_tracks_have_reached_their_stop;
 pub use judgement::{judge, verify};
+pub use settled::a_start_seen_settled_bounds_what_is_discarded;
 pub use sound::pcm;
 pub use verdict::{Refusal, Verdict};

@@ -1,0 +1,149 @@
+-- In a history the server's looks see ever more flushes: each look that notices a new flush saw more than any before it.
+use Rattle.std.proofs.Common.{◌≡◌, ◌≢◌, ℕ, zero, suc, ◌+◌, ◌*◌, ◌/◌, ◌%◌, ◌<◌, ◌≤◌, ◌==◌, if◌then◌else◌, Bool, true, false, true≢false, List, [], ◌∷◌, ◌++◌, refl, sym, ap, ◌∙◌, subst, arith, eqb-true}
+use Rattle.std.proofs.lemmas.Grind.{fold-append}
+use Rattle.std.proofs.lemmas.Nat.{div-mul-add}
+use Rattle.std.proofs.Math.Nat.{mul-le-mul_left, mod-lt, mod-eq_of_lt}
+use Rattle.af_base.specs.declared.event.ClientEvent.{ClientEvent}
+use Rattle.af_base.specs.declared.event.ClientEvent.TheVariants as client
+use Rattle.af_base.specs.declared.event.ServerEvent.{ServerEvent}
+use Rattle.af_base.specs.declared.event.ServerEvent.TheVariants as server
+use Rattle.af_base.specs.declared.event.HandEvent.{HandEvent}
+use Rattle.af_base.specs.declared.event.HandEvent.TheVariants as hand
+use Rattle.af_model.specs.declared.point.TrackPoint.{TrackPoint}
+use Rattle.af_model.specs.declared.shape.Shape.{Shape}
+use Rattle.af_model.specs.Point.{wrapped, start, flush_number, ServerMay, after_client, after_server, after_hand}
+use Rattle.af_model.specs.History.{Moment, by_client, by_server, by_hand, server_of, after, IsLegal}
+use Rattle.af_model.specs.ServerCalls.{ServerKept, server_begins, server_keeps, server_kept, flushes_by}
+use Rattle.af_audit.specs.Known.{sees_more, most_seen}
+
+no : {A : Type 0} → false ≡ true → A
+no h = absurd (true≢false (sym h))
+
+-- ## Flush words
+
+positive : (w : ℕ) → (w == 0) ≡ false → 0 < w
+positive zero e = no (sym e)
+positive (suc w) e = omega arith
+
+-- a flush word tells of how many flushes there were, where they are few
+pub flushes_told : (wrap flushes position : ℕ) → wrap ≤ 32768 → flushes ≤ 65536 → flushes_by wrap (flush_number wrap flushes position) ≡ flushes
+flushes_told wrap flushes position narrow few = by_wrap (wrap == 0) refl
+  where
+    by_wrap : (b : Bool) → (wrap == 0) ≡ b → (if b then (if b then flushes else wrapped (flushes * wrap + position % wrap)) else (if b then flushes else wrapped (flushes * wrap + position % wrap)) / wrap) ≡ flushes
+    by_wrap true e = refl
+    by_wrap false e =
+        let inside : position % wrap < wrap = mod-lt position (positive wrap e) in
+        let small : flushes * wrap ≤ flushes * 32768 = mul-le-mul_left flushes narrow in
+        let whole : wrapped (flushes * wrap + position % wrap) ≡ flushes * wrap + position % wrap = mod-eq_of_lt (omega (arith, inside, small, few, narrow)) in
+        ap (λ n. n / wrap) whole ∙ div-mul-add flushes wrap (position % wrap) inside
+
+-- before any flush it is 0
+none_as : (w : ℕ) (b : Bool) → (w == 0) ≡ b → 0 ≡ (if b then 0 else wrapped (0 * w + 0 % w))
+none_as w true e = refl
+none_as w false e =
+    let place : 0 % w ≡ 0 = mod-eq_of_lt (positive w e) in
+    let zero_is : 0 * w + 0 ≡ 0 = omega arith in
+    sym (ap (λ (z : ℕ). wrapped (0 * w + z)) place ∙ ap wrapped zero_is)
+
+-- ## What was seen
+
+-- what a list tells of its server's looks is what the point tells: the flush word seen last, and the most flushes seen
+record FlushesStand (k : Shape) (p : TrackPoint) (flush most : ℕ) : Type 0 where
+  wrap_is : p.wrap ≡ k.wrap
+  low : p.flush_seen ≤ p.flushes
+  word : flush ≡ flush_number k.wrap p.flush_seen p.drop_to
+  same : p.flush_seen ≡ p.flushes → p.drop_to ≡ p.flush_at
+  most_is : most ≡ p.flush_seen
+
+client_stands : (k : Shape) (p : TrackPoint) (flush most : ℕ) (e : ClientEvent) → FlushesStand k p flush most → FlushesStand k (after_client p e) flush most
+client_stands k p flush most (client.Release count) s = record { wrap_is = s.wrap_is; low = s.low; word = s.word; same = s.same; most_is = s.most_is }
+client_stands k p flush most client.Flush s = record { wrap_is = s.wrap_is; low = (let a = s.low in omega (arith, a)); word = s.word; same = (λ e. let a = s.low in absurd (omega (arith, a, e))); most_is = s.most_is }
+client_stands k p flush most (client.SetGain word) s = record { wrap_is = s.wrap_is; low = s.low; word = s.word; same = s.same; most_is = s.most_is }
+client_stands k p flush most (client.ClearFlags old) s = record { wrap_is = s.wrap_is; low = s.low; word = s.word; same = s.same; most_is = s.most_is }
+client_stands k p flush most (client.SawFlags flags) s = s
+client_stands k p flush most (client.SawFront front) s = s
+client_stands k p flush most (client.SawStatus word) s = s
+client_stands k p flush most (client.Poke word value) s = s
+client_stands k p flush most (client.Learn count) s = s
+
+hand_stands : (k : Shape) (p : TrackPoint) (flush most : ℕ) (e : HandEvent) → FlushesStand k p flush most → FlushesStand k (after_hand p e) flush most
+hand_stands k p flush most (hand.SetFlags bits) s = record { wrap_is = s.wrap_is; low = s.low; word = s.word; same = s.same; most_is = s.most_is }
+hand_stands k p flush most (hand.Met count) s = s
+
+-- some flushes more
+more_flushes : (p : TrackPoint) (e : ClientEvent) → p.flushes ≤ (after_client p e).flushes
+more_flushes p (client.Release count) = omega arith
+more_flushes p client.Flush = omega arith
+more_flushes p (client.SetGain word) = omega arith
+more_flushes p (client.ClearFlags old) = omega arith
+more_flushes p (client.SawFlags flags) = omega arith
+more_flushes p (client.SawFront front) = omega arith
+more_flushes p (client.SawStatus word) = omega arith
+more_flushes p (client.Poke word value) = omega arith
+more_flushes p (client.Learn count) = omega arith
+
+no_flush : (p : TrackPoint) (e : ServerEvent) → (after_server p e).flushes ≡ p.flushes
+no_flush p (server.SawGain word) = refl
+no_flush p (server.SawFlush flush) = refl
+no_flush p (server.SawRear rear) = refl
+no_flush p (server.SawFront front) = refl
+no_flush p (server.Drop to) = refl
+no_flush p (server.Take count) = refl
+no_flush p (server.Tally missing) = refl
+no_flush p (server.SetFlags bits) = refl
+no_flush p (server.SetStatus word) = refl
+no_flush p (server.Learn count) = refl
+
+hand_flush : (p : TrackPoint) (e : HandEvent) → (after_hand p e).flushes ≡ p.flushes
+hand_flush p (hand.SetFlags bits) = refl
+hand_flush p (hand.Met count) = refl
+
+pub flushes_rise : (p : TrackPoint) (late early : List Moment) → (after p early).flushes ≤ (after p (late ++ early)).flushes
+flushes_rise p [] early = omega arith
+flushes_rise p (by_client e ∷ late) early = let a = flushes_rise p late early in let b = more_flushes (after p (late ++ early)) e in omega (arith, a, b)
+flushes_rise p (by_server e ∷ late) early = let a = flushes_rise p late early in let b = no_flush (after p (late ++ early)) e in omega (arith, a, b)
+flushes_rise p (by_hand e ∷ late) early = let a = flushes_rise p late early in let b = hand_flush (after p (late ++ early)) e in omega (arith, a, b)
+
+module _ (k : Shape) (narrow : k.wrap ≤ 32768) where
+  server_stands : (p : TrackPoint) (kept : ServerKept) (most others : ℕ) (e : ServerEvent) → p.flushes ≤ 65536 → ServerMay p others e → FlushesStand k p kept.flush most → FlushesStand k (after_server p e) (server_keeps k kept e).flush (sees_more k most e)
+  server_stands p kept most others (server.SawGain word) few may s = s
+  server_stands p kept most others (server.SawFlush flush) few may s =
+      let word : flush ≡ flush_number k.wrap p.flushes p.flush_at = may ∙ ap (λ w. flush_number w p.flushes p.flush_at) s.wrap_is in
+      let count : flushes_by k.wrap flush ≡ p.flushes = ap (flushes_by k.wrap) word ∙ flushes_told k.wrap p.flushes p.flush_at narrow few in
+      record { wrap_is = s.wrap_is; low = omega arith; word = word; same = (λ e. refl); most_is = (let a = s.low in let m = s.most_is in omega (arith, a, m, count)) }
+  server_stands p kept most others (server.SawRear rear) few may s = record { wrap_is = s.wrap_is; low = s.low; word = s.word; same = s.same; most_is = s.most_is }
+  server_stands p kept most others (server.SawFront front) few may s = record { wrap_is = s.wrap_is; low = s.low; word = s.word; same = s.same; most_is = s.most_is }
+  server_stands p kept most others (server.Drop to) few may s = record { wrap_is = s.wrap_is; low = s.low; word = s.word; same = s.same; most_is = s.most_is }
+  server_stands p kept most others (server.Take count) few may s = record { wrap_is = s.wrap_is; low = s.low; word = s.word; same = s.same; most_is = s.most_is }
+  server_stands p kept most others (server.Tally missing) few may s = record { wrap_is = s.wrap_is; low = s.low; word = s.word; same = s.same; most_is = s.most_is }
+  server_stands p kept most others (server.SetFlags bits) few may s = record { wrap_is = s.wrap_is; low = s.low; word = s.word; same = s.same; most_is = s.most_is }
+  server_stands p kept most others (server.SetStatus word) few may s = record { wrap_is = s.wrap_is; low = s.low; word = s.word; same = s.same; most_is = s.most_is }
+  server_stands p kept most others (server.Learn count) few may s = s
+
+  stands : (order : List Moment) → IsLegal (start k) order → (after (start k) order).flushes ≤ 65536 → FlushesStand k (after (start k) order) (server_kept k (server_of order)).flush (most_seen k (server_of order))
+  stands [] h few = record { wrap_is = refl; low = omega arith; word = none_as k.wrap (k.wrap == 0) refl; same = (λ e. refl); most_is = refl }
+  stands (by_client e ∷ order) h few = client_stands k (after (start k) order) _ _ e (stands order h.1 (let m = more_flushes (after (start k) order) e in omega (arith, m, few)))
+  stands (by_server e ∷ order) h few =
+      let less : (after (start k) order).flushes ≤ 65536 = let m = no_flush (after (start k) order) e in omega (arith, m, few) in
+      let now = server_stands (after (start k) order) (server_kept k (server_of order)) (most_seen k (server_of order)) _ e less h.0 (stands order h.1 less) in
+      subst (λ (x : ServerKept × ℕ). FlushesStand k (after (start k) (by_server e ∷ order)) x.0.flush x.1)
+      (λ i. (sym (fold-append (server_keeps k) (server_begins k) (server_of order) (e ∷ [])) i, sym (fold-append (sees_more k) 0 (server_of order) (e ∷ [])) i)) now
+  stands (by_hand e ∷ order) h few = hand_stands k (after (start k) order) _ _ e (stands order h.1 (let m = hand_flush (after (start k) order) e in omega (arith, m, few)))
+
+  -- a look that sees another flush word than the one before saw more flushes than any look before it
+  pub new_above : (order : List Moment) (flush : ℕ) → IsLegal (start k) (by_server (server.SawFlush flush) ∷ order) → (after (start k) order).flushes ≤ 65536 → flush ≢ (server_kept k (server_of order)).flush
+      → most_seen k (server_of order) < flushes_by k.wrap flush
+  new_above order flush h few new =
+      let p : TrackPoint = after (start k) order in
+      let s = stands order h.1 few in
+      let word : flush ≡ flush_number k.wrap p.flushes p.flush_at = h.0 ∙ ap (λ w. flush_number w p.flushes p.flush_at) s.wrap_is in
+      let count : flushes_by k.wrap flush ≡ p.flushes = ap (flushes_by k.wrap) word ∙ flushes_told k.wrap p.flushes p.flush_at narrow few in
+      let another : p.flush_seen ≢ p.flushes = λ e. new (word ∙ sym (s.word ∙ ap (λ (x : ℕ × ℕ). flush_number k.wrap x.0 x.1) (λ i. (e i, s.same e i)))) in
+      below p.flush_seen p.flushes s.low another (most_seen k (server_of order)) s.most_is (flushes_by k.wrap flush) count
+    where
+      below : (a b : ℕ) → a ≤ b → a ≢ b → (m : ℕ) → m ≡ a → (c : ℕ) → c ≡ b → m < c
+      below a b low other m is c same = by_test (a == b) refl
+        where
+          by_test : (t : Bool) → (a == b) ≡ t → m < c
+          by_test true e = absurd (other (eqb-true a b e))
+          by_test false e = omega (arith, low, is, same)

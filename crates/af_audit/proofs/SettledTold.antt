@@ -1,0 +1,167 @@
+-- In a legal run of a script: where a client saw its START settled, the frames that it released in later rounds are discarded only by looks that saw a flush count above that of the START.
+use Rattle.std.specs.Prelude.{All, slice_get}
+use Rattle.std.specs.List.{list_any}
+use Rattle.std.proofs.Common.{◌≡◌, ◌⊎◌, inl, inr, ℕ, ◌+◌, ◌*◌, ◌/◌, ◌<◌, ◌≤◌, true, false, List, [], ◌∷◌, ◌++◌, take, drop, length, Option, Some, None, refl, sym, ap, ◌∙◌, subst, append_assoc, arith}
+use Rattle.std.proofs.Math.Nat.{zero-div}
+use Rattle.std.proofs.lemmas.List.{take-append-drop}
+use Rattle.af_base.specs.declared.event.ClientEvent.{ClientEvent}
+use Rattle.af_base.specs.declared.event.ClientEvent.TheVariants as client
+use Rattle.af_base.specs.declared.event.ServerEvent.{ServerEvent}
+use Rattle.af_base.specs.declared.frame.Frame.{Frame}
+use Rattle.af_base.specs.Turn.{Turn}
+use Rattle.af_life.specs.declared.command.TheConstants.{START}
+use Rattle.af_life.specs.declared.kept.TrackKept.{TrackKept}
+use Rattle.af_life.specs.Kept.{track_at}
+use Rattle.af_model.specs.declared.shape.Shape.{Shape}
+use Rattle.af_model.specs.History.{HasHistory, is_lawful}
+use Rattle.af_model.specs.JournalForm.{IsRound}
+use Rattle.af_model.specs.Journals.{JournalData, RoundSeen}
+use Rattle.af_model.proofs.Counts.{lawful_more}
+use Rattle.af_model.proofs.Logic.{both_right}
+use Rattle.af_runs.specs.Blocks.{BlockTold, HasBlockHistory, Marks, client_list, hand_list, meets, server_list}
+use Rattle.af_runs.specs.Clients.{Client, settled_in}
+use Rattle.af_runs.specs.ClientTurns.{Side, Track, after_calls}
+use Rattle.af_runs.specs.Found.{TurnFound, outside_of}
+use Rattle.af_runs.specs.LegalRuns.{IsLegalRun, LegalRounds, is_lawful_block, is_poke_on, marks_of, run_from, run_of, session_of}
+use Rattle.af_runs.specs.Rounds.{after_turn, all_played, before_turn, early_of, found_in, late_of, loaded, met_after, turned}
+use Rattle.af_runs.specs.Runs.{Run, TrackTold, called, calls_in, new_run, no_track, side_of, sides_of, told_at, turned_track, with_calls, with_cycles, with_load, with_turn}
+use Rattle.af_runs.specs.Sessions.{Session, setup_of}
+use Rattle.af_script.specs.Data.{ScriptData}
+use Rattle.af_script.specs.Form.{IsScript}
+use Rattle.af_judge.proofs.BlocksMeet.{met_at}
+use Rattle.af_judge.proofs.EachTrack.{each_at, told_each}
+use Rattle.af_judge.proofs.EntriesFollow.{cycles_beside}
+use Rattle.af_judge.proofs.TracksTold.{sides_called}
+use Rattle.af_audit.specs.Known.{most_seen}
+use Rattle.af_audit.specs.Settled.{SettledMeansKept}
+use Rattle.af_audit.proofs.CommandDrops.{taken_first}
+use Rattle.af_audit.proofs.CommandRounds.{CommandsAt, CommandsSo, met_so}
+use Rattle.af_audit.proofs.FatesTold.{new_there}
+use Rattle.af_audit.proofs.Grown.{played_grow, rounds_grow}
+use Rattle.af_audit.proofs.KnownSeen.{Stores, saw-stored}
+use Rattle.af_audit.proofs.SeenKept.{seen-kept}
+use Rattle.af_audit.proofs.SettledRounds.{AtRound, at_round, flushes, new_settles, played_at}
+use Rattle.af_audit.proofs.SidesKept.{sides_turned}
+use Rattle.af_audit.proofs.SparedTold.{not_true}
+use Rattle.af_audit.proofs.StartWords.{IsOrderly, orderly_front, start_seen, words_front, words_join, words_of}
+use Rattle.af_audit.proofs.StartsSettled.{waiting}
+use Rattle.af_audit.proofs.StatusWords.{StatusesLow, status_among}
+use Rattle.af_audit.proofs.ToldGrowing.{grows_calls, grows_cycles}
+use Rattle.af_audit.proofs.ToldMeasure.{of_run}
+use Rattle.af_audit.proofs.TrackUnshut.{trim_called}
+use Rattle.af_audit.proofs.TurnSees.{HasSeenSettled, turn-sees}
+
+-- ## A block that has met
+
+-- a status that its client saw counts no START as settled whose flush count wasn't seen
+seen_low : (most : ℕ) (b : BlockTold) (c : Client) (s : TrackKept) (count : ℕ) → CommandsSo most b c s → HasBlockHistory (meets b) → HasSeenSettled (side_of b) count → count ≤ most
+seen_low most b c s count h history saw = by_word (saw-stored b.shape saw.before saw.word (saw.later ++ client.Learn (length (server_list b)) ∷ []) b.released (server_list (meets b)) b.taken (hand_list (meets b)) listed_so)
+  where
+    listed_so : HasHistory b.shape (saw.before ++ client.SawStatus saw.word ∷ (saw.later ++ client.Learn (length (server_list b)) ∷ [])) b.released (server_list (meets b)) b.taken (hand_list (meets b))
+    listed_so = subst (λ (es : List ClientEvent). HasHistory b.shape es b.released (server_list (meets b)) b.taken (hand_list (meets b)))
+        (ap (λ (es : List ClientEvent). es ++ client.Learn (length (server_list b)) ∷ []) saw.events_are ∙ append_assoc saw.before (client.SawStatus saw.word ∷ saw.later) (client.Learn (length (server_list b)) ∷ [])) history
+
+    by_taken : (n : ℕ) → b.taken ≡ take n b.released → saw.number < length h.so.done → count ≤ most
+    by_taken n front settled =
+        let done = h.so.done in
+        let rest : List ℕ = drop n b.released in
+        let all : b.released ≡ words_of (done ++ waiting s.awaits) ++ rest = sym (take-append-drop n b.released) ∙ ap (λ (l : List ℕ). l ++ rest) (sym front ∙ h.so.taken_are) in
+        let split : b.released ≡ words_of done ++ (words_of (waiting s.awaits) ++ rest) = all ∙ ap (λ (l : List ℕ). l ++ rest) (words_join done (waiting s.awaits)) ∙ append_assoc (words_of done) (words_of (waiting s.awaits)) rest in
+        let begins = words_front (done ++ waiting s.awaits) h.sent.sent rest (sym h.sent.words_are ∙ all) in
+        let sent_so : IsOrderly h.sent.sent = record { opens = h.sent.opens; removes = h.sent.removes } in
+        let order : IsOrderly (done ++ waiting s.awaits) = orderly_front (done ++ waiting s.awaits) begins.0 (subst IsOrderly begins.1 sent_so) in
+        start_seen most done (words_of (waiting s.awaits) ++ rest) saw.number count settled
+        (subst (λ (l : List ℕ). slice_get l (2 * saw.number) ≡ Some START) split saw.start.code)
+        (subst (λ (l : List ℕ). slice_get l (2 * saw.number + 1) ≡ Some count) split saw.start.argument)
+        (h.so.stands order).seen
+
+    by_stored : saw.number < length h.so.done → CommandsSo most (meets b) c s → count ≤ most
+    by_stored settled m =
+        let few : b.shape.wrap ≤ 32768 = (let w : b.shape.wrap ≡ 0 = ap (λ (k : Shape). k.wrap) h.shape in omega (arith, w)) in
+        let t = taken_first b.shape few (client_list (meets b)) b.released (server_list (meets b)) b.taken (hand_list (meets b)) history m.calm m.drops in
+        by_taken t.0 t.1 settled
+
+    by_word : (saw.word ≡ 0) ⊎ Stores saw.word (server_list (meets b)) → count ≤ most
+    by_word (inl none) =
+        let z : 0 / 256 ≡ 0 = zero-div 256 in
+        let low : saw.number < 0 / 256 = subst (λ (w : ℕ). saw.number < settled_in w) none saw.settled in
+        absurd (omega (arith, z, low))
+    by_word (inr stored) =
+        let m : CommandsSo most (meets b) c s = met_so most b c s h in
+        let word = status_among s.settled stored.before saw.word stored.later (subst (λ (es : List ServerEvent). StatusesLow s.settled es) stored.whole m.statuses) in
+        let many = h.so.many in
+        let settled = saw.settled in
+        by_stored (omega (arith, word, many, settled)) m
+
+-- ## A round
+
+module _ (s : Session) (run : Run) (round : RoundSeen) (n : ℕ) (low : n < length run.tracks) where
+  -- the client's side of a command block
+  abbrev Of : Run → Side
+  Of r = side_of (told_at r n).commands
+
+  abbrev after : Track
+  after = after_calls (sides_of (told_at run n)) (calls_in round n)
+
+  called_side : Of (with_calls round run) ≡ after.commands
+  unfolding with_calls
+  called_side = ap (λ (t : TrackTold). side_of t.commands) (told_each (λ track t. called (calls_in round track) t) run n low) ∙ ap (λ (t : Track). t.commands) (sides_called (told_at run n) (calls_in round n))
+
+  turned_side : (found : Turn → TurnFound) (o : Option Turn) (r : Run) → n < length r.tracks → Of (turned s found o r) ≡ Of r
+  unfolding with_turn
+  turned_side found None r there = refl
+  turned_side found (Some e) r there =
+      let c = setup_of s in
+      let told = outside_of c (found e) e in
+      ap (λ (t : TrackTold). side_of t.commands) (each_at (turned_track c told r.normal e) 0 r.tracks n n no_track there (omega arith)) ∙ ap (λ (t : Track). t.commands) (sides_turned c told r.normal e n (told_at r n))
+
+  loaded_side : (o : Option Turn) (r : Run) → Of (loaded o r) ≡ Of r
+  unfolding with_load
+  loaded_side None r = refl
+  loaded_side (Some e) r = refl
+
+  -- once the turns were made it is as its client left it
+  played_side : n < length (before_turn s run round).tracks → Of (all_played s run round) ≡ after.commands
+  played_side there =
+      loaded_side round.turn (with_cycles s (late_of run round) (after_turn s run round))
+      ∙ ap side_of ((cycles_beside s (late_of run round) (after_turn s run round)).commands n)
+      ∙ turned_side (found_in s run round) round.turn (before_turn s run round) there
+      ∙ ap side_of ((cycles_beside s (early_of run round) (with_calls round run)).commands n)
+      ∙ called_side
+
+-- ## The promise
+
+before_there : (s : Session) (run : Run) (round : RoundSeen) (n : ℕ) → n < length run.tracks → n < length (before_turn s run round).tracks
+before_there s run round n low = (let a = (grows_calls s round run).many in let b = (grows_cycles s (early_of run round) (with_calls round run)).many in omega (arith, a, b, low))
+
+seen_by : (s : Session) (played : Run) (n : ℕ) (k : Shape) (count : ℕ) → (told_at played n).stream.shape ≡ k → count ≤ of_run flushes played n → count ≤ most_seen k (server_list (told_at played n).stream)
+seen_by s played n k count same seen = subst (λ (x : Shape). count ≤ most_seen x (server_list (told_at played n).stream)) same seen
+
+pub settled : (script : ScriptData) (files : List (List Frame)) (j : JournalData) → IsScript script → IsLegalRun script files j → SettledMeansKept script files j
+settled script files j is legal before round later whole track low lawful count sees part h =
+    let s : Session = session_of script files in
+    let run : Run = run_from s (new_run s) before in
+    let marks : Marks = marks_of j.rounds in
+    let played : Run = all_played s run round in
+    let commands : is_lawful_block true j.rounds track ≡ true = both_right (is_lawful_block false j.rounds track) (is_lawful_block true j.rounds track) lawful in
+    let calm = not_true (list_any (λ (round : RoundSeen). list_any (is_poke_on true) (calls_in round track)) j.rounds) commands in
+    let at : AtRound s marks j.tracks track run round = at_round s is marks j.tracks track low before round later (new_run s)
+    (subst (All (IsRound j.tracks)) whole legal.rounds.form.rounds)
+    (subst (LegalRounds false s marks (new_run s)) whole legal.rounds.rounds)
+    (subst (λ (rs : List RoundSeen). list_any (λ (round : RoundSeen). list_any (is_poke_on true) (calls_in round track)) rs ≡ false) whole calm)
+    (new_settles s is track low) in
+    let there : track < length run.tracks = at.settles.tells.low in
+    let c : CommandsAt (of_run flushes played track) track played = played_at s is marks run round j.tracks track low at.form at.legal at.settles in
+    let b : BlockTold = (told_at played track).commands in
+    let side : side_of b ≡ (after_calls (sides_of (told_at run track)) (calls_in round track)).commands = played_side s run round track there (before_there s run round track there) in
+    let saw : HasSeenSettled (side_of b) count = subst (λ (x : Side). HasSeenSettled x count) (sym side) (turn-sees (sides_of (told_at run track)) (calls_in round track) count sees) in
+    let tame : is_lawful (client_list b) ≡ true = ap (λ (x : Side). is_lawful x.events) (side ∙ sym (ap (λ (t : Track). t.commands) (sides_called (told_at run track) (calls_in round track)))) ∙ (trim_called true (calls_in round track) (told_at run track) (λ on. at.calm) at.settles.trim).tame refl in
+    let met : (told_at (met_after s run round) track).commands ≡ meets b = ap (λ (t : TrackTold). t.commands) (met_at s played track c.there) in
+    let history : HasBlockHistory (meets b) = subst HasBlockHistory met ((at.legal.histories.blocks track low).commands refl (ap (λ (x : BlockTold). is_lawful (client_list x)) met ∙ lawful_more (client_list b) (client.Learn (length (server_list b))) refl tame)) in
+    let seen : count ≤ of_run flushes played track = seen_low (of_run flushes played track) b (told_at played track).client (track_at played.normal.tracks track) count c.commands history saw in
+    let start = new_there s track low in
+    let shape_last : (told_at (run_of script files j) track).stream.shape ≡ (told_at (new_run s) track).stream.shape = (rounds_grow track s j.rounds (new_run s) start).track.stream.shape in
+    let shape_run : (told_at run track).stream.shape ≡ (told_at (new_run s) track).stream.shape = (rounds_grow track s before (new_run s) start).track.stream.shape in
+    let shape_played : (told_at played track).stream.shape ≡ (told_at run track).stream.shape = (played_grow track s run round there).track.stream.shape in
+    let shape : (told_at played track).stream.shape ≡ (told_at (run_of script files j) track).stream.shape = shape_played ∙ shape_run ∙ sym shape_last in
+    seen-kept script files j legal before round later whole track low lawful is count part (seen_by s played track (told_at (run_of script files j) track).stream.shape count shape seen) h

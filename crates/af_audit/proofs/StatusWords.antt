@@ -1,0 +1,80 @@
+-- How many commands a stored status counts as settled.
+use Rattle.std.proofs.Common.{◌≡◌, ℕ, ◌+◌, ◌*◌, ◌/◌, ◌≤◌, Bool, true, false, if◌then◌else◌, List, [], ◌∷◌, ◌++◌, ap, ◌∙◌, arith}
+use Rattle.std.proofs.lemmas.Nat.{div-mul-add}
+use Rattle.af_base.specs.declared.event.ServerEvent.{ServerEvent}
+use Rattle.af_base.specs.declared.event.ServerEvent.TheVariants as server
+use Rattle.af_life.specs.declared.kept.TrackKept.{TrackKept}
+use Rattle.af_life.specs.declared.state.LifeState.{LifeState}
+use Rattle.af_life.specs.declared.state.LifeState.TheVariants.{Absent, Idle, Active, Pausing, Paused, Resuming, Stopping1, Stopping2, Stopped, Flushed}
+use Rattle.af_life.specs.declared.track.Life.{Life}
+use Rattle.af_life.specs.Serves.{state_code, status_word}
+use Rattle.af_life.specs.State.{code_of}
+use Rattle.af_runs.specs.Clients.{settled_in}
+
+-- ## A word
+
+code_low : (state : LifeState) → code_of state ≤ 15
+code_low Absent = omega arith
+code_low Idle = omega arith
+code_low Active = omega arith
+code_low Pausing = omega arith
+code_low Paused = omega arith
+code_low Resuming = omega arith
+code_low Stopping1 = omega arith
+code_low Stopping2 = omega arith
+code_low Stopped = omega arith
+code_low Flushed = omega arith
+
+state_low : (shut : Bool) (life : Life) → state_code shut life ≤ 15
+state_low true life = omega arith
+state_low false life = code_low life.state
+
+mark_low : (drained : Bool) → (if drained then 16 else 0) ≤ 16
+mark_low true = omega arith
+mark_low false = omega arith
+
+-- a track's status counts the commands that it has settled
+pub status_settles : (shut : Bool) (s : TrackKept) → settled_in (status_word shut s) ≡ s.settled
+unfolding status_word
+status_settles shut s = by (state_code shut s.life) (if s.life.drained then 16 else 0) (state_low shut s.life) (mark_low s.life.drained)
+  where
+    by : (state mark : ℕ) → state ≤ 15 → mark ≤ 16 → (state + mark + 256 * s.settled) / 256 ≡ s.settled
+    by state mark a b =
+        let word : state + mark + 256 * s.settled ≡ s.settled * 256 + (state + mark) = omega arith in
+        ap (λ (n : ℕ). n / 256) word ∙ div-mul-add s.settled 256 (state + mark) (omega (arith, a, b))
+
+-- ## A list
+
+-- a status that is stored counts at most so many
+abbrev pub StatusLow : ℕ → ServerEvent → Type 0
+StatusLow most (server.SetStatus word) = settled_in word ≤ most
+StatusLow most _ = Unit {0}
+
+abbrev pub StatusesLow : ℕ → List ServerEvent → Type 0
+StatusesLow most [] = Unit {0}
+StatusesLow most (e ∷ es) = StatusLow most e × StatusesLow most es
+
+pub statuses_join : (most : ℕ) (xs ys : List ServerEvent) → StatusesLow most xs → StatusesLow most ys → StatusesLow most (xs ++ ys)
+statuses_join most [] ys h g = g
+statuses_join most (x ∷ xs) ys h g = (h.0, statuses_join most xs ys h.1 g)
+
+status_more : (few most : ℕ) (e : ServerEvent) → few ≤ most → StatusLow few e → StatusLow most e
+status_more few most (server.SetStatus word) low h = omega (arith, low, h)
+status_more few most (server.SawGain word) low h = tt
+status_more few most (server.SawFlush flush) low h = tt
+status_more few most (server.SawRear rear) low h = tt
+status_more few most (server.SawFront front) low h = tt
+status_more few most (server.Drop to) low h = tt
+status_more few most (server.Take count) low h = tt
+status_more few most (server.Tally missing) low h = tt
+status_more few most (server.SetFlags bits) low h = tt
+status_more few most (server.Learn count) low h = tt
+
+pub statuses_more : (few most : ℕ) (es : List ServerEvent) → few ≤ most → StatusesLow few es → StatusesLow most es
+statuses_more few most [] low h = tt
+statuses_more few most (e ∷ es) low h = (status_more few most e low h.0, statuses_more few most es low h.1)
+
+-- one of them
+pub status_among : (most : ℕ) (before : List ServerEvent) (word : ℕ) (later : List ServerEvent) → StatusesLow most (before ++ server.SetStatus word ∷ later) → settled_in word ≤ most
+status_among most [] word later h = h.0
+status_among most (e ∷ before) word later h = status_among most before word later h.1
