@@ -1,6 +1,10 @@
 -- A script that was played in rounds, its journal and its line.
 use Rattle.std.proofs.Common.{◌≡◌, ◌∙◌, ℕ, Bool, true, false, List, Some, Ok, Err, String, string_bytes, ap, inr, refl, subst, sym}
 use Rattle.std.specs.declared.alloc.Global.{Global}
+use Rattle.af_audit.specs.Drained.{EachDrainedTrackReachedItsStop}
+use Rattle.af_audit.specs.Fates.{EachFrameHasOneFate}
+use Rattle.af_audit.specs.Settled.{SettledMeansKept}
+use Rattle.af_audit.specs.Spared.{EachLawfulBlockIsSpared}
 use Rattle.af_io.specs.Files.{Files, SetsFile, LeavesFront}
 use Rattle.af_io.specs.Outputs.{with_file}
 use Rattle.af_journal.specs.Texts.{text_of}
@@ -9,6 +13,7 @@ use Rattle.af_tally.specs.declared.summary.Summary.{Summary}
 use Rattle.af_session.specs.Ends.{EndsState}
 use Rattle.af_session.specs.PlayedRuns.{HandsBackRun, IsLegalJournal}
 use Rattle.af_session.specs.Shown.{summary_told}
+use Rattle.af_runs.specs.LegalRuns.{IsLegalRun}
 use Rattle.af_runs.specs.Pcm.{journal_pcm}
 use Rattle.af_io.specs.declared.store.StoreError.{StoreError}
 use Rattle.af_player.specs.declared.status.Stop.TheVariants.{Over}
@@ -20,6 +25,11 @@ use Rattle.af_player.specs.Plays.{IsPlay, IsPlayed, IsSomePlayLine, LeavesText, 
 use Rattle.af_player.specs.Sessions.{summary_line}
 use Rattle.af_player.specs.Status.{stop_of}
 use Rattle.af_player.proofs.Made.{Makes-unwritten, files_are}
+
+-- the promises of a journal, one by one
+pub promises : (l : Loaded) (journal : JournalData) → IsLegalRun l.script l.files journal → EachFrameHasOneFate l.script l.files journal → EachLawfulBlockIsSpared l.script l.files journal → EachDrainedTrackReachedItsStop l.script l.files journal → SettledMeansKept l.script l.files journal
+    → IsLegalJournal true l.script l.files journal
+promises l journal legal fates unshut drained settled = record { legal = legal; fates = fates; unshut = unshut; drained = drained; settled = settled }
 
 module _ (ended : Bool) (l : Loaded) (journal : JournalData) (ends : EndsState) (back : HandsBackRun ended l.script l.files journal ends) (legal : IsLegalJournal ended l.script l.files journal) where
   abbrev bytes : List ℕ

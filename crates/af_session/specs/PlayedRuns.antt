@@ -5,8 +5,10 @@ use Rattle.af_base.specs.declared.frame.Frame.{Frame}
 use Rattle.af_io.specs.Files.{Files, SameFiles, LeavesFront}
 use Rattle.af_model.specs.Journals.{JournalData, RoundNoted, journal_of}
 use Rattle.af_script.specs.Data.{ScriptData}
+use Rattle.af_audit.specs.Drained.{EachDrainedTrackReachedItsStop}
 use Rattle.af_audit.specs.Fates.{EachFrameHasOneFate}
-use Rattle.af_audit.specs.Spared.{EachLawfulTrackIsSpared}
+use Rattle.af_audit.specs.Settled.{SettledMeansKept}
+use Rattle.af_audit.specs.Spared.{EachLawfulBlockIsSpared}
 use Rattle.af_runs.specs.LegalRuns.{IsCutRun, IsLegalRun}
 use Rattle.af_session.specs.NewSession.{IsNewSession}
 use Rattle.af_party.specs.Parties.{PartyState}
@@ -76,9 +78,17 @@ pub record HandsBackRun (ended : Bool) (script : ScriptData) (files : List (List
   pub all : all_ended parties ≡ ended
   pub cut : ended ≡ false → is_full parties ≡ true
 
--- The journal alone, whoever made it, is that of a legal run, in which each frame that a lawful client released has one fate, and each lawful track is spared; or, where not all have ended, that of a run cut off with its log full
+-- What is promised of the journal of a play in which all have ended, whoever made it: it is that of a legal run, in which each frame that a lawful client released has one fate, each lawful track is spared, each track reported drained has reached its stop, and what is released after a START was seen settled is kept from the flushes before it
+pub record KeepsPromises (script : ScriptData) (files : List (List Frame)) (journal : JournalData) : Type 0 where
+  pub legal : IsLegalRun script files journal
+  pub fates : EachFrameHasOneFate script files journal
+  pub unshut : EachLawfulBlockIsSpared script files journal
+  pub drained : EachDrainedTrackReachedItsStop script files journal
+  pub settled : SettledMeansKept script files journal
+
+-- the journal alone keeps these promises; or, where not all have ended, it is that of a run cut off with its log full
 abbrev pub IsLegalJournal : Bool → ScriptData → List (List Frame) → JournalData → Type 0
-IsLegalJournal true script files journal = IsLegalRun script files journal × EachFrameHasOneFate script files journal × EachLawfulTrackIsSpared script files journal
+IsLegalJournal true script files journal = KeepsPromises script files journal
 IsLegalJournal false script files journal = IsCutRun script files journal
 
 -- ## Why a run was not played to its end

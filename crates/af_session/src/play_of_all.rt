@@ -11,8 +11,10 @@ ghost use Rattle.af_nblog.specs.declared.entries.Note.{Note as SomeNote};
 ghost use Rattle.af_session.specs.Hostile.{PokesSpareOthers};
 ghost use Rattle.af_session.specs.Logging.{BeginsLog, IsLogOf, LogsPlay, TellsLog};
 ghost use Rattle.af_session.specs.NewSession.{IsNewSession};
+ghost use Rattle.af_audit.specs.Drained.{EachDrainedTrackReachedItsStop};
 ghost use Rattle.af_audit.specs.Fates.{EachFrameHasOneFate};
-ghost use Rattle.af_audit.specs.Spared.{EachLawfulTrackIsSpared};
+ghost use Rattle.af_audit.specs.Settled.{SettledMeansKept};
+ghost use Rattle.af_audit.specs.Spared.{EachLawfulBlockIsSpared};
 ghost use Rattle.af_runs.specs.LegalRuns.{IsCutRun, IsLegalRun};
 ghost use Rattle.af_session.specs.declared.rendering.SessionFault.TheVariants.{CycleLimit, Memory as MemoryFault};
 ghost use Rattle.af_session.specs.PlayedRuns.{AtFault, AtLimit, HandedBack, HandsBackRun, LeavesRun, Plays, all_ended, is_full};
@@ -31,7 +33,7 @@ use crate::making::make;
 use crate::parties::Parties;
 use crate::rendering::{Played, SessionFault, hand_back, hand_over, make_room, make_tally, sum_up};
 use crate::shared::Shared;
-use af_audit::judge;
+use af_audit::{drained_tracks_have_reached_their_stop, judge};
 use af_base::{Frame, Items, Memory};
 use af_io::{Gate, Pcm, Store, StoreError};
 use af_model::{Journal, Rounds};
@@ -141,7 +143,7 @@ fn play_made<R: Threads + Sync, S: Store, G: Gate>(
     )
 }
 
-// Judges a journal by itself, as anyone may: memory is wanted where it isn't legal.
+// Judges a journal by itself, as anyone may: Memory says that there was none, that the journal isn't legal, or that it is longer than the judge counts. No play has come to the last two.
 fn judged(
     alloc: Global,
     script: &Script,
@@ -214,7 +216,9 @@ fn play_with<R: Threads + Sync, S: Store, G: Gate>(
     ensures limit { IfErr result (AtLimit (HandsBackRun false script.now files.now)) }
     ensures legal { IfOk result (λ p. IsLegalRun script.now files.now p.journal) }
     ensures fates { IfOk result (λ p. EachFrameHasOneFate script.now files.now p.journal) }
-    ensures unshut { IfOk result (λ p. EachLawfulTrackIsSpared script.now files.now p.journal) }
+    ensures unshut { IfOk result (λ p. EachLawfulBlockIsSpared script.now files.now p.journal) }
+    ensures drained { IfOk result (λ p. EachDrainedTrackReachedItsStop script.now files.now p.journal) }
+    ensures settled { IfOk result (λ p. SettledMeansKept script.now files.now p.journal) }
     ensures cut_run { IfErr result (AtLimit (λ journal _. IsCutRun script.now files.now journal)) }
     ensures summary { IfOk result (λ p. p.summary ≡ summary_told script.now.frames p.journal p.ends) }
     ensures calls { HandedBack CallsStandOnce result }
@@ -229,6 +233,7 @@ fn play_with<R: Threads + Sync, S: Store, G: Gate>(
     ensures log { (kept : Option ℕ) → BeginsLog kept script.now.cycles logging.old → IfOk result (λ p. TellsLog kept script.now.frames p.journal logging.new) }
     ensures left_whole { S.told store.old → IfOk result (λ _. LeavesRun script.now files.now name.now (S.files store.old) (S.files store.new)) }
 {
+    drained_tracks_have_reached_their_stop();
     let (shared, mut parties) = make(alloc, script)?;
     let (mut buffer, mut bytes) = make_room(alloc, script.frames() as usize)?;
     let (mut tally, mut released) = make_tally(alloc, script.tracks().len())?;
@@ -255,6 +260,8 @@ fn play_with<R: Threads + Sync, S: Store, G: Gate>(
 /// Plays a script in rounds. In each every party that has not ended makes one turn, on a thread of its own where one can be made: each client, the normal mixer, and the fast mixer, which makes sixteen cycles, or fewer after one that isn't mixed. Then all parties meet. A party's turn begins at the gate, by its number: the clients' are those of their tracks, and the mixers' come behind. The sound goes to the file of this name, round by round. All blocks, logs and mixers are made before the file is; the rounds are noted as they are played. It makes at most as many rounds as the script has cycles.
 ///
 /// Whatever the threads did, what was played is a run of the script and its files, of rounds of all parties, whose journal is handed back: in it each client's calls and each state pushed stand once, in their order, and no cycle uses a state older than one before it. Where the store tells it the file is the sound of the journal. Whatever clients stored in their words, each track on whose blocks nothing was poked is spared: no call of its client was answered Corrupt, and no look of the normal mixer at its blocks was Shut. Ok says that all parties have ended, CycleLimit that the log is full and some party has not; so after each round but the last some party goes on and the log has room. After a fault no file has changed, or the file holds a front of the sound of some first rounds.
+///
+/// By itself, whoever made it, the journal of Ok is that of a legal run of the script and its files (`legal`). In it each frame that a client without a poke released was mixed once, in its place, was discarded by one flush that was noticed, or is still queued (`fates`); nothing of such a track was found shut or corrupt (`unshut`); a track that is reported drained has reached the count of its last stop, at which its client had released so much (`drained`); and what a client releases after it saw a START settled is discarded by a later flush alone (`settled`). The journal after CycleLimit is that of a cut run (`cut_run`). The journal is judged before it is handed back: Memory may also stand for one that was judged not to be legal, or that is longer than the judge counts (131,072 turns of the normal mixer). No play has come to either.
 pub fn play<R: Threads + Sync, S: Store, G: Gate>(
     rt: &R,
     alloc: Global,
@@ -269,7 +276,9 @@ pub fn play<R: Threads + Sync, S: Store, G: Gate>(
     ensures limit { IfErr result (AtLimit (HandsBackRun false script.now files.now)) }
     ensures legal { IfOk result (λ p. IsLegalRun script.now files.now p.journal) }
     ensures fates { IfOk result (λ p. EachFrameHasOneFate script.now files.now p.journal) }
-    ensures unshut { IfOk result (λ p. EachLawfulTrackIsSpared script.now files.now p.journal) }
+    ensures unshut { IfOk result (λ p. EachLawfulBlockIsSpared script.now files.now p.journal) }
+    ensures drained { IfOk result (λ p. EachDrainedTrackReachedItsStop script.now files.now p.journal) }
+    ensures settled { IfOk result (λ p. SettledMeansKept script.now files.now p.journal) }
     ensures cut_run { IfErr result (AtLimit (λ journal _. IsCutRun script.now files.now journal)) }
     ensures summary { IfOk result (λ p. p.summary ≡ summary_told script.now.frames p.journal p.ends) }
     ensures calls { HandedBack CallsStandOnce result }
@@ -307,7 +316,9 @@ pub fn play_logged<R: Threads + Sync, S: Store, G: Gate>(
     ensures limit { IfErr result (AtLimit (HandsBackRun false script.now files.now)) }
     ensures legal { IfOk result (λ p. IsLegalRun script.now files.now p.journal) }
     ensures fates { IfOk result (λ p. EachFrameHasOneFate script.now files.now p.journal) }
-    ensures unshut { IfOk result (λ p. EachLawfulTrackIsSpared script.now files.now p.journal) }
+    ensures unshut { IfOk result (λ p. EachLawfulBlockIsSpared script.now files.now p.journal) }
+    ensures drained { IfOk result (λ p. EachDrainedTrackReachedItsStop script.now files.now p.journal) }
+    ensures settled { IfOk result (λ p. SettledMeansKept script.now files.now p.journal) }
     ensures cut_run { IfErr result (AtLimit (λ journal _. IsCutRun script.now files.now journal)) }
     ensures summary { IfOk result (λ p. p.summary ≡ summary_told script.now.frames p.journal p.ends) }
     ensures calls { HandedBack CallsStandOnce result }

@@ -1,8 +1,11 @@
 use Rattle.std.proofs.Common.{◌≡◌, ◌*◌, ℕ, List, Some, false, true, inl, refl, sym, ap, subst, ◌∙◌}
+use Rattle.af_audit.specs.Drained.{EachDrainedTrackReachedItsStop}
 use Rattle.af_audit.specs.Fates.{EachFrameHasOneFate}
-use Rattle.af_audit.specs.Spared.{EachLawfulTrackIsSpared}
+use Rattle.af_audit.specs.Settled.{SettledMeansKept}
+use Rattle.af_audit.specs.Spared.{EachLawfulBlockIsSpared}
 use Rattle.af_audit.proofs.FatesTold.{frames-have-fates}
-use Rattle.af_audit.proofs.SparedTold.{lawful-tracks-are-spared}
+use Rattle.af_audit.proofs.SettledTold.{settled}
+use Rattle.af_audit.proofs.SparedTold.{lawful-blocks-are-spared}
 use Rattle.af_base.specs.Roomy.{Roomy}
 use Rattle.af_fast.specs.Mixer.{MixerState}
 use Rattle.af_io.specs.Files.{SetsFile}
@@ -272,7 +275,13 @@ pub returns-clause-fates : goal.returns-clause-fates
 returns-clause-fates g c = if_ok_one (λ (p : Played). IsLegalRun c.args.script.now c.args.files.now p.journal) (λ (p : Played). EachFrameHasOneFate c.args.script.now c.args.files.now p.journal) c.answer.result (λ p legal. frames-have-fates c.args.script.now c.args.files.now p.journal legal) c.answer.ensures.legal
 
 pub returns-clause-unshut : goal.returns-clause-unshut
-returns-clause-unshut g c = if_ok_one (λ (p : Played). IsLegalRun c.args.script.now c.args.files.now p.journal) (λ (p : Played). EachLawfulTrackIsSpared c.args.script.now c.args.files.now p.journal) c.answer.result (λ p legal. lawful-tracks-are-spared c.args.script.now c.args.files.now p.journal c.frames.ensures.script legal) c.answer.ensures.legal
+returns-clause-unshut g c = if_ok_one (λ (p : Played). IsLegalRun c.args.script.now c.args.files.now p.journal) (λ (p : Played). EachLawfulBlockIsSpared c.args.script.now c.args.files.now p.journal) c.answer.result (λ p legal. lawful-blocks-are-spared c.args.script.now c.args.files.now p.journal c.frames.ensures.script legal) c.answer.ensures.legal
+
+pub returns-clause-drained : goal.returns-clause-drained
+returns-clause-drained g c = if_ok_one (λ (p : Played). IsLegalRun c.args.script.now c.args.files.now p.journal) (λ (p : Played). EachDrainedTrackReachedItsStop c.args.script.now c.args.files.now p.journal) c.answer.result (λ p legal. c.drained_tracks_have_reached_their_stop.ensures c.args.script.now c.args.files.now p.journal c.frames.ensures.script legal) c.answer.ensures.legal
+
+pub returns-clause-settled : goal.returns-clause-settled
+returns-clause-settled g c = if_ok_one (λ (p : Played). IsLegalRun c.args.script.now c.args.files.now p.journal) (λ (p : Played). SettledMeansKept c.args.script.now c.args.files.now p.journal) c.answer.result (λ p legal. settled c.args.script.now c.args.files.now p.journal c.frames.ensures.script legal) c.answer.ensures.legal
 
 pub returns-in_err-shared-clause-cut_run : goal.returns-in_err-shared-clause-cut_run
 returns-in_err-shared-clause-cut_run g c = off_limit c.from_residual.result (cut_by c.args.script.now c.args.files.now) (memory_never c.from_residual.result c.from_residual.ensures.1)
