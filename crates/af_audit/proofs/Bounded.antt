@@ -1,6 +1,6 @@
--- No report tells of more than the server of its slot's track has consumed.
+-- No report tells of more than the list of the server of its slot's track.
 use Rattle.std.specs.List.{AllByRecursion}
-use Rattle.std.proofs.Common.{◌≡◌, inl, inr, ℕ, zero, suc, ◌≤◌, ◌==◌, ◌||◌, if◌then◌else◌, is_some, unwrap_or, min, Bool, true, false, List, [], ◌∷◌, ◌++◌, fold, Option, Some, None, refl, sym, ap, subst, arith}
+use Rattle.std.proofs.Common.{◌≡◌, inl, inr, ℕ, zero, suc, ◌≤◌, ◌==◌, ◌||◌, if◌then◌else◌, is_some, unwrap_or, Bool, true, false, List, [], ◌∷◌, ◌++◌, fold, Option, Some, None, refl, sym, ap, subst, arith}
 use Rattle.std.specs.Prelude.{◌-◌, slice_index_or, replicate}
 use Rattle.std.proofs.lemmas.Bool.{cases_lt}
 use Rattle.std.proofs.lemmas.List.{get_or_past}
@@ -21,48 +21,9 @@ use Rattle.af_runs.specs.Runs.{Run, state_for, plays, stream_of, known_of, next_
 use Rattle.af_runs.specs.Sessions.{Session, cycle_frames}
 use Rattle.af_runs.specs.Told.{state_at}
 use Rattle.af_judge.proofs.EntryTold.{cycle_beside}
-use Rattle.af_audit.specs.Drained.{consumed_of}
-use Rattle.af_audit.specs.Older.{IsOlder, IsBounded}
-use Rattle.af_audit.proofs.Growing.{grows_cycle, run_consumed}
-
--- ## One report
-
-abbrev SlotBounded : FastState → (ℕ → ℕ) → ℕ → SlotReport → Type 0
-SlotBounded draft consumed i r = (r.generation ≤ (slot_of draft i).generation) × (r.generation ≡ (slot_of draft i).generation → r.consumed ≤ consumed (slot_of draft i).track)
-
-none_bounded : (draft : FastState) (consumed : ℕ → ℕ) (i : ℕ) (r : SlotReport) → r ≡ no_slot → SlotBounded draft consumed i r
-none_bounded draft consumed i r is = subst (SlotBounded draft consumed i) (sym is) (omega arith, λ e. omega arith)
-
-by_slots : (draft : FastState) (consumed : ℕ → ℕ) (r : Report) → ((i : ℕ) → SlotBounded draft consumed i (report_at r.slots i)) → IsBounded draft consumed r
-by_slots draft consumed r h = record { low = λ i. (h i).0; within = λ i. (h i).1 }
-
-no_bounded : (draft : FastState) (consumed : ℕ → ℕ) → IsBounded draft consumed no_report
-no_bounded draft consumed = by_slots draft consumed no_report (λ i. none_bounded draft consumed i (report_at no_report.slots i) (each slots i))
-  where
-    each : (n i : ℕ) → slice_index_or (replicate n no_slot) i no_slot ≡ no_slot
-    each zero i = refl
-    each (suc n) zero = refl
-    each (suc n) (suc i) = each n i
-
--- by a newer draft, when more was consumed
-pub bounded_more : (x y : FastState) (few more : ℕ → ℕ) (r : Report) → IsOlder x y → ((n : ℕ) → few n ≤ more n) → IsBounded x few r → IsBounded y more r
-bounded_more x y few more r older grows h = record {
-  low = λ i. (let a = h.low i in let b = older.low i in omega (arith, a, b));
-  within = λ i e. (let a = h.low i in let b = older.low i in
-      let g : (slot_of x i).generation ≡ (slot_of y i).generation = omega (arith, a, b, e) in
-      let same : (slot_of x i).track ≡ (slot_of y i).track = ap (λ (t : FastTrack). t.track) (older.same i g) in
-      let within = h.within i (omega (arith, e, g)) in
-      let now = grows (slot_of x i).track in
-      subst (λ (n : ℕ). (slot_report_at i).consumed ≤ more n) same (omega (arith, within, now)));
-}
-  where
-    slot_report_at : ℕ → SlotReport
-    slot_report_at i = report_at r.slots i
-
--- ## Reports
-
-abbrev pub AreBounded : FastState → Run → Type 0
-AreBounded draft run = AllByRecursion (IsBounded draft (consumed_of run)) run.reports
+use Rattle.af_audit.proofs.Older.{IsOlder}
+use Rattle.af_audit.proofs.Growing.{grows_cycle, run_told}
+use Rattle.af_audit.proofs.Measure.{Measure, of_run, IsBounded}
 
 index_all : (P : Report → Type 0) (xs : List Report) (k : ℕ) (d : Report) → AllByRecursion P xs → P d → P (slice_index_or xs k d)
 index_all P [] k d all here = here
@@ -81,16 +42,6 @@ pub weaker_all : (P Q : Report → Type 0) (xs : List Report) → ((r : Report) 
 weaker_all P Q [] f all = tt
 weaker_all P Q (x ∷ xs) f all = (f x all.0, weaker_all P Q xs f all.1)
 
--- the report that a turn loads is one of them
-pub report_bounded : (draft : FastState) (run : Run) (n : ℕ) → AreBounded draft run → IsBounded draft (consumed_of run) (report_of run.reports n)
-report_bounded draft run n all = by_test (n == 0)
-  where
-    by_test : (b : Bool) → IsBounded draft (consumed_of run) (if b then no_report else slice_index_or run.reports (n - 1) (last_report run.reports))
-    by_test true = no_bounded draft (consumed_of run)
-    by_test false = index_all (IsBounded draft (consumed_of run)) run.reports (n - 1) (last_report run.reports) all (last_all (IsBounded draft (consumed_of run)) run.reports no_report all (no_bounded draft (consumed_of run)))
-
--- ## An entry
-
 -- no state pushed is newer than the draft
 abbrev pub AllOlder : Session → Run → FastState → Type 0
 AllOlder s run draft = (k : ℕ) → IsOlder (state_at (cycle_frames s) run.states k) draft
@@ -106,39 +57,86 @@ either_slot : (P : SlotReport → Type 0) (b : Bool) (r t : SlotReport) → (b �
 either_slot P true r t h g = h refl
 either_slot P false r t h g = g
 
-module _ (s : Session) (draft : FastState) where
-  next_bounded : (now : Run) (entry : CycleEntry) (before : List SlotReport) (i : ℕ) → AllOlder s now draft → SlotBounded draft (consumed_of now) i (report_at before i) → SlotBounded draft (consumed_of now) i (next_slot s now entry before i)
-  next_bounded now entry before i older h =
-      let x : FastState = state_for s now entry.state in
-      let y : FastState = state_for s now (last_used now.entries) in
-      let P = SlotBounded draft (consumed_of now) i in
-      let o : IsOlder x draft = for_older s now draft entry.state older in
-      let look : SlotReport = counted_look (cycle_frames s) (slot_of x i).generation (entry_slot entry i).seen (known_of (listed (stream_of now x i))) (if carries y i then report_at before i else no_slot) in
-      either_slot P (is_some (state_of now.states entry.state) || plays x entry i) (slot_report (cycle_frames s) (Some x) (Some y) entry (known_of (listed (stream_of now x i))) i (report_at before i)) (report_at before i)
-      (λ b. either_slot P (carries x i) look (report_at before i)
-      (λ carried. (o.low i, λ e. subst (λ (n : ℕ). look.consumed ≤ consumed_of now n) (ap (λ (t : FastTrack). t.track) (o.same i e)) (low_min (consumed_of now (slot_of x i).track)))) h) h
+module _ (measure : Measure) where
+  -- ## One report
+
+  abbrev SlotBounded : FastState → (ℕ → ℕ) → ℕ → SlotReport → Type 0
+  SlotBounded draft told i r = (r.generation ≤ (slot_of draft i).generation) × (r.generation ≡ (slot_of draft i).generation → measure.of_report r ≤ told (slot_of draft i).track)
+
+  none_bounded : (draft : FastState) (told : ℕ → ℕ) (i : ℕ) (r : SlotReport) → r ≡ no_slot → SlotBounded draft told i r
+  none_bounded draft told i r is = subst (SlotBounded draft told i) (sym is) (omega arith, λ e. omega arith)
+
+  by_slots : (draft : FastState) (told : ℕ → ℕ) (r : Report) → ((i : ℕ) → SlotBounded draft told i (report_at r.slots i)) → IsBounded measure draft told r
+  by_slots draft told r h = record { low = λ i. (h i).0; within = λ i. (h i).1 }
+
+  no_bounded : (draft : FastState) (told : ℕ → ℕ) → IsBounded measure draft told no_report
+  no_bounded draft told = by_slots draft told no_report (λ i. none_bounded draft told i (report_at no_report.slots i) (each slots i))
     where
-      low_min : (n : ℕ) → min 9223372036854775807 n ≤ n
-      low_min n = omega arith
+      each : (n i : ℕ) → slice_index_or (replicate n no_slot) i no_slot ≡ no_slot
+      each zero i = refl
+      each (suc n) zero = refl
+      each (suc n) (suc i) = each n i
 
-  report_next : (now : Run) (entry : CycleEntry) → AllOlder s now draft → IsBounded draft (consumed_of now) (last_report now.reports) → IsBounded draft (consumed_of now) (next_report s now entry)
-  report_next now entry older h = by_slots draft (consumed_of now) (next_report s now entry) each
+  -- by a newer draft, when more was told
+  pub bounded_more : (x y : FastState) (few more : ℕ → ℕ) (r : Report) → IsOlder x y → ((n : ℕ) → few n ≤ more n) → IsBounded measure x few r → IsBounded measure y more r
+  bounded_more x y few more r older grows h = record {
+    low = λ i. (let a = h.low i in let b = older.low i in omega (arith, a, b));
+    within = λ i e. (let a = h.low i in let b = older.low i in
+        let g : (slot_of x i).generation ≡ (slot_of y i).generation = omega (arith, a, b, e) in
+        let same : (slot_of x i).track ≡ (slot_of y i).track = ap (λ (t : FastTrack). t.track) (older.same i g) in
+        let within = h.within i (omega (arith, e, g)) in
+        let now = grows (slot_of x i).track in
+        subst (λ (n : ℕ). measure.of_report (slot_report_at i) ≤ more n) same (omega (arith, within, now)));
+  }
     where
-      each : (i : ℕ) → SlotBounded draft (consumed_of now) i (report_at (next_report s now entry).slots i)
-      each i = elim (cases_lt i slots) as (λ x. SlotBounded draft (consumed_of now) i (report_at (next_report s now entry).slots i)) [
-        | inl low ↦ subst (SlotBounded draft (consumed_of now) i) (sym (get_or-map-range_with_len (next_slot s now entry (last_report now.reports).slots) 0 slots i i no_slot low (omega arith))) (next_bounded now entry (last_report now.reports).slots i older (h.low i, h.within i))
-        | inr high ↦ none_bounded draft (consumed_of now) i (report_at (next_report s now entry).slots i) (get_or_past (next_report s now entry).slots i no_slot (let m = length-map-range_with_len (next_slot s now entry (last_report now.reports).slots) 0 slots in omega (arith, m, high)))
-      ]
+      slot_report_at : ℕ → SlotReport
+      slot_report_at i = report_at r.slots i
 
-  pub bounded_cycle : (e : EntrySeen) (run : Run) → AllOlder s run draft → AreBounded draft run → AreBounded draft (with_cycle s run e)
-  unfolding with_mix with_poll
-  bounded_cycle e run older all =
-      let now : Run = with_looks s e (with_poll s e.entry.state run) in
-      let grown : AllByRecursion (IsBounded draft (consumed_of now)) run.reports = weaker_all (IsBounded draft (consumed_of run)) (IsBounded draft (consumed_of now)) run.reports
-      (λ r. bounded_more draft draft (consumed_of run) (consumed_of now) r (record { low = λ i. omega arith; same = λ i g. refl }) (run_consumed run (with_cycle s run e) (grows_cycle s e run))) all in
-      more_all (IsBounded draft (consumed_of now)) run.reports (next_report s now e.entry) grown
-      (report_next now e.entry older (last_all (IsBounded draft (consumed_of now)) run.reports no_report grown (no_bounded draft (consumed_of now))))
+  -- ## Reports
 
-  pub bounded_cycles : (es : List EntrySeen) (run : Run) → AllOlder s run draft → AreBounded draft run → AreBounded draft (with_cycles s es run)
-  bounded_cycles [] run older all = all
-  bounded_cycles (e ∷ es) run older all = bounded_cycles es (with_cycle s run e) (subst (λ (xs : List FastState). (k : ℕ) → IsOlder (state_at (cycle_frames s) xs k) draft) (sym (cycle_beside s run e).states) older) (bounded_cycle e run older all)
+  abbrev pub AreBounded : FastState → Run → Type 0
+  AreBounded draft run = AllByRecursion (IsBounded measure draft (of_run measure run)) run.reports
+
+  -- the report that a turn loads is one of them
+  pub report_bounded : (draft : FastState) (run : Run) (n : ℕ) → AreBounded draft run → IsBounded measure draft (of_run measure run) (report_of run.reports n)
+  report_bounded draft run n all = by_test (n == 0)
+    where
+      by_test : (b : Bool) → IsBounded measure draft (of_run measure run) (if b then no_report else slice_index_or run.reports (n - 1) (last_report run.reports))
+      by_test true = no_bounded draft (of_run measure run)
+      by_test false = index_all (IsBounded measure draft (of_run measure run)) run.reports (n - 1) (last_report run.reports) all (last_all (IsBounded measure draft (of_run measure run)) run.reports no_report all (no_bounded draft (of_run measure run)))
+
+  -- ## An entry
+
+  module _ (s : Session) (draft : FastState) where
+    next_bounded : (now : Run) (entry : CycleEntry) (before : List SlotReport) (i : ℕ) → AllOlder s now draft → SlotBounded draft (of_run measure now) i (report_at before i) → SlotBounded draft (of_run measure now) i (next_slot s now entry before i)
+    next_bounded now entry before i older h =
+        let x : FastState = state_for s now entry.state in
+        let y : FastState = state_for s now (last_used now.entries) in
+        let P = SlotBounded draft (of_run measure now) i in
+        let o : IsOlder x draft = for_older s now draft entry.state older in
+        let look : SlotReport = counted_look (cycle_frames s) (slot_of x i).generation (entry_slot entry i).seen (known_of (listed (stream_of now x i))) (if carries y i then report_at before i else no_slot) in
+        either_slot P (is_some (state_of now.states entry.state) || plays x entry i) (slot_report (cycle_frames s) (Some x) (Some y) entry (known_of (listed (stream_of now x i))) i (report_at before i)) (report_at before i)
+        (λ b. either_slot P (carries x i) look (report_at before i)
+        (λ carried. (o.low i, λ e. subst (λ (n : ℕ). measure.of_report look ≤ of_run measure now n) (ap (λ (t : FastTrack). t.track) (o.same i e)) (measure.reported (cycle_frames s) (slot_of x i).generation (entry_slot entry i).seen (listed (stream_of now x i)) (if carries y i then report_at before i else no_slot)))) h) h
+
+    report_next : (now : Run) (entry : CycleEntry) → AllOlder s now draft → IsBounded measure draft (of_run measure now) (last_report now.reports) → IsBounded measure draft (of_run measure now) (next_report s now entry)
+    report_next now entry older h = by_slots draft (of_run measure now) (next_report s now entry) each
+      where
+        each : (i : ℕ) → SlotBounded draft (of_run measure now) i (report_at (next_report s now entry).slots i)
+        each i = elim (cases_lt i slots) as (λ x. SlotBounded draft (of_run measure now) i (report_at (next_report s now entry).slots i)) [
+          | inl low ↦ subst (SlotBounded draft (of_run measure now) i) (sym (get_or-map-range_with_len (next_slot s now entry (last_report now.reports).slots) 0 slots i i no_slot low (omega arith))) (next_bounded now entry (last_report now.reports).slots i older (h.low i, h.within i))
+          | inr high ↦ none_bounded draft (of_run measure now) i (report_at (next_report s now entry).slots i) (get_or_past (next_report s now entry).slots i no_slot (let m = length-map-range_with_len (next_slot s now entry (last_report now.reports).slots) 0 slots in omega (arith, m, high)))
+        ]
+
+    pub bounded_cycle : (e : EntrySeen) (run : Run) → AllOlder s run draft → AreBounded draft run → AreBounded draft (with_cycle s run e)
+    unfolding with_mix with_poll
+    bounded_cycle e run older all =
+        let now : Run = with_looks s e (with_poll s e.entry.state run) in
+        let grown : AllByRecursion (IsBounded measure draft (of_run measure now)) run.reports = weaker_all (IsBounded measure draft (of_run measure run)) (IsBounded measure draft (of_run measure now)) run.reports
+        (λ r. bounded_more draft draft (of_run measure run) (of_run measure now) r (record { low = λ i. omega arith; same = λ i g. refl }) (run_told measure run (with_cycle s run e) (grows_cycle s e run))) all in
+        more_all (IsBounded measure draft (of_run measure now)) run.reports (next_report s now e.entry) grown
+        (report_next now e.entry older (last_all (IsBounded measure draft (of_run measure now)) run.reports no_report grown (no_bounded draft (of_run measure now))))
+
+    pub bounded_cycles : (es : List EntrySeen) (run : Run) → AllOlder s run draft → AreBounded draft run → AreBounded draft (with_cycles s es run)
+    bounded_cycles [] run older all = all
+    bounded_cycles (e ∷ es) run older all = bounded_cycles es (with_cycle s run e) (subst (λ (xs : List FastState). (k : ℕ) → IsOlder (state_at (cycle_frames s) xs k) draft) (sym (cycle_beside s run e).states) older) (bounded_cycle e run older all)

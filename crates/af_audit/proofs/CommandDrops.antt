@@ -1,6 +1,6 @@
 -- On a command block nothing is dropped: each drop would belong to a flush, and its client never flushes.
 use Rattle.std.specs.Prelude.{MatchOption}
-use Rattle.std.proofs.Common.{◌≡◌, ◌≢◌, ℕ, ◌^◌, ◌≤◌, Bool, true, false, true≢false, if◌then◌else◌, is_some, List, [], ◌∷◌, ◌++◌, Option, Some, None, refl, sym, ap, ◌∙◌, subst, append-nil, append_assoc, take, arith}
+use Rattle.std.proofs.Common.{◌≡◌, ◌≢◌, ℕ, ◌^◌, ◌≤◌, Bool, true, false, if◌then◌else◌, is_some, List, [], ◌∷◌, ◌++◌, Option, Some, None, refl, sym, ap, ◌∙◌, subst, append-nil, append_assoc, take, arith}
 use Rattle.af_base.specs.declared.event.ClientEvent.{ClientEvent}
 use Rattle.af_base.specs.declared.event.HandEvent.{HandEvent}
 use Rattle.af_base.specs.declared.event.ServerEvent.{ServerEvent}
@@ -26,9 +26,6 @@ use Rattle.af_audit.proofs.DropsNoticed.{drops_join, none_dropped, saw_new, thre
 use Rattle.af_audit.proofs.FewFlushes.{flushes_join}
 use Rattle.af_audit.proofs.Flushes.{flushes_rise, flushes_told, new_above}
 use Rattle.af_model.proofs.Counts.{flushes_are}
-
-no : {A : Type 0} → false ≡ true → A
-no h = absurd (true≢false (sym h))
 
 -- ## Looks
 

@@ -1,5 +1,5 @@
 -- What changes no track that is done with, and when a draft says Exit.
-use Rattle.std.proofs.Common.{◌≡◌, ℕ, zero, suc, ◌==◌, ◌&&◌, ◌||◌, not, Bool, true, false, true≢false, if◌then◌else◌, is_some, sym, refl, ap, subst, ◌∙◌, List, [], ◌∷◌, length, map, fold, slice_set, eqb-true, eq-eqb}
+use Rattle.std.proofs.Common.{◌≡◌, ℕ, zero, suc, ◌==◌, ◌&&◌, ◌||◌, not, Bool, true, false, if◌then◌else◌, is_some, sym, refl, ap, subst, ◌∙◌, List, [], ◌∷◌, length, map, fold, slice_set, eqb-true, eq-eqb}
 use Rattle.std.specs.List.{AllByRecursion, list_any}
 use Rattle.af_base.specs.declared.state.Command.{Command}
 use Rattle.af_base.specs.declared.state.Command.TheVariants.{ColdIdle, Exit, MixWrite}
@@ -15,14 +15,12 @@ use Rattle.af_life.specs.Serves.{served, served_to}
 use Rattle.af_life.specs.Edits.{welcomed, after_ack, is_exit, must_leave, must_enter, let_go, lend, edited, edited_to, is_over, next_command, ordered, commanded_by, mutated}
 use Rattle.af_life.specs.Plays.{after_take}
 use Rattle.af_life.specs.Turn.{after_tracks, after_edits}
+pub use Rattle.af_audit.proofs.Booleans.{no}
 
 -- a track is done with: its life has ended and its proxy is home
 pub record IsDone (s : TrackKept) : Type 0 where
   pub ended : s.life.ended ≡ true
   pub home : is_home s.holder ≡ true
-
-pub no : {A : Type 0} → false ≡ true → A
-no h = absurd (true≢false (sym h))
 
 -- ## Lists of tracks
 

@@ -1,5 +1,5 @@
 -- In a legal run each track that is reported drained has reached its STOP.
-use Rattle.std.proofs.Common.{◌≡◌, ℕ, ◌<◌, ◌||◌, Bool, true, false, true≢false, not, All, List, [], ◌∷◌, ◌++◌, length, refl, sym, subst}
+use Rattle.std.proofs.Common.{◌≡◌, ℕ, ◌<◌, Bool, true, false, All, List, [], ◌∷◌, ◌++◌, length, refl, sym, subst}
 use Rattle.std.specs.List.{list_any}
 use Rattle.std.proofs.lemmas.List.Elements.{All-head, All-tail}
 use Rattle.af_base.specs.declared.frame.Frame.{Frame}
@@ -22,9 +22,7 @@ use Rattle.af_audit.proofs.Reached.{Keeps, keeps_round, new_keeps, reached_round
 use Rattle.af_audit.proofs.SentTold.{commands_at, sent_round}
 use Rattle.af_audit.proofs.Stopped.{Reaches}
 use Rattle.af_audit.proofs.StopSent.{SentSo, stop_sent}
-
-no : {A : Type 0} → false ≡ true → A
-no h = absurd (true≢false (sym h))
+use Rattle.af_audit.proofs.Booleans.{neither, not_true}
 
 -- what is kept of a track whose command block has no poke
 record SendsSo (n : ℕ) (run : Run) (steps : List LifeStep) (sent : List Sent) : Type 0 where
@@ -34,10 +32,6 @@ record SendsSo (n : ℕ) (run : Run) (steps : List LifeStep) (sent : List Sent) 
 -- none of the calls of these rounds pokes the command block
 abbrev AreCalm : ℕ → List RoundSeen → Type 0
 AreCalm n rounds = list_any (λ round. list_any (is_poke_on true) (calls_in round n)) rounds ≡ false
-
-neither : (a b : Bool) → (a || b) ≡ false → (a ≡ false) × (b ≡ false)
-neither true b h = no (sym h)
-neither false b h = (refl, h)
 
 -- ## A round
 
@@ -59,7 +53,7 @@ rounds_told reached s script marks tracks n lawful (round ∷ rounds) run steps 
     let all : List Sent = sent ++ sent_in run round n in
     let after : Run = after_round s run round in
     let two = λ (is : lawful ≡ true). neither (list_any (is_poke_on true) (calls_in round n)) _ (calm is) in
-    let further = λ (is : lawful ≡ true). sends_round s marks tracks n low run round steps sent form legal.0 h.low (two is).0 (so is) in (
+    let further = λ (is : lawful ≡ true). sends_round s marks tracks n low run round steps sent form legal.0 h.tells.low (two is).0 (so is) in (
       (λ says. let d = reached_round s script marks run round tracks n steps form legal.0 h reached low says in
           record { count = d.0; stopped = d.1; reached = d.2; is_sent = λ is. stop_sent (commands_at n after) now all d.0 (further is).so d.1 }),
       rounds_told reached s script marks tracks n lawful rounds after now all low (All-tail (IsRound tracks) round rounds forms) legal.1 (λ is. (two is).1) (keeps_round s script marks run round tracks n steps form legal.0 h) further,
@@ -72,10 +66,6 @@ new_sends s n low = record {
   trim = subst (IsTrim true) (sym (told_new s n low)) (record { rears = tt; tame = λ on. refl; shape = refl });
   so = subst (λ (t : TrackTold). SentSo t.commands [] []) (sym (told_new s n low)) (record { none = refl; calm = refl; released = refl; right = tt; taken = refl; begins = (0, refl) });
 }
-
-not_true : (b : Bool) → not b ≡ true → b ≡ false
-not_true true h = no h
-not_true false h = refl
 
 -- in a legal run of a script each track that is reported drained has reached its STOP
 pub drained : Reaches → (script : ScriptData) (files : List (List Frame)) (j : JournalData) → IsScript script → IsLegalRun script files j → EachDrainedTrackReachedItsStop script files j

@@ -1,5 +1,5 @@
 -- After a meeting at which the server had seen so many flushes, what the client releases is dropped only by a look that sees more.
-use Rattle.std.proofs.Common.{◌≡◌, ◌≢◌, ◌⊎◌, inl, inr, ℕ, ◌+◌, ◌<◌, ◌≤◌, ◌||◌, Bool, true, false, true≢false, fold, List, [], ◌∷◌, ◌++◌, length, get_or, refl, sym, ap, ◌∙◌, subst, arith, append_assoc, append-nil, length-append}
+use Rattle.std.proofs.Common.{◌≡◌, ◌≢◌, ◌⊎◌, inl, inr, ℕ, ◌+◌, ◌<◌, ◌≤◌, ◌||◌, Bool, true, false, fold, List, [], ◌∷◌, ◌++◌, length, get_or, refl, sym, ap, ◌∙◌, subst, arith, append_assoc, append-nil, length-append}
 use Rattle.std.proofs.lemmas.Grind.{fold-append}
 use Rattle.af_base.specs.declared.event.ClientEvent.{ClientEvent}
 use Rattle.af_base.specs.declared.event.ClientEvent.TheVariants as client
@@ -17,9 +17,7 @@ use Rattle.af_audit.specs.Fates.{ComesByFlush, DropsByFlush, SeesNewFlush}
 use Rattle.af_audit.specs.Known.{sees_more, most_seen}
 use Rattle.af_audit.specs.Settled.{DropsAbove, DiscardsAbove}
 use Rattle.af_audit.proofs.Flushes.{new_above, flushes_rise}
-
-no : {A : Type 0} → false ≡ true → A
-no h = absurd (true≢false (sym h))
+use Rattle.af_audit.proofs.Booleans.{no}
 
 tail_of : {X : Type 0} → List X → List X
 tail_of [] = []

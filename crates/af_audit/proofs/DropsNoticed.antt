@@ -1,5 +1,5 @@
 -- Each drop of a server that looks by its list belongs to a flush that was noticed.
-use Rattle.std.proofs.Common.{◌≡◌, ◌≢◌, ◌⊎◌, inl, inr, ℕ, ◌+◌, ◌-◌, ◌<◌, ◌==◌, ◌&&◌, ◌||◌, not, Bool, true, false, true≢false, cond, if◌then◌else◌, is_some, MatchOption, Option, Some, None, List, [], ◌∷◌, ◌++◌, flat_map, refl, sym, ap, ◌∙◌, subst, append-nil, append_assoc, eqb-true, eq-eqb, arith}
+use Rattle.std.proofs.Common.{◌≡◌, ◌≢◌, ◌⊎◌, inl, inr, ℕ, ◌+◌, ◌-◌, ◌<◌, ◌==◌, ◌&&◌, ◌||◌, not, Bool, true, false, cond, if◌then◌else◌, is_some, MatchOption, Option, Some, None, List, [], ◌∷◌, ◌++◌, flat_map, refl, sym, ap, ◌∙◌, subst, append-nil, append_assoc, eqb-true, eq-eqb, arith}
 use Rattle.std.specs.List.{AllByRecursion}
 use Rattle.std.proofs.lemmas.Bool.Decides.{nat_tests}
 use Rattle.std.proofs.lemmas.Grind.{fold-append}
@@ -22,9 +22,7 @@ use Rattle.af_model.specs.JournalForm.{TracksRise}
 use Rattle.af_model.specs.ServerCalls.{server_begins, server_keeps, server_kept, look_at, look_events, is_noticed}
 use Rattle.af_model.proofs.Logic.{both_left, both_right}
 use Rattle.af_audit.specs.Fates.{DropsByFlush, ComesByFlush}
-
-no : {A : Type 0} → false ≡ true → A
-no h = absurd (true≢false (sym h))
+use Rattle.af_audit.proofs.Booleans.{no}
 
 -- ## Some events more
 

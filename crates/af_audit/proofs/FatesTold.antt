@@ -1,6 +1,6 @@
 -- By the end of a legal run each frame that the client of a track without a poke released has one fate.
 use Rattle.std.specs.List.{list_all, list_any, range_with_len}
-use Rattle.std.proofs.Common.{◌≡◌, ℕ, zero, suc, ◌+◌, ◌<◌, ◌==◌, not, nat_lt, Bool, true, false, true≢false, if◌then◌else◌, List, [], ◌∷◌, ◌++◌, length, refl, sym, ap, ◌∙◌, subst, arith}
+use Rattle.std.proofs.Common.{◌≡◌, ℕ, zero, suc, ◌+◌, ◌<◌, ◌==◌, nat_lt, Bool, true, false, if◌then◌else◌, List, [], ◌∷◌, ◌++◌, length, refl, sym, ap, ◌∙◌, subst, arith}
 use Rattle.std.proofs.lemmas.Bool.Decides.{nat_tests}
 use Rattle.std.proofs.lemmas.List.FromFn.{get_or-map-range_with_len, length-map-range_with_len}
 use Rattle.af_base.specs.declared.frame.Frame.{Frame}
@@ -23,6 +23,7 @@ use Rattle.af_audit.proofs.MixerEnds.{all_home, new_ends}
 use Rattle.af_audit.proofs.RunStands.{RunStands, rounds_stand}
 use Rattle.af_audit.proofs.TakenRecorded.{taken_recorded}
 use Rattle.af_audit.proofs.TrackStands.{TrackStands}
+use Rattle.af_audit.proofs.Booleans.{not_true}
 
 -- ## Before the first round
 
@@ -48,9 +49,6 @@ module _ (s : Session) (track : ℕ) (low : track < track_count s) where
   }
 
 -- ## At the end
-
-no : {A : Type 0} → false ≡ true → A
-no h = absurd (true≢false (sym h))
 
 -- a number of a range passes, where all do
 one_passes : (P : ℕ → Bool) (from count i : ℕ) → list_all P (range_with_len from count) ≡ true → i < count → P (from + i) ≡ true
@@ -96,10 +94,6 @@ track_has_fates script files j legal track low lawful =
     let history = stands.history home stands.stands.track.client.tame in
     let taken = taken_recorded s (new_run s) j.rounds track (new_there s track low) ∙ ap (λ (t : TrackTold). t.stream.taken ++ recorded s (new_run s) j.rounds track) (told_new s track low) in
     fates_told (file_words s track) (recorded s (new_run s) j.rounds track) (told_at run track) stands.stands.track history taken
-  where
-    not_true : (b : Bool) → not b ≡ true → b ≡ false
-    not_true true h = no h
-    not_true false h = refl
 
 -- each frame has one fate by the end of a legal run
 pub frames-have-fates : (script : ScriptData) (files : List (List Frame)) (j : JournalData) → IsLegalRun script files j → EachFrameHasOneFate script files j

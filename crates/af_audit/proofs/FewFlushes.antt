@@ -1,6 +1,6 @@
 -- A client flushes no more often than it has ops.
 use Rattle.std.specs.Prelude.{MatchBool, bit_and}
-use Rattle.std.proofs.Common.{◌≡◌, ℕ, ◌+◌, ◌-◌, ◌≤◌, ◌==◌, ◌&&◌, ◌||◌, nat_le, not, Bool, true, false, true≢false, if◌then◌else◌, is_some, fold, List, [], ◌∷◌, ◌++◌, length, Option, Some, None, refl, sym, ap, arith}
+use Rattle.std.proofs.Common.{◌≡◌, ℕ, ◌+◌, ◌-◌, ◌≤◌, ◌==◌, ◌&&◌, ◌||◌, nat_le, not, Bool, true, false, if◌then◌else◌, is_some, fold, List, [], ◌∷◌, ◌++◌, length, Option, Some, None, refl, sym, ap, arith}
 use Rattle.af_base.specs.declared.event.ClientCall.{ClientCall}
 use Rattle.af_base.specs.declared.event.ClientCall.TheVariants as call
 use Rattle.af_base.specs.declared.event.ClientEvent.{ClientEvent}
@@ -16,9 +16,7 @@ use Rattle.af_runs.specs.declared.want.Want.TheVariants as want
 use Rattle.af_runs.specs.Clients.{Client, after_answer, after_clear, after_put, after_send, after_sent, after_status, after_write, at_next_turn, begins, begun, ends, goes_on, is_active, is_last, is_stoppable, is_stopped, mode_after, more, only, rest_of, rested, settled_in, state_in, waits, wants_of}
 use Rattle.af_runs.specs.ClientTurns.{AreCalls, IsMade, IsWanted, LegalClientTurn, Track, after_call, after_calls, answered, called, commands_sent, is_flush, is_of_commands, most_calls, released_by, wanted_of, with_call}
 use Rattle.af_judge.proofs.WantedNext.{first_due}
-
-no : {A : Type 0} → false ≡ true → A
-no h = absurd (true≢false (sym h))
+use Rattle.af_audit.proofs.Booleans.{no}
 
 -- ## What is still to be done
 

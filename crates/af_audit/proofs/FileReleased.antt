@@ -1,5 +1,5 @@
 -- What a client does to its stream block: it releases the frames of its file from the first on, and where none of its calls pokes the block no poke is told.
-use Rattle.std.proofs.Common.{◌≡◌, ℕ, zero, suc, ◌+◌, ◌||◌, Bool, true, false, true≢false, if◌then◌else◌, is_some, fold, List, [], ◌∷◌, ◌++◌, take, drop, length, refl, sym, ap, ◌∙◌, subst, append-nil, take-add}
+use Rattle.std.proofs.Common.{◌≡◌, ℕ, zero, suc, ◌+◌, Bool, true, false, if◌then◌else◌, is_some, fold, List, [], ◌∷◌, ◌++◌, take, drop, length, refl, sym, ap, ◌∙◌, subst, append-nil, take-add}
 use Rattle.std.specs.List.{list_any}
 use Rattle.af_base.specs.declared.event.ClientCall.{ClientCall}
 use Rattle.af_base.specs.declared.event.ClientCall.TheVariants as call
@@ -9,9 +9,7 @@ use Rattle.af_model.specs.History.{is_lawful, is_tame}
 use Rattle.af_model.proofs.Logic.{both_are, both_left, both_right}
 use Rattle.af_runs.specs.ClientTurns.{Track, after_call, after_calls, called, is_of_commands, released_by}
 use Rattle.af_runs.specs.LegalRuns.{is_poke_on}
-
-no : {A : Type 0} → false ≡ true → A
-no h = absurd (true≢false (sym h))
+use Rattle.af_audit.proofs.Booleans.{neither, no}
 
 -- ## The first words of a file
 
@@ -94,10 +92,6 @@ after_one t answer calm h = by_side (is_of_commands answer) refl
       begins = call_begins t answer is h.begins;
       tame = lawful_join t.stream.events (client_events_of t.stream.shape.frames t.stream.shape.base t.stream.events answer) h.tame (call_lawful (is_some (client_kept t.stream.shape.frames t.stream.shape.base t.stream.events).shut) answer is calm);
     }
-
-neither : (a b : Bool) → (a || b) ≡ false → (a ≡ false) × (b ≡ false)
-neither true b h = no (sym h)
-neither false b h = (refl, h)
 
 after_all : (t : Track) (calls : List ClientCall) → list_any (is_poke_on false) calls ≡ false → IsFromFile t → IsFromFile (fold after_call t calls)
 after_all t [] calm h = h

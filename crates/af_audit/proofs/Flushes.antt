@@ -1,5 +1,5 @@
 -- In a history the server's looks see ever more flushes: each look that notices a new flush saw more than any before it.
-use Rattle.std.proofs.Common.{◌≡◌, ◌≢◌, ℕ, zero, suc, ◌+◌, ◌*◌, ◌/◌, ◌%◌, ◌<◌, ◌≤◌, ◌==◌, if◌then◌else◌, Bool, true, false, true≢false, List, [], ◌∷◌, ◌++◌, refl, sym, ap, ◌∙◌, subst, arith, eqb-true}
+use Rattle.std.proofs.Common.{◌≡◌, ◌≢◌, ℕ, zero, suc, ◌+◌, ◌*◌, ◌/◌, ◌%◌, ◌<◌, ◌≤◌, ◌==◌, if◌then◌else◌, Bool, true, false, List, [], ◌∷◌, ◌++◌, refl, sym, ap, ◌∙◌, subst, arith, eqb-true}
 use Rattle.std.proofs.lemmas.Grind.{fold-append}
 use Rattle.std.proofs.lemmas.Nat.{div-mul-add}
 use Rattle.std.proofs.Math.Nat.{mul-le-mul_left, mod-lt, mod-eq_of_lt}
@@ -15,9 +15,7 @@ use Rattle.af_model.specs.Point.{wrapped, start, flush_number, ServerMay, after_
 use Rattle.af_model.specs.History.{Moment, by_client, by_server, by_hand, server_of, after, IsLegal}
 use Rattle.af_model.specs.ServerCalls.{ServerKept, server_begins, server_keeps, server_kept, flushes_by}
 use Rattle.af_audit.specs.Known.{sees_more, most_seen}
-
-no : {A : Type 0} → false ≡ true → A
-no h = absurd (true≢false (sym h))
+use Rattle.af_audit.proofs.Booleans.{no}
 
 -- ## Flush words
 

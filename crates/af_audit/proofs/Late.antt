@@ -1,10 +1,10 @@
 -- Entries that are told without the state that a turn pushes show no more of a track than they do with it.
 use Rattle.std.specs.List.{find, range_with_len}
-use Rattle.std.proofs.Common.{◌≡◌, ◌⊎◌, inl, inr, ℕ, zero, suc, ◌+◌, ◌<◌, ◌≤◌, ◌==◌, ◌&&◌, if◌then◌else◌, is_some, unwrap_or, Bool, true, false, true≢false, ◌++◌, length, Option, Some, None, refl, sym, ap, ◌∙◌, subst, eqb-true, eq-eqb, arith}
+use Rattle.std.proofs.Common.{◌≡◌, ◌⊎◌, inl, inr, ℕ, zero, suc, ◌+◌, ◌<◌, ◌≤◌, ◌==◌, ◌&&◌, if◌then◌else◌, is_some, unwrap_or, Bool, true, false, ◌++◌, length, Option, Some, None, refl, sym, ap, ◌∙◌, subst, eqb-true, eq-eqb, arith}
 use Rattle.af_base.specs.declared.state.FastState.{FastState}
 use Rattle.af_base.specs.declared.state.FastTrack.{FastTrack}
 use Rattle.af_base.specs.Log.{slots, entry_slot}
-use Rattle.af_model.specs.Cycles.{Listed, cycle_events, kept}
+use Rattle.af_model.specs.Cycles.{Listed, cycle_events}
 use Rattle.af_model.specs.Journals.{EntrySeen}
 use Rattle.af_model.specs.StateQueue.{slot_of, carries}
 use Rattle.af_runs.specs.Blocks.{BlockTold, listed}
@@ -14,11 +14,10 @@ use Rattle.af_runs.specs.Sessions.{Session, cycle_frames}
 use Rattle.af_judge.specs.Entries.{CarriesApart}
 use Rattle.af_judge.proofs.EachTrack.{told_each}
 use Rattle.af_judge.proofs.EntryTracks.{both-true, plays_track}
-use Rattle.af_audit.specs.Drained.{consumed_of}
-use Rattle.af_audit.proofs.Growing.{grows_cycle, run_consumed, server-server}
-
-no : {A : Type 0} → false ≡ true → A
-no h = absurd (true≢false (sym h))
+use Rattle.af_audit.proofs.Growing.{grows_cycle, run_told}
+use Rattle.af_audit.proofs.TrackStands.{server-server}
+use Rattle.af_audit.proofs.Measure.{Measure, of_run, of_server}
+use Rattle.af_audit.proofs.Booleans.{no}
 
 -- ## The slot that plays a track
 
@@ -69,70 +68,71 @@ listed_played : (asked : ℕ) (e : EntrySeen) (i : ℕ) (b : BlockTold) → list
 listed_played asked e i b = let slot = entry_slot e.entry i in
     ap (λ es. record { shape = b.shape; events = es }) (server-server b.told (cycle_events asked (listed b) slot (front_of asked (listed b) slot)))
 
-module _ (s : Session) (n : ℕ) (x y : FastState) (same : (j : ℕ) → j < slots → carries x j ≡ true → carries y j ≡ true → slot_of y j ≡ slot_of x j) (apart : CarriesApart y) where
-  -- the first state has the track in no slot that the second carries
-  abbrev Never : Type 0
-  Never = (j : ℕ) → j < slots → carries x j ≡ true → (slot_of x j).track ≡ n → carries y j ≡ true → ⊥
+module _ (measure : Measure) where
+  module _ (s : Session) (n : ℕ) (x y : FastState) (same : (j : ℕ) → j < slots → carries x j ≡ true → carries y j ≡ true → slot_of y j ≡ slot_of x j) (apart : CarriesApart y) where
+    -- the first state has the track in no slot that the second carries
+    abbrev Never : Type 0
+    Never = (j : ℕ) → j < slots → carries x j ≡ true → (slot_of x j).track ≡ n → carries y j ≡ true → ⊥
 
-  -- its server is the same in both runs, or the first run never plays it and shows no more of it
-  pub record Behind (a b : Run) : Type 0 where
-    pub there : n < length a.tracks
-    pub also : n < length b.tracks
-    pub behind : (listed (told_at a n).stream ≡ listed (told_at b n).stream) ⊎ (Never × (consumed_of a n ≤ consumed_of b n))
+    -- its server is the same in both runs, or the first run never plays it and shows no more of it
+    pub record Behind (a b : Run) : Type 0 where
+      pub there : n < length a.tracks
+      pub also : n < length b.tracks
+      pub behind : (listed (told_at a n).stream ≡ listed (told_at b n).stream) ⊎ (Never × (of_run measure a n ≤ of_run measure b n))
 
-  pub behind_consumed : (a b : Run) → Behind a b → consumed_of a n ≤ consumed_of b n
-  behind_consumed a b h = by h.behind
-    where
-      by : (listed (told_at a n).stream ≡ listed (told_at b n).stream) ⊎ (Never × (consumed_of a n ≤ consumed_of b n)) → consumed_of a n ≤ consumed_of b n
-      by (inl e) = let c = ap (λ (l : Listed). (kept l).consumed) e in omega (arith, c)
-      by (inr p) = p.1
+    pub behind_told : (a b : Run) → Behind a b → of_run measure a n ≤ of_run measure b n
+    behind_told a b h = by h.behind
+      where
+        by : (listed (told_at a n).stream ≡ listed (told_at b n).stream) ⊎ (Never × (of_run measure a n ≤ of_run measure b n)) → of_run measure a n ≤ of_run measure b n
+        by (inl e) = let c = ap (λ (l : Listed). of_server measure l) e in omega (arith, c)
+        by (inr p) = p.1
 
-  module _ (e : EntrySeen) (shows : (j : ℕ) → j < slots → carries x j ≡ true → is_shown (entry_slot e.entry j).seen ≡ true → carries y j ≡ true) where
-    -- what the first state plays the second plays too
-    also_plays : (j : ℕ) → PlaysAt x e n j → PlaysAt y e n j
-    also_plays j p = let c = shows j p.low p.carried p.shown in
-        record { low = p.low; carried = c; shown = p.shown; track = ap (λ (t : FastTrack). t.track) (same j p.low p.carried c) ∙ p.track }
+    module _ (e : EntrySeen) (shows : (j : ℕ) → j < slots → carries x j ≡ true → is_shown (entry_slot e.entry j).seen ≡ true → carries y j ≡ true) where
+      -- what the first state plays the second plays too
+      also_plays : (j : ℕ) → PlaysAt x e n j → PlaysAt y e n j
+      also_plays j p = let c = shows j p.low p.carried p.shown in
+          record { low = p.low; carried = c; shown = p.shown; track = ap (λ (t : FastTrack). t.track) (same j p.low p.carried c) ∙ p.track }
 
-    one_slot : (j k : ℕ) → PlaysAt y e n j → PlaysAt y e n k → j ≡ k
-    one_slot j k p q = apart j k p.low q.low p.carried q.carried (p.track ∙ sym q.track)
+      one_slot : (j k : ℕ) → PlaysAt y e n j → PlaysAt y e n k → j ≡ k
+      one_slot j k p q = apart j k p.low q.low p.carried q.carried (p.track ∙ sym q.track)
 
-    streams_step : (asked : ℕ) (t u : TrackTold) (o p : Option ℕ) → slot_for x e.entry n ≡ o → slot_for y e.entry n ≡ p
-        → (listed t.stream ≡ listed u.stream) ⊎ (Never × ((kept (listed t.stream)).consumed ≤ (kept (listed u.stream)).consumed))
-        → (let v : TrackTold = elim p as (λ o. TrackTold) [ None ↦ u | Some i ↦ record u { stream = played asked e i u.stream } ] in (kept (listed u.stream)).consumed ≤ (kept (listed v.stream)).consumed)
-        → (let w : TrackTold = elim o as (λ o. TrackTold) [ None ↦ t | Some i ↦ record t { stream = played asked e i t.stream } ] in
-        let v : TrackTold = elim p as (λ o. TrackTold) [ None ↦ u | Some i ↦ record u { stream = played asked e i u.stream } ] in
-        (listed w.stream ≡ listed v.stream) ⊎ (Never × ((kept (listed w.stream)).consumed ≤ (kept (listed v.stream)).consumed)))
-    streams_step asked t u (Some i) (Some k) f g (inl h) grows =
-        let at = plays_at x e n i f in
-        let is : i ≡ k = one_slot i k (also_plays i at) (plays_at y e n k g) in
-        inl (listed_played asked e i t.stream ∙ (λ z. played_listed asked e (is z) (h z)) ∙ sym (listed_played asked e k u.stream))
-    streams_step asked t u (Some i) None f g (inl h) grows = absurd (plays_none y e n i g (also_plays i (plays_at x e n i f)))
-    streams_step asked t u (Some i) p f g (inr h) grows = let at = plays_at x e n i f in absurd (h.0 i at.low at.carried at.track (shows i at.low at.carried at.shown))
-    streams_step asked t u None None f g (inl h) grows = inl h
-    streams_step asked t u None (Some k) f g (inl h) grows =
-        let q = plays_at y e n k g in
-        let never : Never = λ j low carried track also.
-        let slot = same j low carried also in
-        let is : j ≡ k = apart j k low q.low also q.carried (ap (λ (t : FastTrack). t.track) slot ∙ track ∙ sym q.track) in
-        plays_none x e n j f (record { low = low; carried = carried; shown = subst (λ (z : ℕ). is_shown (entry_slot e.entry z).seen ≡ true) (sym is) q.shown; track = track }) in
-        inr (never, (let c = ap (λ (l : Listed). (kept l).consumed) h in omega (arith, c, grows)))
-    streams_step asked t u None p f g (inr h) grows = inr (h.0, (let c = h.1 in omega (arith, c, grows)))
+      streams_step : (asked : ℕ) (t u : TrackTold) (o p : Option ℕ) → slot_for x e.entry n ≡ o → slot_for y e.entry n ≡ p
+          → (listed t.stream ≡ listed u.stream) ⊎ (Never × (of_server measure (listed t.stream) ≤ of_server measure (listed u.stream)))
+          → (let v : TrackTold = elim p as (λ o. TrackTold) [ None ↦ u | Some i ↦ record u { stream = played asked e i u.stream } ] in of_server measure (listed u.stream) ≤ of_server measure (listed v.stream))
+          → (let w : TrackTold = elim o as (λ o. TrackTold) [ None ↦ t | Some i ↦ record t { stream = played asked e i t.stream } ] in
+          let v : TrackTold = elim p as (λ o. TrackTold) [ None ↦ u | Some i ↦ record u { stream = played asked e i u.stream } ] in
+          (listed w.stream ≡ listed v.stream) ⊎ (Never × (of_server measure (listed w.stream) ≤ of_server measure (listed v.stream))))
+      streams_step asked t u (Some i) (Some k) f g (inl h) grows =
+          let at = plays_at x e n i f in
+          let is : i ≡ k = one_slot i k (also_plays i at) (plays_at y e n k g) in
+          inl (listed_played asked e i t.stream ∙ (λ z. played_listed asked e (is z) (h z)) ∙ sym (listed_played asked e k u.stream))
+      streams_step asked t u (Some i) None f g (inl h) grows = absurd (plays_none y e n i g (also_plays i (plays_at x e n i f)))
+      streams_step asked t u (Some i) p f g (inr h) grows = let at = plays_at x e n i f in absurd (h.0 i at.low at.carried at.track (shows i at.low at.carried at.shown))
+      streams_step asked t u None None f g (inl h) grows = inl h
+      streams_step asked t u None (Some k) f g (inl h) grows =
+          let q = plays_at y e n k g in
+          let never : Never = λ j low carried track also.
+          let slot = same j low carried also in
+          let is : j ≡ k = apart j k low q.low also q.carried (ap (λ (t : FastTrack). t.track) slot ∙ track ∙ sym q.track) in
+          plays_none x e n j f (record { low = low; carried = carried; shown = subst (λ (z : ℕ). is_shown (entry_slot e.entry z).seen ≡ true) (sym is) q.shown; track = track }) in
+          inr (never, (let c = ap (λ (l : Listed). of_server measure l) h in omega (arith, c, grows)))
+      streams_step asked t u None p f g (inr h) grows = inr (h.0, (let c = h.1 in omega (arith, c, grows)))
 
-    cycle_track : (run : Run) (z : FastState) → n < length run.tracks → state_for s (with_poll s e.entry.state run) e.entry.state ≡ z → told_at (with_cycle s run e) n ≡ mixed_track s z e n (told_at run n)
-    unfolding with_mix with_poll
-    cycle_track run z low is = let r : Run = with_poll s e.entry.state run in
-        told_each (mixed_track s (state_for s r e.entry.state) e) r n low ∙ ap (λ (q : FastState). mixed_track s q e n (told_at run n)) is
+      cycle_track : (run : Run) (z : FastState) → n < length run.tracks → state_for s (with_poll s e.entry.state run) e.entry.state ≡ z → told_at (with_cycle s run e) n ≡ mixed_track s z e n (told_at run n)
+      unfolding with_mix with_poll
+      cycle_track run z low is = let r : Run = with_poll s e.entry.state run in
+          told_each (mixed_track s (state_for s r e.entry.state) e) r n low ∙ ap (λ (q : FastState). mixed_track s q e n (told_at run n)) is
 
-    -- an entry keeps it
-    pub behind_cycle : (a b : Run) → state_for s (with_poll s e.entry.state a) e.entry.state ≡ x → state_for s (with_poll s e.entry.state b) e.entry.state ≡ y → Behind a b → Behind (with_cycle s a e) (with_cycle s b e)
-    behind_cycle a b xs ys h =
-        let one = cycle_track a x h.there xs in
-        let two = cycle_track b y h.also ys in
-        let grows = run_consumed b (with_cycle s b e) (grows_cycle s e b) n in
-        record {
-          there = (let m = (grows_cycle s e a).many in let t = h.there in omega (arith, m, t));
-          also = (let m = (grows_cycle s e b).many in let t = h.also in omega (arith, m, t));
-          behind = subst (λ (w : TrackTold × TrackTold). (listed w.0.stream ≡ listed w.1.stream) ⊎ (Never × ((kept (listed w.0.stream)).consumed ≤ (kept (listed w.1.stream)).consumed))) (λ z. (sym one z, sym two z))
-              (streams_step (cycle_frames s) (told_at a n) (told_at b n) (slot_for x e.entry n) (slot_for y e.entry n) refl refl h.behind
-              (subst (λ (v : TrackTold). consumed_of b n ≤ (kept (listed v.stream)).consumed) two grows));
-        }
+      -- an entry keeps it
+      pub behind_cycle : (a b : Run) → state_for s (with_poll s e.entry.state a) e.entry.state ≡ x → state_for s (with_poll s e.entry.state b) e.entry.state ≡ y → Behind a b → Behind (with_cycle s a e) (with_cycle s b e)
+      behind_cycle a b xs ys h =
+          let one = cycle_track a x h.there xs in
+          let two = cycle_track b y h.also ys in
+          let grows = run_told measure b (with_cycle s b e) (grows_cycle s e b) n in
+          record {
+            there = (let m = (grows_cycle s e a).many in let t = h.there in omega (arith, m, t));
+            also = (let m = (grows_cycle s e b).many in let t = h.also in omega (arith, m, t));
+            behind = subst (λ (w : TrackTold × TrackTold). (listed w.0.stream ≡ listed w.1.stream) ⊎ (Never × (of_server measure (listed w.0.stream) ≤ of_server measure (listed w.1.stream)))) (λ z. (sym one z, sym two z))
+                (streams_step (cycle_frames s) (told_at a n) (told_at b n) (slot_for x e.entry n) (slot_for y e.entry n) refl refl h.behind
+                (subst (λ (v : TrackTold). of_run measure b n ≤ of_server measure (listed v.stream)) two grows));
+          }

@@ -1,4 +1,4 @@
--- What a track's server has consumed by the end of a round, when its entries are told without the turn.
+-- What the list of a track's server tells by the end of a round, when its entries are told without the turn.
 use Rattle.std.proofs.Common.{◌≡◌, inl, ℕ, suc, ◌+◌, ◌<◌, ◌≤◌, if◌then◌else◌, Bool, true, false, List, [], ◌∷◌, ◌++◌, length, drop, Some, refl, sym, ap, ◌∙◌, subst, append-nil, arith}
 use Rattle.std.specs.List.{prefix_len}
 use Rattle.std.specs.Prelude.{nat_le}
@@ -26,10 +26,11 @@ use Rattle.af_judge.specs.Entries.{CarriesApart}
 use Rattle.af_judge.specs.QueueTold.{Follow}
 use Rattle.af_judge.proofs.EachTrack.{each_at}
 use Rattle.af_judge.proofs.StatesKept.{at_before, at_last}
-use Rattle.af_audit.specs.Drained.{consumed_of}
-use Rattle.af_audit.proofs.Growing.{run_consumed, grows_turned, hand-server, server-server}
-use Rattle.af_audit.proofs.Late.{Behind, behind_consumed}
+use Rattle.af_audit.proofs.Growing.{run_told, grows_turned}
+use Rattle.af_audit.proofs.TrackStands.{hand-server, server-server}
+use Rattle.af_audit.proofs.Late.{Behind, behind_told}
 use Rattle.af_audit.proofs.LateRuns.{FirstLate, behind_cycles}
+use Rattle.af_audit.proofs.Measure.{Measure, of_run}
 
 -- the run with all entries of a round told without the turn
 abbrev pub untold : Session → Run → RoundSeen → Run
@@ -50,78 +51,79 @@ first_late run (e ∷ es) = by (is_early run e) refl (first_late run es)
     by true is rest = subst (λ (n : ℕ). FirstLate (length run.states) (drop n (e ∷ es))) (let q : suc (prefix_len (is_early run) es) ≡ 1 + prefix_len (is_early run) es = omega arith in q) rest
     by false is rest = not_early e.entry.state (length run.states) is
 
--- ## From before a turn to after it
+module _ (measure : Measure) where
+  -- ## From before a turn to after it
 
-module _ (s : Session) (marks : Marks) (a : Run) (f : TurnFound) (e : Turn) (n : ℕ) where
-  abbrev c : Setup
-  c = setup_of s
+  module _ (s : Session) (marks : Marks) (a : Run) (f : TurnFound) (e : Turn) (n : ℕ) where
+    abbrev c : Setup
+    c = setup_of s
 
-  abbrev o : Outside
-  o = outside_of c f e
+    abbrev o : Outside
+    o = outside_of c f e
 
-  abbrev b : Run
-  b = with_turn s f e a
+    abbrev b : Run
+    b = with_turn s f e a
 
-  abbrev y : FastState
-  y = (after_edits c (learnt o) e a.normal).draft
+    abbrev y : FastState
+    y = (after_edits c (learnt o) e a.normal).draft
 
-  turned_states : is_pushed e.push ≡ true → b.states ≡ a.states ++ y ∷ []
-  unfolding with_turn
-  turned_states is = ap (λ (p : Bool). a.states ++ (if p then y ∷ [] else [])) is
+    turned_states : is_pushed e.push ≡ true → b.states ≡ a.states ++ y ∷ []
+    unfolding with_turn
+    turned_states is = ap (λ (p : Bool). a.states ++ (if p then y ∷ [] else [])) is
 
-  turned_none : is_pushed e.push ≡ false → b.states ≡ a.states
-  unfolding with_turn
-  turned_none is = ap (λ (p : Bool). a.states ++ (if p then y ∷ [] else [])) is ∙ append-nil a.states
+    turned_none : is_pushed e.push ≡ false → b.states ≡ a.states
+    unfolding with_turn
+    turned_none is = ap (λ (p : Bool). a.states ++ (if p then y ∷ [] else [])) is ∙ append-nil a.states
 
-  turned_entries : b.entries ≡ a.entries
-  unfolding with_turn
-  turned_entries = refl
+    turned_entries : b.entries ≡ a.entries
+    unfolding with_turn
+    turned_entries = refl
 
-  -- a track whose server does nothing in the turn
-  same_listed : n < length a.tracks → stream_list c o e (tracks_at c (learnt o) a.normal e n) n ≡ [] → listed (told_at a n).stream ≡ listed (told_at b n).stream
-  unfolding with_turn
-  same_listed low none =
-      let t : TrackTold = told_at a n in
-      let es : List ServerEvent = stream_list c o e (tracks_at c (learnt o) a.normal e n) n in
-      let at : told_at b n ≡ turned_track c o a.normal e n t = each_at (turned_track c o a.normal e) 0 a.tracks n n no_track low (omega arith) in
-      sym (ap (λ (u : TrackTold). listed u.stream) at
-      ∙ ap (λ (l : List ServerEvent). record { shape = t.stream.shape; events = l }) (server-server (hand_does (hand_list e n) t.stream).told es ∙ ap (λ (l : List ServerEvent). l ++ es) (hand-server t.stream.told (hand_list e n)) ∙ ap (λ (l : List ServerEvent). server_list t.stream ++ l) none ∙ append-nil (server_list t.stream)))
+    -- a track whose server does nothing in the turn
+    same_listed : n < length a.tracks → stream_list c o e (tracks_at c (learnt o) a.normal e n) n ≡ [] → listed (told_at a n).stream ≡ listed (told_at b n).stream
+    unfolding with_turn
+    same_listed low none =
+        let t : TrackTold = told_at a n in
+        let es : List ServerEvent = stream_list c o e (tracks_at c (learnt o) a.normal e n) n in
+        let at : told_at b n ≡ turned_track c o a.normal e n t = each_at (turned_track c o a.normal e) 0 a.tracks n n no_track low (omega arith) in
+        sym (ap (λ (u : TrackTold). listed u.stream) at
+        ∙ ap (λ (l : List ServerEvent). record { shape = t.stream.shape; events = l }) (server-server (hand_does (hand_list e n) t.stream).told es ∙ ap (λ (l : List ServerEvent). l ++ es) (hand-server t.stream.told (hand_list e n)) ∙ ap (λ (l : List ServerEvent). server_list t.stream ++ l) none ∙ append-nil (server_list t.stream)))
 
-  -- the first entry after the turn is of the state that it pushed, and the one adopted last is the one before it
-  module _ (low : n < length a.tracks) (quiet : stream_list c o e (tracks_at c (learnt o) a.normal e n) n ≡ []) (current : a.current ≡ last_used a.entries) (within : a.current ≤ length a.states)
-      (follow : Follow (state_at (cycle_frames s) b.states)) (apart : (k : ℕ) → CarriesApart (state_at (cycle_frames s) b.states k)) where
-    poll_entries : (k : ℕ) → (with_poll s k b).entries ≡ b.entries
-    unfolding with_poll
-    poll_entries k = refl
+    -- the first entry after the turn is of the state that it pushed, and the one adopted last is the one before it
+    module _ (low : n < length a.tracks) (quiet : stream_list c o e (tracks_at c (learnt o) a.normal e n) n ≡ []) (current : a.current ≡ last_used a.entries) (within : a.current ≤ length a.states)
+        (follow : Follow (state_at (cycle_frames s) b.states)) (apart : (k : ℕ) → CarriesApart (state_at (cycle_frames s) b.states k)) where
+      poll_entries : (k : ℕ) → (with_poll s k b).entries ≡ b.entries
+      unfolding with_poll
+      poll_entries k = refl
 
-    poll_states : (k : ℕ) → (with_poll s k b).states ≡ b.states
-    unfolding with_poll
-    poll_states k = refl
+      poll_states : (k : ℕ) → (with_poll s k b).states ≡ b.states
+      unfolding with_poll
+      poll_states k = refl
 
-    one_more : (es : List EntrySeen) (first : EntrySeen) → length a.states < first.entry.state → LegalEntries s marks b (first ∷ es) → is_pushed e.push ≡ true → consumed_of (with_cycles s (first ∷ es) a) n ≤ consumed_of (with_cycles s (first ∷ es) b) n
-    one_more es first far legal pushed =
-        let used : last_used (with_poll s first.entry.state b).entries ≡ a.current = ap last_used (poll_entries first.entry.state ∙ turned_entries) ∙ sym current in
-        let rises = legal.0.cycle.follows.1 in
-        let last : a.current ≡ length a.states = omega (arith, used, rises, far, within) in
-        let x : FastState = state_at (cycle_frames s) a.states a.current in
-        let states = turned_states pushed in
-        let newest : state_at (cycle_frames s) b.states (length a.states + 1) ≡ y = ap (λ (xs : List FastState). state_at (cycle_frames s) xs (length a.states + 1)) states ∙ at_last (cycle_frames s) a.states y (length a.states + 1) (omega arith) in
-        let former : state_at (cycle_frames s) b.states (length a.states) ≡ x = ap (λ (xs : List FastState). state_at (cycle_frames s) xs (length a.states)) states ∙ at_before (cycle_frames s) a.states y (length a.states) (omega arith) ∙ ap (state_at (cycle_frames s) a.states) (sym last) in
-        let same : (j : ℕ) → j < slots → carries x j ≡ true → carries y j ≡ true → slot_of y j ≡ slot_of x j =
-        subst (λ (p : FastState × FastState). (j : ℕ) → j < slots → carries p.0 j ≡ true → carries p.1 j ≡ true → slot_of p.1 j ≡ slot_of p.0 j) (λ i. (former i, newest i)) (λ j lt one two. follow.same (length a.states) j lt two one) in
-        let lonely : CarriesApart y = subst CarriesApart newest (apart (length a.states + 1)) in
-        let start : Behind s n x y same lonely a b = record {
-          there = low;
-          also = (let m = (grows_turned s (λ e. f) (Some e) a).many in omega (arith, m, low));
-          behind = inl (same_listed low quiet);
-        } in
-        behind_consumed s n x y same lonely (with_cycles s (first ∷ es) a) (with_cycles s (first ∷ es) b) (behind_cycles s marks n a.states x y same lonely (first ∷ es) a b refl states refl far legal start)
+      one_more : (es : List EntrySeen) (first : EntrySeen) → length a.states < first.entry.state → LegalEntries s marks b (first ∷ es) → is_pushed e.push ≡ true → of_run measure (with_cycles s (first ∷ es) a) n ≤ of_run measure (with_cycles s (first ∷ es) b) n
+      one_more es first far legal pushed =
+          let used : last_used (with_poll s first.entry.state b).entries ≡ a.current = ap last_used (poll_entries first.entry.state ∙ turned_entries) ∙ sym current in
+          let rises = legal.0.cycle.follows.1 in
+          let last : a.current ≡ length a.states = omega (arith, used, rises, far, within) in
+          let x : FastState = state_at (cycle_frames s) a.states a.current in
+          let states = turned_states pushed in
+          let newest : state_at (cycle_frames s) b.states (length a.states + 1) ≡ y = ap (λ (xs : List FastState). state_at (cycle_frames s) xs (length a.states + 1)) states ∙ at_last (cycle_frames s) a.states y (length a.states + 1) (omega arith) in
+          let former : state_at (cycle_frames s) b.states (length a.states) ≡ x = ap (λ (xs : List FastState). state_at (cycle_frames s) xs (length a.states)) states ∙ at_before (cycle_frames s) a.states y (length a.states) (omega arith) ∙ ap (state_at (cycle_frames s) a.states) (sym last) in
+          let same : (j : ℕ) → j < slots → carries x j ≡ true → carries y j ≡ true → slot_of y j ≡ slot_of x j =
+          subst (λ (p : FastState × FastState). (j : ℕ) → j < slots → carries p.0 j ≡ true → carries p.1 j ≡ true → slot_of p.1 j ≡ slot_of p.0 j) (λ i. (former i, newest i)) (λ j lt one two. follow.same (length a.states) j lt two one) in
+          let lonely : CarriesApart y = subst CarriesApart newest (apart (length a.states + 1)) in
+          let start : Behind measure s n x y same lonely a b = record {
+            there = low;
+            also = (let m = (grows_turned s (λ e. f) (Some e) a).many in omega (arith, m, low));
+            behind = inl (same_listed low quiet);
+          } in
+          behind_told measure s n x y same lonely (with_cycles s (first ∷ es) a) (with_cycles s (first ∷ es) b) (behind_cycles measure s marks n a.states x y same lonely (first ∷ es) a b refl states refl far legal start)
 
-    pub all_late : (es : List EntrySeen) → FirstLate (length a.states) es → LegalEntries s marks b es → consumed_of (with_cycles s es a) n ≤ consumed_of (with_cycles s es b) n
-    all_late [] far legal = run_consumed a b (grows_turned s (λ e. f) (Some e) a) n
-    all_late (first ∷ es) far legal = by_push (is_pushed e.push) refl
-      where
-        by_push : (p : Bool) → is_pushed e.push ≡ p → consumed_of (with_cycles s (first ∷ es) a) n ≤ consumed_of (with_cycles s (first ∷ es) b) n
-        by_push true is = one_more es first far legal is
-        by_push false is = (let low_state = legal.0.cycle.pushed in let many = ap (λ (xs : List FastState). length xs) (poll_states first.entry.state ∙ turned_none is) in
-            absurd (omega (arith, low_state, many, far)))
+      pub all_late : (es : List EntrySeen) → FirstLate (length a.states) es → LegalEntries s marks b es → of_run measure (with_cycles s es a) n ≤ of_run measure (with_cycles s es b) n
+      all_late [] far legal = run_told measure a b (grows_turned s (λ e. f) (Some e) a) n
+      all_late (first ∷ es) far legal = by_push (is_pushed e.push) refl
+        where
+          by_push : (p : Bool) → is_pushed e.push ≡ p → of_run measure (with_cycles s (first ∷ es) a) n ≤ of_run measure (with_cycles s (first ∷ es) b) n
+          by_push true is = one_more es first far legal is
+          by_push false is = (let low_state = legal.0.cycle.pushed in let many = ap (λ (xs : List FastState). length xs) (poll_states first.entry.state ∙ turned_none is) in
+              absurd (omega (arith, low_state, many, far)))

@@ -1,3 +1,4 @@
+pub mod Booleans
 mod JudgedExactly
 mod JournalJudged
 mod RunEnds
@@ -42,7 +43,9 @@ mod Sending
 mod StepsTaken
 mod Undropped
 mod StopSent
+mod MixerTurns
 mod Stopped
+mod Measure
 mod Older
 mod Growing
 mod Attached
@@ -53,6 +56,8 @@ mod Quiet
 mod LateRuns
 mod FastCurrent
 mod LateRound
+mod Heard
+mod Consumed
 mod Reached
 mod SentTold
 pub mod DrainedTold
@@ -72,18 +77,5 @@ mod StatusWords
 mod TurnSettles
 mod CommandDrops
 mod CommandRounds
-mod ToldMeasure
-mod ToldGrowing
-mod ToldOlder
-mod ToldCurrent
-mod ToldQuiet
-mod ToldAttached
-mod ToldBounded
-mod ToldBounds
-mod ToldLate
-mod ToldLateRuns
-mod ToldLateRound
-mod ToldTurns
-mod ToldHeard
 mod SettledRounds
 pub mod SettledTold

@@ -14,7 +14,11 @@ use Rattle.af_life.specs.Plays.{after_takes}
 use Rattle.af_life.specs.Turn.{after_tracks, after_edits, turn_after}
 use Rattle.af_model.specs.Draft.{attached, renewed, commanded as with_command}
 use Rattle.af_model.specs.StateQueue.{slot_of, no_track}
-use Rattle.af_audit.specs.Older.{IsOlder}
+
+-- no slot of the first has a later generation, and one of the same generation is the same
+pub record IsOlder (x y : FastState) : Type 0 where
+  pub low : (i : ℕ) → (slot_of x i).generation ≤ (slot_of y i).generation
+  pub same : (i : ℕ) → (slot_of x i).generation ≡ (slot_of y i).generation → slot_of x i ≡ slot_of y i
 
 -- ## Order
 

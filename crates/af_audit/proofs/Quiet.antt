@@ -1,6 +1,6 @@
 -- A turn does nothing to the stream block of a track whose proxy is away.
 use Rattle.std.specs.List.{AllByRecursion, range_with_len, flat_map}
-use Rattle.std.proofs.Common.{◌≡◌, inl, inr, ℕ, zero, suc, ◌==◌, ◌&&◌, not, if◌then◌else◌, is_some, Bool, true, false, true≢false, List, [], ◌∷◌, ◌++◌, length, map, refl, sym, ap, ◌∙◌, subst, eqb-true, arith}
+use Rattle.std.proofs.Common.{◌≡◌, inl, inr, ℕ, zero, suc, ◌==◌, ◌&&◌, not, if◌then◌else◌, is_some, Bool, true, false, List, [], ◌∷◌, ◌++◌, length, map, refl, sym, ap, ◌∙◌, subst, eqb-true, arith}
 use Rattle.std.specs.Prelude.{slice_set, filter, nat_le}
 use Rattle.af_base.specs.declared.state.Command.{Command}
 use Rattle.af_base.specs.declared.state.FastState.{FastState}
@@ -22,9 +22,7 @@ use Rattle.af_model.specs.Cycles.{cycle_events}
 use Rattle.af_judge.proofs.SoundLives.{goes_served}
 use Rattle.af_judge.proofs.SoundSlots.{at_set, sound_served, slot_of_away}
 use Rattle.af_judge.proofs.SoundTurns.{sound_acked}
-
-no : {A : Type 0} → false ≡ true → A
-no h = absurd (true≢false (sym h))
+use Rattle.af_audit.proofs.Booleans.{no}
 
 abbrev HasSlot : ℕ → List TrackKept → Type 0
 HasSlot n tracks = is_some (track_at tracks n).slot ≡ true

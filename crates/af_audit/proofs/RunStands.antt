@@ -1,7 +1,7 @@
 -- What holds of a track and of the normal mixer through the legal rounds of a run.
 use Rattle.std.specs.Prelude.{MatchOption}
 use Rattle.std.specs.List.{find, range_with_len, list_any}
-use Rattle.std.proofs.Common.{◌≡◌, inl, inr, ℕ, zero, suc, ◌+◌, ◌<◌, ◌==◌, ◌&&◌, ◌||◌, Bool, true, false, true≢false, if◌then◌else◌, is_some, unwrap_or, List, [], ◌∷◌, length, All, Option, Some, None, refl, sym, ap, ◌∙◌, subst, eqb-true, arith}
+use Rattle.std.proofs.Common.{◌≡◌, inl, inr, ℕ, zero, suc, ◌+◌, ◌<◌, ◌==◌, ◌&&◌, ◌||◌, Bool, true, false, if◌then◌else◌, is_some, unwrap_or, List, [], ◌∷◌, length, All, Option, Some, None, refl, sym, ap, ◌∙◌, subst, eqb-true, arith}
 use Rattle.std.proofs.lemmas.List.{get_or-replicate}
 use Rattle.std.proofs.lemmas.List.Elements.{All-head, All-tail}
 use Rattle.af_base.specs.declared.log.CycleEntry.{CycleEntry}
@@ -31,11 +31,9 @@ use Rattle.af_judge.proofs.EntryTracks.{both-true, plays_track}
 use Rattle.af_audit.proofs.CallsFollow.{calls_long, told_called}
 use Rattle.af_audit.proofs.MixerEnds.{EndsHome, turn_ends}
 use Rattle.af_audit.proofs.FastCurrent.{legal_parts}
-use Rattle.af_audit.proofs.Stopped.{before_normal, mixer_after, round_normal, turn_legal}
+use Rattle.af_audit.proofs.MixerTurns.{before_normal, mixer_after, round_normal, turn_legal}
 use Rattle.af_audit.proofs.TrackStands.{TrackStands, stands_called, stands_ended, stands_met, stands_mixed, stands_turned}
-
-no : {A : Type 0} → false ≡ true → A
-no h = absurd (true≢false (sym h))
+use Rattle.af_audit.proofs.Booleans.{neither, no}
 
 -- ## The look of an entry at a track
 
@@ -222,10 +220,6 @@ module _ (cut : Bool) (s : Session) (marks : Marks) (run : Run) (round : RoundSe
       record { stands = stands_ends s marks n (met_after s run round) met_so; mixer = mixer_round h.mixer; history = history_round low met_so }
 
 -- ## All rounds
-
-neither : (a b : Bool) → (a || b) ≡ false → (a ≡ false) × (b ≡ false)
-neither true b h = no (sym h)
-neither false b h = (refl, h)
 
 -- legal rounds without a poke on the track's stream block keep all
 pub rounds_stand : (cut : Bool) (s : Session) (marks : Marks) (tracks n : ℕ) (rounds : List RoundSeen) (run : Run) → n < track_count s → All (IsRound tracks) rounds → LegalRounds cut s marks run rounds

@@ -1,5 +1,5 @@
 -- Each legal round spares a block whose proxies aren't shut after it.
-use Rattle.std.proofs.Common.{◌≡◌, ℕ, ◌<◌, ◌||◌, Bool, true, false, true≢false, if◌then◌else◌, List, [], ◌∷◌, length, All, Option, Some, None, refl, sym, ◌∙◌, subst, arith}
+use Rattle.std.proofs.Common.{◌≡◌, ℕ, ◌<◌, Bool, true, false, if◌then◌else◌, List, [], ◌∷◌, length, All, Option, Some, None, refl, sym, ◌∙◌, subst, arith}
 use Rattle.std.specs.List.{list_any}
 use Rattle.std.proofs.lemmas.List.Elements.{All-head, All-tail}
 use Rattle.af_base.specs.declared.state.FastState.{FastState}
@@ -23,8 +23,9 @@ use Rattle.af_judge.proofs.EntryTold.{cycle_beside}
 use Rattle.af_audit.specs.Spared.{IsSpared, IsSparedIn, is_spared_by, is_spared_by_all, is_spared_by_turn, is_spared_in_turn, none_corrupt}
 use Rattle.af_audit.proofs.CallsFollow.{calls_long, told_called}
 use Rattle.af_audit.proofs.RunStands.{entry_looks, fast_parts, rises}
-use Rattle.af_audit.proofs.Stopped.{before_normal, turn_legal}
+use Rattle.af_audit.proofs.MixerTurns.{before_normal, turn_legal}
 use Rattle.af_audit.proofs.TrackUnshut.{IsTrim, IsUnshut, trim_called, trim_ended, trim_met, trim_mixed, trim_turned, unshut_called, unshut_ended, unshut_met, unshut_mixed, unshut_turned}
+use Rattle.af_audit.proofs.Booleans.{neither}
 
 -- From one run to another the track is kept trim; and where the proxies of its block aren't shut in the second, they aren't in the first, and this holds
 pub record Spares (commands : Bool) (n : ℕ) (a b : Run) (Spared : Type 0) : Type 0 where
@@ -144,10 +145,6 @@ module _ (commands cut : Bool) (s : Session) (marks : Marks) (run : Run) (round 
       (spares_both commands n played_all (met_after s run round) (after_round s run round) _ _ f g))))))
 
 -- ## All rounds
-
-pub neither : (a b : Bool) → (a || b) ≡ false → (a ≡ false) × (b ≡ false)
-neither true b h = absurd (true≢false h)
-neither false b h = (refl, h)
 
 pub spares_rounds : (commands cut : Bool) (s : Session) (marks : Marks) (tracks n : ℕ) (rounds : List RoundSeen) (run : Run) → n < track_count s → n < length run.tracks → All (IsRound tracks) rounds → LegalRounds cut s marks run rounds
     → (commands ≡ true → list_any (λ round. list_any (is_poke_on true) (calls_in round n)) rounds ≡ false) → Spares commands n run (run_from s run rounds) (IsSpared commands s run rounds n)

@@ -35,7 +35,7 @@ use Rattle.af_audit.proofs.TrackUnshut.{IsTrim}
 use Rattle.af_audit.specs.Drained.{Sent, round_steps, sent_in}
 use Rattle.af_audit.proofs.Sending.{flushes_join, right_join, turn_right, turn_sends, words_join, words_sent}
 use Rattle.af_audit.proofs.StepsTaken.{steps_words, turn_told}
-use Rattle.af_audit.proofs.Stopped.{before_normal, turn_legal}
+use Rattle.af_audit.proofs.MixerTurns.{before_normal, turn_legal}
 use Rattle.af_audit.proofs.StopSent.{SentSo}
 use Rattle.af_audit.proofs.Undropped.{SawNone, none_join, saw_in, saw_split, track_legal, turn_none}
 

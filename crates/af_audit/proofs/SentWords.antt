@@ -1,6 +1,6 @@
 -- What a client of a script sends: an OPEN first, and nothing after a REMOVE.
 use Rattle.std.specs.Prelude.{MatchBool}
-use Rattle.std.proofs.Common.{◌≡◌, ◌⊎◌, inl, inr, ℕ, ◌-◌, ◌≤◌, ◌==◌, ◌&&◌, ◌||◌, Bool, true, false, true≢false, if◌then◌else◌, is_some, fold, List, [], ◌∷◌, ◌++◌, length, Option, Some, None, refl, sym, ap, ◌∙◌, subst, append-nil, eqb-true, length-append, arith}
+use Rattle.std.proofs.Common.{◌≡◌, ◌⊎◌, inl, inr, ℕ, ◌-◌, ◌≤◌, ◌==◌, ◌&&◌, ◌||◌, Bool, true, false, if◌then◌else◌, is_some, fold, List, [], ◌∷◌, ◌++◌, length, Option, Some, None, refl, sym, ap, ◌∙◌, subst, append-nil, eqb-true, length-append, arith}
 use Rattle.af_base.specs.declared.event.ClientCall.{ClientCall}
 use Rattle.af_base.specs.declared.event.ClientCall.TheVariants as call
 use Rattle.af_life.specs.declared.command.TheConstants.{OPEN, REMOVE}
@@ -15,9 +15,7 @@ use Rattle.af_runs.specs.declared.want.Want.TheVariants as want
 use Rattle.af_runs.specs.Clients.{Client, after_answer, asked_first, at_next_turn, begins, begun, code_of, ends, new_client, rest_of, rested, wants_of}
 use Rattle.af_runs.specs.ClientTurns.{AreCalls, IsWanted, LegalClientTurn, Track, after_call, after_calls, answered, argument_of, called, commands_sent, is_of_commands, is_send, most_calls, released_by, wanted_of, with_call}
 use Rattle.af_audit.proofs.StartWords.{words_of, words_join, OpensFirst, NoneRemoves, RemovesLast, none_join, removes_more, opens_more}
-
-no : {A : Type 0} → false ≡ true → A
-no h = absurd (true≢false (sym h))
+use Rattle.af_audit.proofs.Booleans.{no}
 
 -- ## The words of a call
 

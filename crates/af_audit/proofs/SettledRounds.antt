@@ -25,14 +25,15 @@ use Rattle.af_audit.proofs.CommandRounds.{CommandsAt, CommandsSo, at_more, calls
 use Rattle.af_audit.proofs.Drops.{most_grows}
 use Rattle.af_audit.proofs.FatesTold.{new_there, told_new}
 use Rattle.af_audit.proofs.KnownSeen.{noticed-seen}
-use Rattle.af_audit.proofs.RunUnshut.{neither, spares_round}
+use Rattle.af_audit.proofs.RunUnshut.{spares_round}
 use Rattle.af_audit.proofs.SentWords.{open_first}
 use Rattle.af_audit.proofs.SparedTold.{new_trim}
-use Rattle.af_audit.proofs.ToldGrowing.{run_told}
-use Rattle.af_audit.proofs.ToldHeard.{TellsSo, from_played, heard_told, new_tells, tells_round, to_played}
-use Rattle.af_audit.proofs.ToldMeasure.{Measure, of_run}
-use Rattle.af_audit.proofs.ToldTurns.{before_normal, turn_legal}
+use Rattle.af_audit.proofs.Growing.{run_told}
+use Rattle.af_audit.proofs.Heard.{TellsSo, from_played, heard_told, new_tells, tells_round, to_played}
+use Rattle.af_audit.proofs.Measure.{Measure, of_run}
+use Rattle.af_audit.proofs.MixerTurns.{before_normal, turn_legal}
 use Rattle.af_audit.proofs.TrackUnshut.{IsTrim}
+use Rattle.af_audit.proofs.Booleans.{neither}
 
 -- how many flushes a server has seen
 abbrev pub flushes : Measure

@@ -42,14 +42,14 @@ use Rattle.af_audit.proofs.KnownSeen.{Stores, saw-stored}
 use Rattle.af_audit.proofs.SeenKept.{seen-kept}
 use Rattle.af_audit.proofs.SettledRounds.{AtRound, at_round, flushes, new_settles, played_at}
 use Rattle.af_audit.proofs.SidesKept.{sides_turned}
-use Rattle.af_audit.proofs.SparedTold.{not_true}
 use Rattle.af_audit.proofs.StartWords.{IsOrderly, orderly_front, start_seen, words_front, words_join, words_of}
 use Rattle.af_audit.proofs.StartsSettled.{waiting}
 use Rattle.af_audit.proofs.StatusWords.{StatusesLow, status_among}
-use Rattle.af_audit.proofs.ToldGrowing.{grows_calls, grows_cycles}
-use Rattle.af_audit.proofs.ToldMeasure.{of_run}
+use Rattle.af_audit.proofs.Growing.{grows_calls, grows_cycles}
+use Rattle.af_audit.proofs.Measure.{of_run}
 use Rattle.af_audit.proofs.TrackUnshut.{trim_called}
 use Rattle.af_audit.proofs.TurnSees.{HasSeenSettled, turn-sees}
+use Rattle.af_audit.proofs.Booleans.{not_true}
 
 -- ## A block that has met
 

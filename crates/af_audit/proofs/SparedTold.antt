@@ -1,5 +1,5 @@
 -- In a legal run each block without a poke is spared.
-use Rattle.std.proofs.Common.{◌≡◌, ℕ, ◌<◌, Bool, true, false, if◌then◌else◌, not, List, [], ◌∷◌, length, inl, refl, sym, ap, ◌∙◌, subst, arith}
+use Rattle.std.proofs.Common.{◌≡◌, ℕ, ◌<◌, Bool, true, false, if◌then◌else◌, List, [], ◌∷◌, length, inl, refl, sym, ap, ◌∙◌, subst, arith}
 use Rattle.std.specs.List.{list_any}
 use Rattle.std.proofs.lemmas.List.Elements.{All-get_or}
 use Rattle.af_base.specs.declared.frame.Frame.{Frame}
@@ -24,6 +24,7 @@ use Rattle.af_audit.proofs.RearsSeen.{server_unshut}
 use Rattle.af_audit.proofs.RunUnshut.{Spares, spares_rounds}
 use Rattle.af_audit.proofs.SidesKept.{fit_round, played_many}
 use Rattle.af_audit.proofs.TrackUnshut.{IsTrim, IsUnshut}
+use Rattle.af_audit.proofs.Booleans.{not_true}
 
 -- ## What is kept of a run
 
@@ -87,10 +88,6 @@ module _ (s : Session) (script : IsScript s.script) (n : ℕ) (low : n < track_c
   new_trim commands = subst (IsTrim commands) (sym (told_new s n low)) (record { rears = tt; tame = λ on. refl; shape = refl })
 
 -- ## At the end
-
-pub not_true : (b : Bool) → not b ≡ true → b ≡ false
-not_true true h = sym h
-not_true false h = refl
 
 -- in a legal run of a script each block without a poke is spared
 pub lawful-blocks-are-spared : (script : ScriptData) (files : List (List Frame)) (j : JournalData) → IsScript script → IsLegalRun script files j → EachLawfulBlockIsSpared script files j

@@ -23,9 +23,7 @@ use Rattle.af_life.specs.State.{is_among}
 use Rattle.af_model.proofs.Logic.{both_left}
 use Rattle.af_judge.proofs.SoundLives.{grew_command, grew_report, is_absent, opened as opened_life}
 use Rattle.af_audit.proofs.StartWords.{IsOrderly, NoneRemoves, OpensFirst, StartsSeen, none_before, none_split, orderly_front, seen_join, words_join, words_of}
-
-no : {A : Type 0} → false ≡ true → A
-no h = absurd (true≢false (sym h))
+use Rattle.af_audit.proofs.Booleans.{no}
 
 -- ## What is settled
 

@@ -1,6 +1,6 @@
 -- The commands among the steps of a track's life are those that the looks of its turns took, and the STOP that stopped it last has its number among them.
 use Rattle.std.specs.Prelude.{MatchBool}
-use Rattle.std.proofs.Common.{◌≡◌, ◌⊎◌, inl, inr, ℕ, zero, suc, ◌+◌, ◌==◌, Bool, true, false, true≢false, if◌then◌else◌, is_some, List, [], ◌∷◌, ◌++◌, length, slice_get, Option, Some, refl, sym, ap, ◌∙◌, append-nil, append_assoc, length-append, eqb-true, arith}
+use Rattle.std.proofs.Common.{◌≡◌, ◌⊎◌, inl, inr, ℕ, zero, suc, ◌+◌, ◌==◌, Bool, true, false, if◌then◌else◌, is_some, List, [], ◌∷◌, ◌++◌, length, slice_get, Option, Some, refl, sym, ap, ◌∙◌, append-nil, append_assoc, length-append, eqb-true, arith}
 use Rattle.std.proofs.lemmas.Option.{none-some}
 use Rattle.af_base.specs.declared.turn.CommandLook.{CommandLook}
 use Rattle.af_base.specs.Turn.{Turn, TrackSeen}
@@ -15,9 +15,7 @@ use Rattle.af_life.specs.Serves.{IsServed, LegalTrack, most_looks}
 use Rattle.af_life.specs.TurnEvents.{going, tracks_at}
 use Rattle.af_model.proofs.Logic.{both_left}
 use Rattle.af_audit.specs.Drained.{commands_in, stop_number}
-
-no : {A : Type 0} → false ≡ true → A
-no h = absurd (true≢false (sym h))
+use Rattle.af_audit.proofs.Booleans.{no}
 
 -- ## The commands among steps
 

@@ -1,5 +1,5 @@
 -- What each step of a round keeps of a track's block whose server and client are never shut; and where they aren't shut after the step, they weren't before it, and the step spared the block. `commands` says which block it is.
-use Rattle.std.proofs.Common.{◌≡◌, inl, inr, ◌⊎◌, ℕ, ◌≤◌, ◌^◌, ◌||◌, not, Bool, true, false, true≢false, if◌then◌else◌, is_some, fold, map, List, [], ◌∷◌, ◌++◌, flat_map, drop, length, Option, Some, None, refl, sym, ap, ◌∙◌, subst, append-nil, arith}
+use Rattle.std.proofs.Common.{◌≡◌, inl, inr, ◌⊎◌, ℕ, ◌≤◌, ◌^◌, not, Bool, true, false, true≢false, if◌then◌else◌, is_some, fold, map, List, [], ◌∷◌, ◌++◌, flat_map, drop, length, Option, Some, None, refl, sym, ap, ◌∙◌, subst, append-nil, arith}
 use Rattle.std.specs.List.{AllByRecursion, list_all, list_any}
 use Rattle.std.proofs.lemmas.Grind.{fold-append}
 use Rattle.std.proofs.lemmas.List.{get_or_past}
@@ -52,6 +52,7 @@ use Rattle.af_audit.proofs.RearsSeen.{FollowAnywhere, cycle_follows, rear_join}
 use Rattle.af_audit.proofs.SidesKept.{sides_mixed, sides_turned}
 use Rattle.af_audit.proofs.TrackStands.{hand-server, server-server, told_more}
 use Rattle.af_audit.proofs.Undropped.{looks_legal}
+use Rattle.af_audit.proofs.Booleans.{neither, no}
 
 -- the stream's server sees each front right after a rear; and of the command block, nothing was poked on it
 pub record IsTrim (commands : Bool) (t : TrackTold) : Type 0 where
@@ -70,9 +71,6 @@ pub record IsUnshut (commands : Bool) (t : TrackTold) : Type 0 where
   pub server : (kept (listed (block_on commands t))).shut ≡ None
 
 -- ## The calls
-
-no : {A : Type 0} → false ≡ true → A
-no h = absurd (true≢false (sym h))
 
 -- the events of a call on the command block that doesn't poke it
 call_lawful : (shut : Bool) (answer : ClientCall) → is_poke_on true answer ≡ false → is_of_commands answer ≡ true → is_lawful (client_call_events shut answer) ≡ true
@@ -98,10 +96,6 @@ tame_call t answer calm h = by_side (is_of_commands answer) refl
     by_side : (b : Bool) → is_of_commands answer ≡ b → is_lawful (let u : Track = if b then record t { commands = turns.called answer (released_by t answer) t.commands } else record t { stream = turns.called answer (released_by t answer) t.stream } in u.commands.events) ≡ true
     by_side true is = lawful_join t.commands.events (client_events_of t.commands.shape.frames t.commands.shape.base t.commands.events answer) h (call_lawful (is_some (client_kept t.commands.shape.frames t.commands.shape.base t.commands.events).shut) answer calm is)
     by_side false is = h
-
-neither : (a b : Bool) → (a || b) ≡ false → (a ≡ false) × (b ≡ false)
-neither true b h = no (sym h)
-neither false b h = (refl, h)
 
 tame_calls : (t : Track) (calls : List ClientCall) → list_any (is_poke_on true) calls ≡ false → is_lawful t.commands.events ≡ true → is_lawful (fold after_call t calls).commands.events ≡ true
 tame_calls t [] calm h = h

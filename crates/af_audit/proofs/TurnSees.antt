@@ -1,5 +1,5 @@
 -- What a client's calls leave of its side of the command block: the list and the words grow.
-use Rattle.std.proofs.Common.{◌≡◌, ℕ, zero, suc, ◌+◌, ◌*◌, ◌<◌, Bool, true, false, true≢false, is_some, if◌then◌else◌, fold, List, [], ◌∷◌, ◌++◌, Some, refl, sym, ap, ◌∙◌, subst, append-nil, append_assoc}
+use Rattle.std.proofs.Common.{◌≡◌, ℕ, zero, suc, ◌+◌, ◌*◌, ◌<◌, Bool, true, false, is_some, if◌then◌else◌, fold, List, [], ◌∷◌, ◌++◌, Some, refl, sym, ap, ◌∙◌, subst, append-nil, append_assoc}
 use Rattle.std.specs.Prelude.{slice_get}
 use Rattle.std.proofs.lemmas.Grind.{fold-append}
 use Rattle.af_base.specs.declared.event.ClientCall.{ClientCall}
@@ -11,9 +11,7 @@ use Rattle.af_model.specs.ClientCalls.{client_events_of}
 use Rattle.af_runs.specs.Clients.{settled_in}
 use Rattle.af_runs.specs.ClientTurns.{Side, Track, after_call, after_calls, called, is_of_commands, released_by}
 use Rattle.af_audit.specs.Settled.{IsStart, SeesSettled}
-
-no : {A : Type 0} → false ≡ true → A
-no h = absurd (true≢false (sym h))
+use Rattle.af_audit.proofs.Booleans.{no}
 
 -- a side with more events and more words
 record Longer (a b : Side) : Type 0 where

@@ -1,6 +1,6 @@
 -- What a turn of the normal mixer settles of a track, and what its status says of that.
 use Rattle.std.specs.Prelude.{MatchBool, slice_set}
-use Rattle.std.proofs.Common.{◌≡◌, inl, inr, ℕ, zero, suc, ◌<◌, ◌≤◌, ◌==◌, Bool, true, false, true≢false, if◌then◌else◌, fold, map, List, [], ◌∷◌, ◌++◌, length, Option, Some, None, refl, sym, ap, ◌∙◌, subst, append-nil, arith}
+use Rattle.std.proofs.Common.{◌≡◌, inl, inr, ℕ, zero, suc, ◌<◌, ◌≤◌, ◌==◌, Bool, true, false, if◌then◌else◌, fold, map, List, [], ◌∷◌, ◌++◌, length, Option, Some, None, refl, sym, ap, ◌∙◌, subst, append-nil, arith}
 use Rattle.std.proofs.lemmas.Bool.{cases_eq}
 use Rattle.std.proofs.lemmas.Grind.{get_or-set_at}
 use Rattle.std.proofs.lemmas.List.{get_or-set_other}
@@ -24,9 +24,6 @@ use Rattle.af_life.proofs.Lives.{acked_len, not_yet, served_len}
 use Rattle.af_runs.specs.Clients.{settled_in}
 use Rattle.af_audit.proofs.StartsSettled.{SettledCore, SettledSo, over_so, served_so}
 use Rattle.af_audit.proofs.StatusWords.{StatusesLow, status_settles}
-
-no : {A : Type 0} → false ≡ true → A
-no h = absurd (true≢false (sym h))
 
 -- ## What only a track's own part of a turn changes: the START that waits, the commands settled and the life
 

@@ -1,5 +1,5 @@
 -- On a command block whose client flushes nothing no look of a legal turn drops anything.
-use Rattle.std.proofs.Common.{◌≡◌, ◌⊎◌, inl, inr, ℕ, ◌^◌, ◌<◌, ◌≤◌, nat_lt, MatchOption, Bool, true, false, true≢false, if◌then◌else◌, is_some, fold, List, [], ◌∷◌, ◌++◌, length, Option, Some, None, refl, sym, ap, ◌∙◌, subst, arith}
+use Rattle.std.proofs.Common.{◌≡◌, ◌⊎◌, inl, inr, ℕ, ◌^◌, ◌<◌, ◌≤◌, nat_lt, MatchOption, Bool, true, false, if◌then◌else◌, is_some, fold, List, [], ◌∷◌, ◌++◌, length, Option, Some, None, refl, sym, ap, ◌∙◌, subst, arith}
 use Rattle.std.proofs.lemmas.Bool.Decides.{nat_tests}
 use Rattle.std.proofs.lemmas.List.{get_or_past}
 use Rattle.af_base.specs.declared.event.ServerEvent.{ServerEvent}
@@ -32,9 +32,6 @@ use Rattle.af_runs.specs.Fronts.{front_of, fronts_by}
 use Rattle.af_judge.proofs.LooksAnswer.{Alike, alike, looks_alike, step_alike}
 use Rattle.af_audit.proofs.DropsNoticed.{saw_new}
 use Rattle.af_audit.proofs.Sending.{flushes_join}
-
-no : {A : Type 0} → false ≡ true → A
-no h = absurd (true≢false (sym h))
 
 -- ## Flush words
 

@@ -6,7 +6,6 @@ pub mod RoundTold
 pub mod MeetingsJudged
 pub mod Fates
 pub mod Spared
-pub mod Older
 pub mod Drained
 pub mod Known
 pub mod Settled

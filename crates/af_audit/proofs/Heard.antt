@@ -27,16 +27,16 @@ use Rattle.af_judge.proofs.SoundSlots.{sound_served}
 use Rattle.af_judge.proofs.SoundTurns.{sound_acked}
 use Rattle.af_judge.proofs.StatesRuns.{calls_same as beside_calls, RunKept, kept_new, kept_after_turn, kept_round}
 use Rattle.af_audit.proofs.FatesTold.{new_there}
-use Rattle.af_audit.proofs.ToldAttached.{attached_then}
-use Rattle.af_audit.proofs.ToldBounded.{report_bounded}
-use Rattle.af_audit.proofs.ToldBounds.{RunBounds, bounds_calls, bounds_cycles, bounds_new, bounds_round}
-use Rattle.af_audit.proofs.ToldCurrent.{IsCurrent, calls_same, current_same, cycles_are, legal_parts, round_current}
-use Rattle.af_audit.proofs.ToldGrowing.{RunGrows, run_both, run_told, grows_calls, grows_cycles, grows_turned, grows_loaded, grows_met, grows_ends}
-use Rattle.af_audit.proofs.ToldLateRound.{untold, untold_is, first_late, all_late}
-use Rattle.af_audit.proofs.ToldLateRuns.{FirstLate}
-use Rattle.af_audit.proofs.ToldMeasure.{Measure, of_run}
-use Rattle.af_audit.proofs.ToldQuiet.{stream_quiet}
-use Rattle.af_audit.proofs.ToldTurns.{before_normal, turn_legal}
+use Rattle.af_audit.proofs.Attached.{attached_then}
+use Rattle.af_audit.proofs.Bounded.{report_bounded}
+use Rattle.af_audit.proofs.Bounds.{RunBounds, bounds_calls, bounds_cycles, bounds_new, bounds_round}
+use Rattle.af_audit.proofs.FastCurrent.{IsCurrent, calls_same, current_same, cycles_are, legal_parts, round_current}
+use Rattle.af_audit.proofs.Growing.{RunGrows, run_both, run_told, grows_calls, grows_cycles, grows_turned, grows_loaded, grows_met, grows_ends}
+use Rattle.af_audit.proofs.LateRound.{untold, untold_is, first_late, all_late}
+use Rattle.af_audit.proofs.LateRuns.{FirstLate}
+use Rattle.af_audit.proofs.Measure.{Measure, of_run}
+use Rattle.af_audit.proofs.Quiet.{stream_quiet}
+use Rattle.af_audit.proofs.MixerTurns.{before_normal, turn_legal}
 
 -- ## Numbers of the state adopted last
 
@@ -129,7 +129,7 @@ module _ (measure : Measure) where
     played = all_played s run round
 
     parts : LegalEntries s marks (with_calls round run) (early_of run round) × LegalEntries s marks (after_turn s run round) (late_of run round)
-    parts = legal_parts (fast_ended run) s marks run round legal.turns.fast
+    parts = legal_parts (fast_ended run) false s marks run round legal.turns.fast
 
     module _ (e : Turn) (is : round.turn ≡ Some e) where
       abbrev f : TurnFound
