@@ -1,5 +1,5 @@
 -- In a legal run each track that is reported drained has reached its STOP.
-use Rattle.std.proofs.Common.{◌≡◌, ℕ, ◌<◌, Bool, true, false, All, List, [], ◌∷◌, ◌++◌, length, refl, sym, subst}
+use Rattle.std.proofs.Common.{◌≡◌, ℕ, ◌<◌, Bool, true, false, All, List, [], ◌∷◌, ◌++◌, refl, sym, subst, take, ap, arith}
 use Rattle.std.specs.List.{list_any}
 use Rattle.std.proofs.lemmas.List.Elements.{All-head, All-tail}
 use Rattle.af_base.specs.declared.frame.Frame.{Frame}
@@ -7,26 +7,27 @@ use Rattle.af_life.specs.Drained.{LifeStep}
 use Rattle.af_model.proofs.Logic.{both_right}
 use Rattle.af_model.specs.JournalForm.{IsRound}
 use Rattle.af_model.specs.Journals.{JournalData, RoundSeen}
-use Rattle.af_runs.specs.Blocks.{Marks}
+use Rattle.af_runs.specs.Blocks.{BlockTold, Marks, client_list, hand_list, server_list}
 use Rattle.af_runs.specs.LegalRuns.{IsLegalRun, LegalRounds, is_lawful_block, is_lawful_track, is_poke_on, marks_of, session_of}
 use Rattle.af_runs.specs.Rounds.{LegalRound, after_round}
-use Rattle.af_runs.specs.Runs.{Run, TrackTold, calls_in, new_run, told_at}
+use Rattle.af_runs.specs.Runs.{Run, TrackTold, calls_in, new_run}
 use Rattle.af_runs.specs.Sessions.{Session, track_count}
 use Rattle.af_script.specs.Data.{ScriptData}
 use Rattle.af_script.specs.Form.{IsScript}
 use Rattle.af_audit.proofs.FatesTold.{told_new}
-use Rattle.af_audit.proofs.RunUnshut.{spares_round}
-use Rattle.af_audit.proofs.TrackUnshut.{IsTrim}
 use Rattle.af_audit.specs.Drained.{EachDrainedTrackReachedItsStop, HasReachedStop, Sent, WhereDrained, consumed_of, round_steps, sent_in}
 use Rattle.af_audit.proofs.Reached.{Keeps, keeps_round, new_keeps, reached_round}
-use Rattle.af_audit.proofs.SentTold.{commands_at, sent_round}
+use Rattle.af_audit.proofs.SentTold.{commands_at, sent_history, sent_round}
 use Rattle.af_audit.proofs.Stopped.{Reaches}
+use Rattle.af_audit.proofs.CommandDrops.{taken_first}
+use Rattle.af_audit.proofs.SettledRounds.{SettlesSo, new_settles, round_settles}
+use Rattle.af_model.specs.declared.shape.Shape.{Shape}
 use Rattle.af_audit.proofs.StopSent.{SentSo, stop_sent}
 use Rattle.af_audit.proofs.Booleans.{neither, not_true}
 
 -- what is kept of a track whose command block has no poke
-record SendsSo (n : ℕ) (run : Run) (steps : List LifeStep) (sent : List Sent) : Type 0 where
-  trim : IsTrim true (told_at run n)
+record SendsSo (s : Session) (n : ℕ) (run : Run) (steps : List LifeStep) (sent : List Sent) : Type 0 where
+  settles : SettlesSo s n run
   so : SentSo (commands_at n run) steps sent
 
 -- none of the calls of these rounds pokes the command block
@@ -35,16 +36,25 @@ AreCalm n rounds = list_any (λ round. list_any (is_poke_on true) (calls_in roun
 
 -- ## A round
 
-module _ (s : Session) (marks : Marks) (tracks n : ℕ) (low : n < track_count s) (run : Run) (round : RoundSeen) (steps : List LifeStep) (sent : List Sent) (form : IsRound tracks round) (legal : LegalRound false s marks run round) where
-  sends_round : n < length run.tracks → list_any (is_poke_on true) (calls_in round n) ≡ false → SendsSo n run steps sent → SendsSo n (after_round s run round) (round_steps s run round round.turn n steps) (sent ++ sent_in run round n)
-  sends_round there calm h =
-      let trim = (spares_round true false s marks run round tracks n form legal low there (λ on. calm)).trim h.trim in
-      record { trim = trim; so = sent_round s run round n there false marks legal low steps sent trim h.so }
+module _ (s : Session) (script : IsScript s.script) (marks : Marks) (tracks n : ℕ) (low : n < track_count s) (run : Run) (round : RoundSeen) (steps : List LifeStep) (sent : List Sent) (form : IsRound tracks round) (legal : LegalRound false s marks run round) (calm : list_any (is_poke_on true) (calls_in round n) ≡ false) (h : SendsSo s n run steps sent) where
+  abbrev last : BlockTold
+  last = commands_at n (after_round s run round)
+
+  sends_round : SendsSo s n (after_round s run round) (round_steps s run round round.turn n steps) (sent ++ sent_in run round n)
+  sends_round = record { settles = round_settles s script marks run round tracks n low form legal h.settles calm; so = sent_round s run round n h.settles.tells.low false marks legal low steps sent h.so }
+
+  -- the words taken by its end begin those released
+  taken_begins : (count : ℕ) × (last.taken ≡ take count last.released)
+  taken_begins =
+      let now = round_settles s script marks run round tracks n low form legal h.settles calm in
+      let commands = now.commands.commands in
+      let flat : last.shape.wrap ≡ 0 = ap (λ (k : Shape). k.wrap) commands.shape in
+      taken_first last.shape (omega (arith, flat)) (client_list last) last.released (server_list last) last.taken (hand_list last) (sent_history s run round n h.settles.tells.low false marks legal low steps sent h.so (now.trim.tame refl)) commands.calm commands.drops
 
 -- ## All rounds
 
 rounds_told : Reaches → (s : Session) → IsScript s.script → (marks : Marks) (tracks n : ℕ) (lawful : Bool) (rounds : List RoundSeen) (run : Run) (steps : List LifeStep) (sent : List Sent) → n < track_count s → All (IsRound tracks) rounds → LegalRounds false s marks run rounds
-    → (lawful ≡ true → AreCalm n rounds) → Keeps s n run steps → (lawful ≡ true → SendsSo n run steps sent)
+    → (lawful ≡ true → AreCalm n rounds) → Keeps s n run steps → (lawful ≡ true → SendsSo s n run steps sent)
     → WhereDrained (λ run steps sent. HasReachedStop lawful (consumed_of run n) steps sent) s run steps sent rounds n
 rounds_told reached s script marks tracks n lawful [] run steps sent low forms legal calm h so = tt
 rounds_told reached s script marks tracks n lawful (round ∷ rounds) run steps sent low forms legal calm h so =
@@ -53,18 +63,19 @@ rounds_told reached s script marks tracks n lawful (round ∷ rounds) run steps 
     let all : List Sent = sent ++ sent_in run round n in
     let after : Run = after_round s run round in
     let two = λ (is : lawful ≡ true). neither (list_any (is_poke_on true) (calls_in round n)) _ (calm is) in
-    let further = λ (is : lawful ≡ true). sends_round s marks tracks n low run round steps sent form legal.0 h.tells.low (two is).0 (so is) in (
+    let further = λ (is : lawful ≡ true). sends_round s script marks tracks n low run round steps sent form legal.0 (two is).0 (so is) in
+    let begins = λ (is : lawful ≡ true). taken_begins s script marks tracks n low run round steps sent form legal.0 (two is).0 (so is) in (
       (λ says. let d = reached_round s script marks run round tracks n steps form legal.0 h reached low says in
-          record { count = d.0; stopped = d.1; reached = d.2; is_sent = λ is. stop_sent (commands_at n after) now all d.0 (further is).so d.1 }),
+          record { count = d.0; stopped = d.1; reached = d.2; is_sent = λ is. stop_sent (commands_at n after) now all d.0 (begins is).0 (further is).so (begins is).1 d.1 }),
       rounds_told reached s script marks tracks n lawful rounds after now all low (All-tail (IsRound tracks) round rounds forms) legal.1 (λ is. (two is).1) (keeps_round s script marks run round tracks n steps form legal.0 h) further,
     )
 
 -- ## Before the first round
 
-new_sends : (s : Session) (n : ℕ) → n < track_count s → SendsSo n (new_run s) [] []
-new_sends s n low = record {
-  trim = subst (IsTrim true) (sym (told_new s n low)) (record { rears = tt; tame = λ on. refl; shape = refl });
-  so = subst (λ (t : TrackTold). SentSo t.commands [] []) (sym (told_new s n low)) (record { none = refl; calm = refl; released = refl; right = tt; taken = refl; begins = (0, refl) });
+new_sends : (s : Session) (n : ℕ) → IsScript s.script → n < track_count s → SendsSo s n (new_run s) [] []
+new_sends s n script low = record {
+  settles = new_settles s script n low;
+  so = subst (λ (t : TrackTold). SentSo t.commands [] []) (sym (told_new s n low)) (record { released = refl; right = tt; taken = refl });
 }
 
 -- in a legal run of a script each track that is reported drained has reached its STOP
@@ -72,4 +83,4 @@ pub drained : Reaches → (script : ScriptData) (files : List (List Frame)) (j :
 drained reached script files j is legal track low =
     let s : Session = session_of script files in
     let calm = λ (lawful : is_lawful_track j.rounds track ≡ true). not_true (list_any (λ (round : RoundSeen). list_any (is_poke_on true) (calls_in round track)) j.rounds) (both_right (is_lawful_block false j.rounds track) (is_lawful_block true j.rounds track) lawful) in
-    rounds_told reached s is (marks_of j.rounds) j.tracks track (is_lawful_track j.rounds track) j.rounds (new_run s) [] [] low legal.rounds.form.rounds legal.rounds.rounds calm (new_keeps s track low) (λ lawful. new_sends s track low)
+    rounds_told reached s is (marks_of j.rounds) j.tracks track (is_lawful_track j.rounds track) j.rounds (new_run s) [] [] low legal.rounds.form.rounds legal.rounds.rounds calm (new_keeps s track low) (λ lawful. new_sends s track is low)

@@ -41,7 +41,7 @@ mod RunUnshut
 pub mod SparedTold
 mod Sending
 mod StepsTaken
-mod Undropped
+mod TracksSeen
 mod StopSent
 mod MixerTurns
 mod Stopped
@@ -60,7 +60,6 @@ mod Heard
 mod Consumed
 mod Reached
 mod SentTold
-pub mod DrainedTold
 mod Flushes
 mod Drops
 mod Grown
@@ -78,4 +77,5 @@ mod TurnSettles
 mod CommandDrops
 mod CommandRounds
 mod SettledRounds
+pub mod DrainedTold
 pub mod SettledTold

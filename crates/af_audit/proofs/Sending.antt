@@ -1,13 +1,10 @@
--- The commands that a client sends: their words are those that it releases on its command block, on which it flushes nothing, and a STOP carries the number of frames released before it.
-use Rattle.std.proofs.Common.{◌≡◌, ℕ, ◌+◌, ◌-◌, ◌==◌, ◌&&◌, MatchBool, Bool, true, false, if◌then◌else◌, is_some, fold, List, [], ◌∷◌, ◌++◌, length, refl, sym, ap, ◌∙◌, subst, append-nil, append_assoc, eqb-true, arith}
+-- The commands that a client sends: their words are those that it releases on its command block, and a STOP carries the number of frames released before it.
+use Rattle.std.proofs.Common.{◌≡◌, ℕ, ◌-◌, ◌==◌, ◌&&◌, MatchBool, Bool, true, false, fold, List, [], ◌∷◌, ◌++◌, length, refl, sym, ap, ◌∙◌, subst, append-nil, append_assoc, eqb-true, arith}
 use Rattle.af_base.specs.declared.event.ClientCall.{ClientCall}
 use Rattle.af_base.specs.declared.event.ClientCall.TheVariants as call
-use Rattle.af_base.specs.declared.event.ClientEvent.{ClientEvent}
-use Rattle.af_model.specs.ClientCalls.{client_call_events, client_events_of, client_kept}
-use Rattle.af_model.specs.History.{flushes_of}
 use Rattle.af_model.specs.Point.{wrapped}
 use Rattle.af_model.proofs.Logic.{both_left, both_right}
-use Rattle.af_runs.specs.ClientTurns.{AreCalls, IsWanted, LegalClientTurn, Track, after_call, after_calls, argument_of, called, is_of_commands, most_calls, released_by}
+use Rattle.af_runs.specs.ClientTurns.{AreCalls, IsWanted, LegalClientTurn, Track, after_call, after_calls, argument_of, most_calls}
 use Rattle.af_runs.specs.Clients.{code_of}
 use Rattle.af_runs.specs.declared.want.ClientCommand.{ClientCommand}
 use Rattle.af_runs.specs.declared.want.ClientCommand.TheVariants as command
@@ -39,35 +36,7 @@ pub right_join : (xs ys : List Sent) → AreRight xs → AreRight ys → AreRigh
 right_join [] ys h g = g
 right_join (x ∷ xs) ys h g = (h.0, right_join xs ys h.1 g)
 
--- ## Flushes
-
-pub flushes_join : (xs ys : List ClientEvent) → flushes_of (xs ++ ys) ≡ flushes_of xs + flushes_of ys
-flushes_join [] ys = omega arith
-flushes_join (x ∷ xs) ys = let r = flushes_join xs ys in omega (arith, r)
-
--- a call on the command block flushes nothing
-unflushed : (shut : Bool) (answer : ClientCall) → is_of_commands answer ≡ true → flushes_of (client_call_events shut answer) ≡ 0
-unflushed shut (call.Sent front code argument) on = refl
-unflushed shut (call.SendFull front) on = refl
-unflushed shut (call.SendDead flags) on = refl
-unflushed true (call.SendCorrupt front rear) on = refl
-unflushed false (call.SendCorrupt front rear) on = refl
-unflushed shut (call.Status word) on = refl
-unflushed shut (call.Poke in_command word value) on = refl
-unflushed shut (call.Put front count) on = no on
-unflushed shut (call.Full front) on = no on
-unflushed shut (call.Dead flags) on = no on
-unflushed shut (call.Corrupt front rear) on = no on
-unflushed shut (call.Cleared flags) on = no on
-unflushed shut (call.Flush count) on = no on
-unflushed shut (call.Gain word) on = no on
-
 -- ## Calls
-
--- by these commands the client came from one track to another
-pub record Sends (t u : Track) (sent : List Sent) : Type 0 where
-  pub released : u.commands.released ≡ t.commands.released ++ words_sent sent
-  pub flushes : flushes_of u.commands.events ≡ flushes_of t.commands.events
 
 same : (t : Track) → t.commands.released ≡ t.commands.released ++ []
 same t = sym (append-nil t.commands.released)
@@ -88,33 +57,17 @@ call_released t (call.Cleared flags) = same t
 call_released t (call.Flush count) = same t
 call_released t (call.Gain word) = same t
 
-call_flushes : (t : Track) (answer : ClientCall) → flushes_of (after_call t answer).commands.events ≡ flushes_of t.commands.events
-call_flushes t answer = by_side (is_of_commands answer) refl
-  where
-    by_side : (b : Bool) → is_of_commands answer ≡ b
-        → flushes_of (let u : Track = if b then record t { commands = called answer (released_by t answer) t.commands } else record t { stream = called answer (released_by t answer) t.stream } in u.commands.events) ≡ flushes_of t.commands.events
-    by_side true is =
-        let more : List ClientEvent = client_events_of t.commands.shape.frames t.commands.shape.base t.commands.events answer in
-        let a = flushes_join t.commands.events more in
-        let b : flushes_of more ≡ 0 = unflushed (is_some (client_kept t.commands.shape.frames t.commands.shape.base t.commands.events).shut) answer is in
-        omega (arith, a, b)
-    by_side false is = refl
-
-calls_send : (t : Track) (calls : List ClientCall) → Sends t (fold after_call t calls) (sent_by_all t calls)
-calls_send t [] = record { released = same t; flushes = refl }
-calls_send t (answer ∷ calls) =
-    let rest = calls_send (after_call t answer) calls in
+calls_released : (t : Track) (calls : List ClientCall) → (fold after_call t calls).commands.released ≡ t.commands.released ++ words_sent (sent_by_all t calls)
+calls_released t [] = same t
+calls_released t (answer ∷ calls) =
     let first : List Sent = sent_by t answer in
     let second : List Sent = sent_by_all (after_call t answer) calls in
-    record {
-      released = rest.released ∙ ap (λ (l : List ℕ). l ++ words_sent second) (call_released t answer) ∙ append_assoc t.commands.released (words_sent first) (words_sent second)
-          ∙ ap (λ (l : List ℕ). t.commands.released ++ l) (sym (words_join first second));
-      flushes = rest.flushes ∙ call_flushes t answer;
-    }
+    calls_released (after_call t answer) calls ∙ ap (λ (l : List ℕ). l ++ words_sent second) (call_released t answer) ∙ append_assoc t.commands.released (words_sent first) (words_sent second)
+    ∙ ap (λ (l : List ℕ). t.commands.released ++ l) (sym (words_join first second))
 
--- a turn
-pub turn_sends : (t : Track) (calls : List ClientCall) → Sends t (after_calls t calls) (sent_by_all t calls)
-turn_sends t calls = let h = calls_send t calls in record { released = h.released; flushes = h.flushes }
+-- a turn releases the words of the commands that it sends
+pub turn_sends : (t : Track) (calls : List ClientCall) → (after_calls t calls).commands.released ≡ t.commands.released ++ words_sent (sent_by_all t calls)
+turn_sends t calls = calls_released t calls
 
 -- ## Wants
 

@@ -1,43 +1,31 @@
 -- What each legal round keeps of a command block without a poke.
-use Rattle.std.proofs.Common.{◌≡◌, ℕ, ◌^◌, ◌<◌, ◌≤◌, Bool, true, false, if◌then◌else◌, List, [], ◌∷◌, ◌++◌, drop, length, Option, Some, None, refl, sym, ap, ◌∙◌, subst, append-nil, arith}
+use Rattle.std.proofs.Common.{◌≡◌, ℕ, ◌<◌, Bool, true, false, if◌then◌else◌, List, [], ◌++◌, length, Option, Some, None, refl, sym, ap, ◌∙◌, subst, append-nil, arith}
 use Rattle.af_base.specs.declared.event.ClientCall.{ClientCall}
-use Rattle.af_base.specs.declared.event.ClientEvent.{ClientEvent}
-use Rattle.af_base.specs.declared.event.ClientEvent.TheVariants as client
-use Rattle.af_base.specs.declared.event.ServerEvent.{ServerEvent}
-use Rattle.af_base.specs.declared.event.ServerEvent.TheVariants as server
 use Rattle.af_base.specs.Turn.{Turn}
 use Rattle.af_life.specs.Drained.{LifeStep}
 use Rattle.af_life.specs.Heard.{learnt}
 use Rattle.af_life.specs.Kept.{Setup, track_in}
 use Rattle.af_life.specs.Looks.{words_taken}
-use Rattle.af_life.specs.TurnEvents.{command_list, going, tracks_at}
-use Rattle.af_model.specs.declared.shape.Shape.{Shape}
-use Rattle.af_model.specs.Fates.{drops_none}
-use Rattle.af_model.specs.History.{flushes_of}
+use Rattle.af_life.specs.TurnEvents.{going}
 use Rattle.af_model.specs.Journals.{RoundSeen}
-use Rattle.af_model.proofs.Fates.{taken_begins}
-use Rattle.af_runs.specs.Blocks.{BlockTold, HasBlockHistory, Marks, client_list, is_tame, meets, server_list}
+use Rattle.af_runs.specs.Blocks.{BlockTold, HasBlockHistory, Marks, is_tame, meets}
 use Rattle.af_runs.specs.Clients.{ends}
-use Rattle.af_runs.specs.ClientTurns.{Track, after_calls}
+use Rattle.af_runs.specs.ClientTurns.{Track}
 use Rattle.af_runs.specs.Found.{TurnFound, outside_of}
 use Rattle.af_runs.specs.Rounds.{LegalRound, after_round, after_turn, all_played, before_turn, early_of, found_in, late_of, loaded, met_after, turned}
 use Rattle.af_runs.specs.Runs.{Run, TrackTold, called, calls_in, commands_turned, each_track, no_track, sides_of, told_at, turned_track, with_calls, with_cycles, with_ends, with_load, with_turn}
 use Rattle.af_runs.specs.Sessions.{Session, setup_of, track_count}
 use Rattle.af_judge.proofs.BlocksMeet.{met_at, met_many}
-use Rattle.af_judge.proofs.BlocksTold.{client-server, server-client}
 use Rattle.af_judge.proofs.EachTrack.{each_at, told_each}
 use Rattle.af_judge.proofs.EntriesFollow.{cycles_beside}
-use Rattle.af_judge.proofs.TracksTold.{sides_called}
 use Rattle.af_audit.proofs.CallsFollow.{calls_long, told_called}
 use Rattle.af_audit.proofs.SidesKept.{played_many}
-use Rattle.af_audit.proofs.TrackStands.{server-server}
-use Rattle.af_audit.proofs.TrackUnshut.{IsTrim}
 use Rattle.af_audit.specs.Drained.{Sent, round_steps, sent_in}
-use Rattle.af_audit.proofs.Sending.{flushes_join, right_join, turn_right, turn_sends, words_join, words_sent}
+use Rattle.af_audit.proofs.Sending.{right_join, turn_right, turn_sends, words_join, words_sent}
 use Rattle.af_audit.proofs.StepsTaken.{steps_words, turn_told}
 use Rattle.af_audit.proofs.MixerTurns.{before_normal, turn_legal}
 use Rattle.af_audit.proofs.StopSent.{SentSo}
-use Rattle.af_audit.proofs.Undropped.{SawNone, none_join, saw_in, saw_split, track_legal, turn_none}
+use Rattle.af_audit.proofs.TracksSeen.{track_legal}
 
 -- the command block of a track
 abbrev pub commands_at : ℕ → Run → BlockTold
@@ -110,23 +98,14 @@ module _ (s : Session) (run : Run) (round : RoundSeen) (n : ℕ) (low : n < leng
   start_block = ap (λ (x : TrackTold). x.commands) (told_called round run n low)
 
   start_released : start.released ≡ b.released ++ words_sent (sent_in run round n)
-  start_released = ap (λ (x : BlockTold). x.released) start_block ∙ (turn_sends t calls).released
+  start_released = ap (λ (x : BlockTold). x.released) start_block ∙ turn_sends t calls
 
   start_taken : start.taken ≡ b.taken
   start_taken = ap (λ (x : BlockTold). x.taken) start_block
 
-  start_server : server_list start ≡ server_list b
-  start_server = ap server_list start_block ∙ client-server b.told (drop (length (client_list b)) (after_calls t calls).commands.events)
-
-  start_calm : flushes_of (client_list start) ≡ flushes_of (client_list b)
-  start_calm = ap (λ (x : BlockTold). flushes_of (client_list x)) start_block ∙ ap (λ (x : Track). flushes_of x.commands.events) (sides_called (told_at run n) calls) ∙ (turn_sends t calls).flushes
-
   -- ## The turn
 
-  -- the server's events in it, and the words taken
-  abbrev turn_events : Option Turn → List ServerEvent
-  turn_events o = elim o as (λ o. List ServerEvent) [ None ↦ [] | Some e ↦ (let told = outside_of c (found_in s run round e) e in command_list c told e (tracks_at c (learnt told) run.normal e n) n) ]
-
+  -- the words taken in it
   abbrev turn_words : Option Turn → List ℕ
   turn_words o = elim o as (λ o. List ℕ) [ None ↦ [] | Some e ↦ going e (words_taken (track_in e n).looks) ]
 
@@ -138,17 +117,9 @@ module _ (s : Session) (run : Run) (round : RoundSeen) (n : ℕ) (low : n < leng
   turn_taken None = sym (append-nil start.taken)
   turn_taken (Some e) = refl
 
-  turn_server : (o : Option Turn) → server_list (with_its_turn o) ≡ server_list start ++ turn_events o
-  turn_server None = sym (append-nil (server_list start))
-  turn_server (Some e) = server-server start.told (turn_events (Some e))
-
-  turn_client : (o : Option Turn) → client_list (with_its_turn o) ≡ client_list start
-  turn_client None = refl
-  turn_client (Some e) = server-client start.told (turn_events (Some e))
-
   -- ## A legal round
 
-  module _ (cut : Bool) (marks : Marks) (legal : LegalRound cut s marks run round) (track : n < track_count s) (steps : List LifeStep) (sent : List Sent) (trim : IsTrim true (told_at (after_round s run round) n)) (h : SentSo (commands_at n run) steps sent) where
+  module _ (cut : Bool) (marks : Marks) (legal : LegalRound cut s marks run round) (track : n < track_count s) (steps : List LifeStep) (sent : List Sent) (h : SentSo (commands_at n run) steps sent) where
     abbrev last : BlockTold
     last = commands_at n (after_round s run round)
 
@@ -158,50 +129,7 @@ module _ (s : Session) (run : Run) (round : RoundSeen) (n : ℕ) (low : n < leng
     last_is : last ≡ meets (with_its_turn o)
     last_is = after_is ∙ met_is
 
-    history : HasBlockHistory last
-    history = subst HasBlockHistory (sym after_is) ((legal.histories.blocks n track).commands refl (ap is_tame (sym after_is) ∙ trim.tame refl))
-
-    abbrev learns : List ServerEvent
-    learns = server.Learn (length (client_list (with_its_turn o) ++ client.Learn (length (server_list (with_its_turn o))) ∷ [])) ∷ []
-
-    last_server : server_list last ≡ (server_list b ++ turn_events o) ++ server.Learn (length (client_list (with_its_turn o))) ∷ []
-    last_server = ap server_list last_is ∙ ap (λ (es : List ServerEvent). es ++ server.Learn (length (client_list (with_its_turn o))) ∷ []) (turn_server o ∙ ap (λ (es : List ServerEvent). es ++ turn_events o) start_server)
-
-    last_calm : flushes_of (client_list last) ≡ 0
-    last_calm =
-        let learnt_so : List ClientEvent = client.Learn (length (server_list (with_its_turn o))) ∷ [] in
-        let more : flushes_of (client_list last) ≡ flushes_of (client_list (with_its_turn o) ++ learnt_so) = ap (λ (x : BlockTold). flushes_of (client_list x)) last_is in
-        let joined = flushes_join (client_list (with_its_turn o)) learnt_so in
-        let turn = ap flushes_of (turn_client o) in
-        let first = start_calm in
-        let calm = h.calm in
-        omega (arith, more, joined, turn, first, calm)
-
-    flat : last.shape.wrap ≡ 0
-    flat = ap (λ (k : Shape). k.wrap) trim.shape
-
-    saw_all : SawNone (server_list last)
-    saw_all = subst SawNone history.server_is (saw_in last.shape flat history.order history.legal (ap flushes_of history.client_is ∙ last_calm))
-
-    saw_both : SawNone (server_list b) × SawNone (turn_events o)
-    saw_both = saw_split (server_list b) (turn_events o) (saw_split (server_list b ++ turn_events o) _ (subst SawNone last_server saw_all)).0
-
-    turn_shape : (x : Option Turn) → (with_its_turn x).shape ≡ start.shape
-    turn_shape None = refl
-    turn_shape (Some e) = refl
-
-    start_flat : start.shape.wrap ≤ 2 ^ 31
-    start_flat = let w : start.shape.wrap ≡ 0 = ap (λ (k : Shape). k.wrap) (sym (turn_shape o) ∙ ap (λ (x : BlockTold). x.shape) (sym last_is)) ∙ flat in omega (arith, w)
-
-    -- the turn drops nothing
-    events_none : (x : Option Turn) → round.turn ≡ x → SawNone (turn_events x) → drops_none (turn_events x) ≡ true
-    events_none None is saw = refl
-    events_none (Some e) is saw =
-        let by = turn_legal cut s marks run round legal e is in
-        let f : TurnFound = found_in s run round e in
-        turn_none c f run.normal e by.outside n by.found by.legal start_flat (tracks_at c (learnt (outside_of c f e)) run.normal e n) (subst SawNone (sym start_server) saw_both.0) saw
-
-    -- and takes what its steps tell
+    -- the turn takes what its steps tell
     words_told_so : (x : Option Turn) → round.turn ≡ x → steps_words (round_steps s run round x n steps) ≡ steps_words steps ++ turn_words x
     words_told_so None is = sym (append-nil (steps_words steps))
     words_told_so (Some e) is =
@@ -209,16 +137,14 @@ module _ (s : Session) (run : Run) (round : RoundSeen) (n : ℕ) (low : n < leng
         let f : TurnFound = found_in s run round e in
         turn_told c (learnt (outside_of c f e)) run.normal e n steps (track_legal c f run.normal e by.outside n by.found by.legal)
 
-    last_none : drops_none (server_list last) ≡ true
-    last_none = ap drops_none last_server ∙ none_join (server_list b ++ turn_events o) _ (none_join (server_list b) (turn_events o) h.none (events_none o refl saw_both.1)) refl
-
     -- what is kept of the block is kept of it after the round
     pub sent_round : SentSo last (round_steps s run round o n steps) (sent ++ sent_in run round n)
     sent_round = record {
-      none = last_none;
-      calm = last_calm;
       released = ap (λ (x : BlockTold). x.released) last_is ∙ turn_released o ∙ start_released ∙ ap (λ (l : List ℕ). l ++ words_sent (sent_in run round n)) h.released ∙ sym (words_join sent (sent_in run round n));
       right = right_join sent (sent_in run round n) h.right (turn_right t calls (legal.turns.clients n track));
       taken = ap (λ (x : BlockTold). x.taken) last_is ∙ turn_taken o ∙ ap (λ (l : List ℕ). l ++ turn_words o) (start_taken ∙ h.taken) ∙ sym (words_told_so o refl);
-      begins = taken_begins last.shape _ last.released (server_list last) last.taken _ history last_none;
     }
+
+    -- and it has a history, where it is tame
+    pub sent_history : is_tame last ≡ true → HasBlockHistory last
+    sent_history tame = subst HasBlockHistory (sym after_is) ((legal.histories.blocks n track).commands refl (ap is_tame (sym after_is) ∙ tame))

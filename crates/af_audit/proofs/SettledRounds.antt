@@ -87,7 +87,7 @@ module _ (s : Session) (form : IsScript s.script) (marks : Marks) (run : Run) (r
       loaded_at most n round.turn (with_cycles s (late_of run round) (after_turn s run round)) d
 
   -- and after it
-  round_settles : list_any (is_poke_on true) (calls_in round n) ≡ false → SettlesSo s n (after_round s run round)
+  pub round_settles : list_any (is_poke_on true) (calls_in round n) ≡ false → SettlesSo s n (after_round s run round)
   round_settles calm = record {
     tells = tells_round flushes s form marks run round tracks n is_round legal h.tells;
     commands = at_more most (of_run flushes (after_round s run round) n) n (after_round s run round) (run_told flushes played (after_round s run round) (from_played s run round) n)

@@ -1,10 +1,8 @@
 -- Where the commands that were taken begin those that were sent, the STOP that stopped a life last is the command of the same number that was sent.
-use Rattle.std.proofs.Common.{◌≡◌, ℕ, zero, suc, true, List, [], ◌∷◌, length, take, get_or, slice_get, Some, refl, sym, ap, ◌∙◌, subst, arith}
+use Rattle.std.proofs.Common.{◌≡◌, ℕ, zero, suc, List, [], ◌∷◌, length, take, get_or, slice_get, Some, refl, sym, ap, ◌∙◌, subst, arith}
 use Rattle.std.proofs.lemmas.Option.{none-some, same_Some}
 use Rattle.af_life.specs.Drained.{LifeStep, StoppedAt}
-use Rattle.af_model.specs.Fates.{drops_none}
-use Rattle.af_model.specs.History.{flushes_of}
-use Rattle.af_runs.specs.Blocks.{BlockTold, client_list, server_list}
+use Rattle.af_runs.specs.Blocks.{BlockTold}
 use Rattle.af_audit.specs.Drained.{IsStopSent, Sent, stop_number}
 use Rattle.af_audit.proofs.Sending.{AreRight, IsRight, words_sent}
 use Rattle.af_audit.proofs.StepsTaken.{steps_words, stop_told, told_in, words_told}
@@ -48,20 +46,17 @@ right_at (x ∷ sent) (suc n) one h is = right_at sent n one h.1 is
 
 -- ## What is kept of a command block
 
--- Its server dropped nothing, and its client flushed nothing; the words released are those of the commands sent, those taken are those of the commands obeyed, and these begin those
+-- The words released are those of the commands sent, and those taken are those of the commands obeyed
 pub record SentSo (b : BlockTold) (steps : List LifeStep) (sent : List Sent) : Type 0 where
-  pub none : drops_none (server_list b) ≡ true
-  pub calm : flushes_of (client_list b) ≡ 0
   pub released : b.released ≡ words_sent sent
   pub right : AreRight sent
   pub taken : b.taken ≡ steps_words steps
-  pub begins : (n : ℕ) × (b.taken ≡ take n b.released)
 
--- then the STOP was sent
-pub stop_sent : (b : BlockTold) (steps : List LifeStep) (sent : List Sent) (count : ℕ) → SentSo b steps sent → StoppedAt count steps → IsStopSent count steps sent
-stop_sent b steps sent count h stopped =
-    let begins : steps_words steps ≡ take h.begins.0 (words_sent sent) = sym h.taken ∙ h.begins.1 ∙ ap (take h.begins.0) h.released in
-    let at = sent_at (told_in steps) sent h.begins.0 begins (stop_number steps) 4 count (stop_told count steps stopped) in
+-- then, where these begin those, the STOP was sent
+pub stop_sent : (b : BlockTold) (steps : List LifeStep) (sent : List Sent) (count n : ℕ) → SentSo b steps sent → b.taken ≡ take n b.released → StoppedAt count steps → IsStopSent count steps sent
+stop_sent b steps sent count n h first stopped =
+    let begins : steps_words steps ≡ take n (words_sent sent) = sym h.taken ∙ first ∙ ap (take n) h.released in
+    let at = sent_at (told_in steps) sent n begins (stop_number steps) 4 count (stop_told count steps stopped) in
     record {
       released = at.one.released;
       is_sent = at.is_there ∙ (λ i. Some (record { code = at.code_is i; argument = at.argument_is i; released = at.one.released }));

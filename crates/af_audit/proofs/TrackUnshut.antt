@@ -51,7 +51,7 @@ use Rattle.af_audit.proofs.LooksUnshut.{kept_more, shut_after, unshut_cycle, uns
 use Rattle.af_audit.proofs.RearsSeen.{FollowAnywhere, cycle_follows, rear_join}
 use Rattle.af_audit.proofs.SidesKept.{sides_mixed, sides_turned}
 use Rattle.af_audit.proofs.TrackStands.{hand-server, server-server, told_more}
-use Rattle.af_audit.proofs.Undropped.{looks_legal}
+use Rattle.af_audit.proofs.TracksSeen.{looks_legal}
 use Rattle.af_audit.proofs.Booleans.{neither, no}
 
 -- the stream's server sees each front right after a rear; and of the command block, nothing was poked on it
