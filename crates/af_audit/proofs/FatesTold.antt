@@ -1,6 +1,6 @@
 -- By the end of a legal run each frame that the client of a track without a poke released has one fate.
-use Rattle.std.specs.List.{list_all, list_any, range_with_len}
-use Rattle.std.proofs.Common.{◌≡◌, ℕ, zero, suc, ◌+◌, ◌<◌, ◌==◌, nat_lt, Bool, true, false, if◌then◌else◌, List, [], ◌∷◌, ◌++◌, length, refl, sym, ap, ◌∙◌, subst, arith}
+use Rattle.std.specs.List.{list_any}
+use Rattle.std.proofs.Common.{◌≡◌, ℕ, ◌+◌, ◌<◌, ◌==◌, nat_lt, Bool, true, false, if◌then◌else◌, List, [], ◌∷◌, ◌++◌, length, refl, sym, ap, ◌∙◌, subst, arith}
 use Rattle.std.proofs.lemmas.Bool.Decides.{nat_tests}
 use Rattle.std.proofs.lemmas.List.FromFn.{get_or-map-range_with_len, length-map-range_with_len}
 use Rattle.af_base.specs.declared.frame.Frame.{Frame}
@@ -10,11 +10,11 @@ use Rattle.af_model.specs.Journals.{JournalData, RoundSeen}
 use Rattle.af_model.specs.Spans.{Span, mixed_by, spans_of, waiting_at, mixed_in}
 use Rattle.af_model.specs.History.{point}
 use Rattle.af_model.proofs.Discards.{discards-before}
-use Rattle.af_model.proofs.Logic.{both_left, both_right}
+use Rattle.af_model.proofs.Logic.{both_left}
 use Rattle.af_model.proofs.OneFate.{one_fate, taken-mixed}
 use Rattle.af_runs.specs.Blocks.{BlockTold, HasBlockHistory, new_block}
 use Rattle.af_runs.specs.LegalRuns.{IsLegalRun, is_lawful_block, is_poke_on, marks_of, run_of, session_of}
-use Rattle.af_runs.specs.Runs.{Run, TrackTold, all_ended, calls_in, fast_ended, fast_party, has_ended, new_run, new_track, no_track, normal_party, told_at}
+use Rattle.af_runs.specs.Runs.{Run, TrackTold, all_ended, calls_in, fast_ended, new_run, new_track, no_track, normal_party, told_at}
 use Rattle.af_runs.specs.Sessions.{Session, file_words, setup_of, spec_of, stream_shape, track_count}
 use Rattle.af_script.specs.Data.{ScriptData}
 use Rattle.af_audit.specs.Fates.{EachFrameHasOneFate, HasFates, recorded}
@@ -24,6 +24,7 @@ use Rattle.af_audit.proofs.RunStands.{RunStands, rounds_stand}
 use Rattle.af_audit.proofs.TakenRecorded.{taken_recorded}
 use Rattle.af_audit.proofs.TrackStands.{TrackStands}
 use Rattle.af_audit.proofs.Booleans.{not_true}
+use Rattle.af_audit.proofs.OneVerdict.{each_ended}
 
 -- ## Before the first round
 
@@ -50,16 +51,10 @@ module _ (s : Session) (track : ℕ) (low : track < track_count s) where
 
 -- ## At the end
 
--- a number of a range passes, where all do
-one_passes : (P : ℕ → Bool) (from count i : ℕ) → list_all P (range_with_len from count) ≡ true → i < count → P (from + i) ≡ true
-one_passes P from zero i all low = absurd (omega (arith, low))
-one_passes P from (suc count) zero all low = subst (λ n. P n ≡ true) (let e : from ≡ from + 0 = omega arith in e) (both_left (P from) _ all)
-one_passes P from (suc count) (suc i) all low = subst (λ n. P n ≡ true) (let e : (from + 1) + i ≡ from + suc i = omega arith in e) (one_passes P (from + 1) count i (both_right (P from) _ all) (omega (arith, low)))
-
 -- where all parties have ended, the normal mixer has
 normal_ended : (s : Session) (run : Run) → all_ended s run ≡ true → run.normal.ended ≡ true
 normal_ended s run all =
-    let at : has_ended s run (normal_party s) ≡ true = subst (λ n. has_ended s run n ≡ true) (let e : 0 + normal_party s ≡ normal_party s = omega arith in e) (one_passes (has_ended s run) 0 (fast_party s + 1) (normal_party s) all (omega arith)) in
+    let at = each_ended s run (normal_party s) all (omega arith) in
     let below : nat_lt (normal_party s) (normal_party s) ≡ false = grind (arith, nat_tests) in
     let same : (normal_party s == normal_party s) ≡ true = grind (arith, nat_tests) in
     sym (ap (λ (b : Bool × Bool). if b.0 then (told_at run (normal_party s)).client.ended else if b.1 then run.normal.ended else fast_ended run) (λ i. (below i, same i))) ∙ at

@@ -1,5 +1,5 @@
 -- The verdict is Legal exactly for a legal run and its PCM.
-use Rattle.std.specs.Prelude.{◌≡◌, ℕ, ◌+◌, ◌<◌, ◌≤◌, ◌==◌, nat_lt, Bool, true, false, MatchBool, List, [], ◌∷◌, refl}
+use Rattle.std.specs.Prelude.{◌≡◌, ℕ, ◌<◌, ◌≤◌, ◌==◌, nat_lt, Bool, true, false, MatchBool, List, [], ◌∷◌, refl}
 use Rattle.std.proofs.Common.{arith, subst}
 use Rattle.std.proofs.lemmas.Bool.Decides.{nat_tests}
 use Rattle.af_base.specs.declared.frame.Frame.{Frame}
@@ -12,6 +12,7 @@ use Rattle.af_audit.specs.RunLaws.{LegalExactly}
 use Rattle.af_runs.specs.Runs.{Run, new_run, normal_party, fast_party, all_ended}
 use Rattle.af_runs.specs.Sessions.{Session, track_count}
 use Rattle.af_audit.specs.Verdicts.{ClientIsClear, NormalIsClear, FastIsClear, IsClear, AreClear, AllClear}
+use Rattle.af_audit.proofs.Booleans.{one_more}
 
 where_true : {A : Type 0} (B : Type 0) (b : Bool) → b ≡ true → MatchBool b A B → A
 where_true {A} B b e h = subst (λ (x : Bool). MatchBool x A B) e h
@@ -33,9 +34,6 @@ is_below m n h = grind (arith, nat_tests, h)
 
 same : (n : ℕ) → (n == n) ≡ true
 same n = grind (arith, nat_tests)
-
-one_more : (n : ℕ) → (n + 1 == n) ≡ false
-one_more n = grind (arith, nat_tests)
 
 -- the parts of a round by parties
 pub client_part : (cut : Bool) (s : Session) (marks : Marks) (run : Run) (round : RoundSeen) (track : ℕ) → track < track_count s → IsClear cut s marks run round track → ClientIsClear s run round track

@@ -1,4 +1,5 @@
 pub mod Booleans
+mod FirstFound
 mod JudgedExactly
 mod JournalJudged
 mod RunEnds

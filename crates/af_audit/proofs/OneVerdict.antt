@@ -1,5 +1,5 @@
 -- There is no second right verdict on a journal and its PCM.
-use Rattle.std.specs.Prelude.{◌≡◌, ◌⊎◌, ℕ, zero, suc, ◌+◌, ◌<◌, ◌≤◌, ◌&&◌, Bool, true, false, List, [], ◌∷◌, take, slice_get, refl}
+use Rattle.std.specs.Prelude.{◌≡◌, ◌⊎◌, ℕ, zero, suc, ◌+◌, ◌<◌, ◌≤◌, Bool, true, false, List, [], ◌∷◌, take, slice_get, refl}
 use Rattle.std.specs.List.{list_all, range_with_len}
 use Rattle.std.proofs.Common.{arith, subst, sym, ap, ◌∙◌, inl, inr}
 use Rattle.af_base.specs.declared.frame.Frame.{Frame}
@@ -15,6 +15,7 @@ use Rattle.af_audit.specs.RunLaws.{OneVerdict}
 use Rattle.af_runs.specs.Runs.{Run, new_run, has_ended, all_ended, fast_party}
 use Rattle.af_runs.specs.Sessions.{Session}
 use Rattle.af_audit.specs.Verdicts.{AllClear, IsClear, IsFirstFault, IsLeastWithout, FirstDiffer}
+use Rattle.af_model.proofs.Logic.{both_left, both_right}
 
 -- two numbers, of which neither is less
 order_of : (m n : ℕ) → (m < n) ⊎ ((n < m) ⊎ (m ≡ n))
@@ -24,19 +25,11 @@ order_of m n = grind arith
 one_least : (Holds : ℕ → Type 0) (last p q : ℕ) → IsLeastWithout Holds last p → IsLeastWithout Holds last q → p ≡ q
 one_least Holds last p q a b = elim (order_of p q) [ inl less ↦ absurd (a.fails (b.least p less)) | inr other ↦ elim other [ inl more ↦ absurd (b.fails (a.least q more)) | inr same ↦ same ] ]
 
-both-left : (a b : Bool) → (a && b) ≡ true → a ≡ true
-both-left true b h = refl
-both-left false b h = h
-
-both-right : (a b : Bool) → (a && b) ≡ true → b ≡ true
-both-right true b h = h
-both-right false b h = (elim b as (λ b. b ≡ true) [ true ↦ refl | false ↦ h ])
-
 -- each number of a range passes, where all do
 passes : (P : ℕ → Bool) (from count i : ℕ) → list_all P (range_with_len from count) ≡ true → i < count → P (from + i) ≡ true
 passes P from zero i h low = absurd (omega (arith, low))
-passes P from (suc count) zero h low = subst (λ n. P n ≡ true) (omega arith) (both-left (P from) _ h)
-passes P from (suc count) (suc i) h low = subst (λ n. P n ≡ true) (omega arith) (passes P (from + 1) count i (both-right (P from) _ h) (omega (arith, low)))
+passes P from (suc count) zero h low = subst (λ n. P n ≡ true) (omega arith) (both_left (P from) _ h)
+passes P from (suc count) (suc i) h low = subst (λ n. P n ≡ true) (omega arith) (passes P (from + 1) count i (both_right (P from) _ h) (omega (arith, low)))
 
 -- where all have ended, each party has
 pub each_ended : (s : Session) (run : Run) (party : ℕ) → all_ended s run ≡ true → party ≤ fast_party s → has_ended s run party ≡ true

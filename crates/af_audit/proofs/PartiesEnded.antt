@@ -15,6 +15,7 @@ use Rattle.af_audit.specs.RunKept.{LeastBelow, client_ended, party_ended}
 use Rattle.af_audit.proofs.LeastOnes.{least_same}
 use Rattle.af_audit.proofs.OneVerdict.{each_ended}
 use Rattle.af_audit.proofs.TrackThere.{track_there}
+use Rattle.af_audit.proofs.Booleans.{never_true}
 
 -- all numbers of a range pass, where each does
 range_all : (P : ℕ → Bool) (from count : ℕ) → ((i : ℕ) → i < count → P (from + i) ≡ true) → list_all P (range_with_len from count) ≡ true
@@ -33,10 +34,6 @@ none_of None true h = refl
 none_of None false h = absurd (true≢false (sym h))
 none_of (Some x) true h = absurd (true≢false h)
 none_of (Some x) false h = refl
-
-not_true : (b : Bool) → (b ≡ true → ⊥) → b ≡ false
-not_true true h = absurd (h refl)
-not_true false h = refl
 
 module _ (s : Session) (marks : Marks) (j : RunJudge) (tracks : List TrackJudge) (run : Run) (keeps : KeepsTracks s marks (λ i. Unit {0}) tracks run) (normal : j.normal.plain.kept.ended ≡ run.normal.ended) (fast : j.fast.ended ≡ fast_ended run) where
   -- a client has ended as in the run
@@ -75,4 +72,4 @@ module _ (s : Session) (marks : Marks) (j : RunJudge) (tracks : List TrackJudge)
   all_is None least = none_going least
   all_is (Some party) least =
       let going = going_least (Some party) least in
-      not_true (all_ended s run) (λ all. going.1 (each_ended s run party all (let a = going.0 in omega (arith, a))))
+      never_true (all_ended s run) (λ all. going.1 (each_ended s run party all (let a = going.0 in omega (arith, a))))

@@ -1,5 +1,5 @@
 -- In a history a server that sees each front right after a rear is never shut; and servers that look as a journal tells do so.
-use Rattle.std.proofs.Common.{◌≡◌, ◌⊎◌, inl, inr, ℕ, ◌+◌, ◌-◌, ◌≤◌, ◌==◌, nat_lt, Bool, true, false, true≢false, if◌then◌else◌, is_some, fold, Option, Some, None, List, [], ◌∷◌, ◌++◌, refl, sym, ap, ◌∙◌, subst, arith}
+use Rattle.std.proofs.Common.{◌≡◌, ◌⊎◌, inl, inr, ℕ, ◌+◌, ◌-◌, ◌≤◌, ◌==◌, nat_lt, Bool, true, false, if◌then◌else◌, is_some, fold, Option, Some, None, List, [], ◌∷◌, ◌++◌, refl, sym, ap, ◌∙◌, subst, arith}
 use Rattle.std.proofs.lemmas.Grind.{fold-append}
 use Rattle.af_base.specs.declared.event.ClientEvent.{ClientEvent}
 use Rattle.af_base.specs.declared.event.ClientEvent.TheVariants as client
@@ -25,6 +25,7 @@ use Rattle.af_model.proofs.RoomKept.{AllFit, AllFollowRear, FollowsRear, fit_spl
 use Rattle.af_runs.specs.Blocks.{BlockTold, HasBlockHistory, client_list, server_list}
 use Rattle.af_model.proofs.RoomKept.{all_fit}
 use Rattle.af_judge.specs.Tracks.{IsSpelled}
+use Rattle.af_audit.proofs.Booleans.{no}
 
 module _ (shape : Shape) where
   -- ## Lists
@@ -95,9 +96,6 @@ module _ (shape : Shape) where
     rear_ahead : (b : Bool) (p : TrackPoint) → (shape.wrap ≡ 0) ⊎ (b ≡ true) → InTurn shape p → (b ≡ true → p.consumed ≤ p.rear_seen) → p.consumed ≤ p.rear_seen
     rear_ahead b p (inl flat) turn shows = turn.to_seen flat
     rear_ahead b p (inr is) turn shows = shows is
-
-    no : {A : Type 0} → false ≡ true → A
-    no e = absurd (true≢false (sym e))
 
     server_sees : (k : ServerKept) (b : Bool) (p : TrackPoint) (others : ℕ) (e : ServerEvent) → ServerMay p others e → FollowsRear shape b e → InTurn shape p → p.released ≤ p.consumed + shape.frames → SeesRoom k b p
         → SeesRoom (server_keeps shape k e) (saw_rear shape b e) (after_server p e)

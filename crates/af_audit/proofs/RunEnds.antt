@@ -1,6 +1,5 @@
 -- A run so far in which all parties have ended is a legal run.
-use Rattle.std.specs.Prelude.{◌≡◌, ◌<◌, ℕ, suc, zero, ◌+◌, ◌==◌, ◌&&◌, ◌||◌, nat_lt, Bool, true, false, MatchBool, if◌then◌else◌, List, [], ◌∷◌, ◌++◌, fold, length, refl}
-use Rattle.std.specs.List.{list_all, range_with_len}
+use Rattle.std.specs.Prelude.{◌≡◌, ◌<◌, ℕ, suc, ◌+◌, ◌==◌, ◌||◌, nat_lt, Bool, true, false, MatchBool, if◌then◌else◌, List, [], ◌∷◌, ◌++◌, fold, length, refl}
 use Rattle.std.proofs.Common.{subst, sym, ap, ◌∙◌, arith, length-append, inl, inr}
 use Rattle.std.proofs.lemmas.Bool.Decides.{nat_tests}
 use Rattle.af_base.specs.declared.frame.Frame.{Frame}
@@ -13,9 +12,11 @@ use Rattle.af_runs.specs.Blocks.{Marks}
 use Rattle.af_runs.specs.LegalRuns.{LegalRounds, run_from, marks_of, session_of}
 use Rattle.af_runs.specs.Rounds.{LegalRound, IsFastTurn, most_cycles, fills, AreMixedBut, after_round}
 use Rattle.af_audit.specs.RunLaws.{LegalAtTheEnd}
-use Rattle.af_runs.specs.Runs.{Run, new_run, all_ended, fast_ended, has_ended, normal_party, fast_party, told_at}
+use Rattle.af_runs.specs.Runs.{Run, new_run, all_ended, fast_ended, normal_party, fast_party, told_at}
 use Rattle.af_runs.specs.Sessions.{Session}
 use Rattle.af_runs.proofs.RoundEntries.{bare, round-entries}
+use Rattle.af_audit.proofs.OneVerdict.{each_ended}
+use Rattle.af_audit.proofs.Booleans.{one_more}
 
 -- ## An Exit comes last
 
@@ -49,32 +50,13 @@ but-map P Q (e ∷ next ∷ es) f mixed = (mixed.0, but-map P Q (next ∷ es) f 
 
 -- ## Without a cut
 
-both-left : (a b : Bool) → (a && b) ≡ true → a ≡ true
-both-left true b h = refl
-both-left false b h = h
-
-both-right : (a b : Bool) → (a && b) ≡ true → b ≡ true
-both-right true b h = h
-both-right false b h = (elim b as (λ b. b ≡ true) [ true ↦ refl | false ↦ h ])
-
--- the last number of a range passes, where all do
-last-passes : (P : ℕ → Bool) (from count : ℕ) → list_all P (range_with_len from (suc count)) ≡ true → P (from + count) ≡ true
-last-passes P from zero h = subst (λ n. P n ≡ true) (omega arith) (both-left (P from) true h)
-last-passes P from (suc count) h = subst (λ n. P n ≡ true) (omega arith) (last-passes P (from + 1) count (both-right (P from) _ h))
-
-one_more : (n : ℕ) → (n + 1 == n) ≡ false
-one_more n = grind (arith, nat_tests)
-
 none_below : (n : ℕ) → nat_lt (n + 1) n ≡ false
 none_below n = grind (arith, nat_tests)
 
 -- where all parties have ended, the fast mixer has
 fast-ended : (s : Session) (run : Run) → all_ended s run ≡ true → fast_ended run ≡ true
 fast-ended s run h =
-    let more : fast_party s + 1 ≡ suc (fast_party s) = omega arith in
-    let all : list_all (has_ended s run) (range_with_len 0 (suc (fast_party s))) ≡ true = subst (λ n. list_all (has_ended s run) (range_with_len 0 n) ≡ true) more h in
-    let from : 0 + fast_party s ≡ fast_party s = omega arith in
-    let last : has_ended s run (fast_party s) ≡ true = subst (λ n. has_ended s run n ≡ true) from (last-passes (has_ended s run) 0 (fast_party s) all) in
+    let last = each_ended s run (fast_party s) h (omega arith) in
     subst (λ b. (if b then run.normal.ended else fast_ended run) ≡ true) (one_more (normal_party s)) (subst (λ b. (if b then (told_at run (fast_party s)).client.ended else if fast_party s == normal_party s then run.normal.ended else fast_ended run) ≡ true) (none_below (normal_party s)) last)
 
 -- a choice by a test that is known

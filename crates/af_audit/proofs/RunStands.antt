@@ -1,7 +1,7 @@
 -- What holds of a track and of the normal mixer through the legal rounds of a run.
 use Rattle.std.specs.Prelude.{MatchOption}
-use Rattle.std.specs.List.{find, range_with_len, list_any}
-use Rattle.std.proofs.Common.{◌≡◌, inl, inr, ℕ, zero, suc, ◌+◌, ◌<◌, ◌==◌, ◌&&◌, ◌||◌, Bool, true, false, if◌then◌else◌, is_some, unwrap_or, List, [], ◌∷◌, length, All, Option, Some, None, refl, sym, ap, ◌∙◌, subst, eqb-true, arith}
+use Rattle.std.specs.List.{list_any}
+use Rattle.std.proofs.Common.{◌≡◌, inl, inr, ℕ, ◌<◌, ◌==◌, ◌&&◌, ◌||◌, Bool, true, false, if◌then◌else◌, unwrap_or, List, [], ◌∷◌, length, All, Option, Some, None, refl, sym, ap, ◌∙◌, subst, eqb-true, arith}
 use Rattle.std.proofs.lemmas.List.{get_or-replicate}
 use Rattle.std.proofs.lemmas.List.Elements.{All-head, All-tail}
 use Rattle.af_base.specs.declared.log.CycleEntry.{CycleEntry}
@@ -34,20 +34,9 @@ use Rattle.af_audit.proofs.FastCurrent.{legal_parts}
 use Rattle.af_audit.proofs.MixerTurns.{before_normal, mixer_after, round_normal, turn_legal}
 use Rattle.af_audit.proofs.TrackStands.{TrackStands, stands_called, stands_ended, stands_met, stands_mixed, stands_turned}
 use Rattle.af_audit.proofs.Booleans.{neither, no}
+use Rattle.af_audit.proofs.FirstFound.{found_at}
 
 -- ## The look of an entry at a track
-
-record FoundAt (p : ℕ → Bool) (a n k : ℕ) : Type 0 where
-  holds : p k ≡ true
-  high : k < a + n
-
-found_at : (p : ℕ → Bool) (a n k : ℕ) → find p (range_with_len a n) ≡ Some k → FoundAt p a n k
-found_at p a zero k e = no (ap is_some e)
-found_at p a (suc n) k e = by_first (p a) refl (found_at p (a + 1) n k) e
-  where
-    by_first : (b : Bool) → p a ≡ b → (find p (range_with_len (a + 1) n) ≡ Some k → FoundAt p (a + 1) n k) → (if b then Some a else find p (range_with_len (a + 1) n)) ≡ Some k → FoundAt p a (suc n) k
-    by_first true is later f = let same : a ≡ k = ap (λ (o : Option ℕ). unwrap_or o a) f in record { holds = subst (λ (j : ℕ). p j ≡ true) same is; high = omega (arith, same) }
-    by_first false is later f = let more = later f in let h = more.high in record { holds = more.holds; high = omega (arith, h) }
 
 module _ (s : Session) (marks : Marks) (r : Run) (e : EntrySeen) (legal : LegalEntry s marks r e) (n i : ℕ) where
   abbrev pub x : FastState

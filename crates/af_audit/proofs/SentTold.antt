@@ -18,8 +18,8 @@ use Rattle.af_runs.specs.Sessions.{Session, setup_of, track_count}
 use Rattle.af_judge.proofs.BlocksMeet.{met_at, met_many}
 use Rattle.af_judge.proofs.EachTrack.{each_at, told_each}
 use Rattle.af_judge.proofs.EntriesFollow.{cycles_beside}
-use Rattle.af_audit.proofs.CallsFollow.{calls_long, told_called}
-use Rattle.af_audit.proofs.SidesKept.{played_many}
+use Rattle.af_audit.proofs.CallsFollow.{told_called}
+use Rattle.af_audit.proofs.SidesKept.{before-many, played_many}
 use Rattle.af_audit.specs.Drained.{Sent, round_steps, sent_in}
 use Rattle.af_audit.proofs.Sending.{right_join, turn_right, turn_sends, words_join, words_sent}
 use Rattle.af_audit.proofs.StepsTaken.{steps_words, turn_told}
@@ -48,15 +48,12 @@ module _ (s : Session) (run : Run) (round : RoundSeen) (n : ℕ) (low : n < leng
   early_is : commands_at n (before_turn s run round) ≡ start
   early_is = (cycles_beside s (early_of run round) (with_calls round run)).commands n
 
-  before_many : length (before_turn s run round).tracks ≡ length run.tracks
-  before_many = (cycles_beside s (early_of run round) (with_calls round run)).many ∙ calls_long round run
-
   turn_is : (o : Option Turn) → commands_at n (turned s (found_in s run round) o (before_turn s run round)) ≡ with_its_turn o
   unfolding with_turn
   turn_is None = early_is
   turn_is (Some e) =
       let before : Run = before_turn s run round in
-      ap (λ (t : TrackTold). t.commands) (each_at (turned_track c (outside_of c (found_in s run round e) e) before.normal e) 0 before.tracks n n no_track (let m = before_many in omega (arith, m, low)) (omega arith))
+      ap (λ (t : TrackTold). t.commands) (each_at (turned_track c (outside_of c (found_in s run round e) e) before.normal e) 0 before.tracks n n no_track (let m = before-many s run round in omega (arith, m, low)) (omega arith))
       ∙ (λ i. commands_turned c (outside_of c (found_in s run round e) e) (before_normal s run round i) e n (early_is i))
 
   loaded_is : (o : Option Turn) (r : Run) → commands_at n (loaded o r) ≡ commands_at n r

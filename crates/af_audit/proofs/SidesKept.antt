@@ -122,7 +122,7 @@ loaded-many run None = refl
 loaded-many run (Some e) = refl
 
 module _ (s : Session) (run : Run) (round : RoundSeen) where
-  before-many : length (before_turn s run round).tracks ≡ length run.tracks
+  pub before-many : length (before_turn s run round).tracks ≡ length run.tracks
   before-many = (let b = cycles_beside s (early_of run round) (with_calls round run) in b.many) ∙ calls_long round run
 
   after-many : length (after_turn s run round).tracks ≡ length run.tracks

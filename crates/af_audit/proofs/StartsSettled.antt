@@ -23,7 +23,8 @@ use Rattle.af_life.specs.State.{is_among}
 use Rattle.af_model.proofs.Logic.{both_left}
 use Rattle.af_judge.proofs.SoundLives.{grew_command, grew_report, is_absent, opened as opened_life}
 use Rattle.af_audit.proofs.StartWords.{IsOrderly, NoneRemoves, OpensFirst, StartsSeen, none_before, none_split, orderly_front, seen_join, words_join, words_of}
-use Rattle.af_audit.proofs.Booleans.{no}
+use Rattle.af_audit.proofs.Booleans.{no, never_true}
+use Rattle.af_audit.proofs.StepsTaken.{look_words, no_more}
 
 -- ## What is settled
 
@@ -79,20 +80,12 @@ opened_or : (x : LifeState) → is_among (Absent ∷ []) x ≡ false → is_amon
 opened_or Absent h = no (sym h)
 opened_or state h = refl
 
-false_by : (b : Bool) → (b ≡ true → ⊥) → b ≡ false
-false_by true f = absurd (f refl)
-false_by false f = refl
-
 not_below : (a b : ℕ) → nat_lt a b ≡ false → b ≤ a
 not_below a b h = grind (arith, nat_tests, h)
 
 none_waits : (o : Option ℕ) → is_some o ≡ false → o ≡ None
 none_waits None h = refl
 none_waits (Some n) h = no (sym h)
-
-no_more : (looks : List CommandLook) → (length looks == 0) ≡ true → looks ≡ []
-no_more [] h = refl
-no_more (look ∷ looks) h = let e : length (look ∷ looks) ≡ 0 = eqb-true (length (look ∷ looks)) 0 h in absurd (omega (arith, e))
 
 either_life : (b : Bool) (s t : TrackKept) (l : Life) → s.life ≡ l → t.life ≡ l → (if b then s else t).life ≡ l
 either_life true s t l e f = e
@@ -150,7 +143,7 @@ module _ (most least : ℕ) where
       first_opens order none = subst (λ (cs : List (ℕ × ℕ)). OpensFirst (cs ++ c ∷ [])) none order.opens
 
       there : IsOrderly (done ++ c ∷ []) → code ≡ START → is_absent s.life ≡ false
-      there order is = false_by (is_absent s.life) (λ absent. no (eq-eqb 2 1 (sym is ∙ first_opens order ((before c order).none absent))))
+      there order is = never_true (is_absent s.life) (λ absent. no (eq-eqb 2 1 (sym is ∙ first_opens order ((before c order).none absent))))
 
       -- a life that settled a command is there
       there_now : IsOrderly (done ++ c ∷ []) → is_absent (by_command code argument s.life) ≡ true → ⊥
@@ -193,10 +186,6 @@ module _ (most least : ℕ) where
             up = g.so.up;
             stands = λ order. (let b = before (START, argument) order in record { seen = b.seen; none = λ absent. b.none ((grew_command code argument s.life).absent absent) });
           }
-
-    -- the words that a look took
-    abbrev look_words : CommandLook → List ℕ
-    look_words look = if shows_command look.seen then look.code ∷ look.argument ∷ [] else []
 
     abbrev Looked : List ℕ → CommandLook → TrackKept → Type 0
     Looked taken look t = (goes_on look t ≡ true → Going taken t) × SettledSo most least taken t

@@ -41,7 +41,7 @@ steps_words steps = words_told (told_in steps)
 -- ## The looks of a turn
 
 -- the words of a command that a look shows
-abbrev look_words : CommandLook → List ℕ
+abbrev pub look_words : CommandLook → List ℕ
 look_words look = if shows_command look.seen then look.code ∷ look.argument ∷ [] else []
 
 look_told : (look : CommandLook) (before : List LifeStep) → steps_words (look_steps look ++ before) ≡ steps_words before ++ look_words look
@@ -52,9 +52,9 @@ look_told look before = by (shows_command look.seen) (is_shut look.seen)
     by false true = sym (append-nil (steps_words before))
     by false false = sym (append-nil (steps_words before))
 
-none_left : (looks : List CommandLook) → (length looks == 0) ≡ true → words_taken looks ≡ []
-none_left [] h = refl
-none_left (look ∷ looks) h = absurd (let e : suc (length looks) ≡ 0 = eqb-true (suc (length looks)) 0 h in omega (arith, e))
+pub no_more : (looks : List CommandLook) → (length looks == 0) ≡ true → looks ≡ []
+no_more [] h = refl
+no_more (look ∷ looks) h = absurd (let e : suc (length looks) ≡ 0 = eqb-true (suc (length looks)) 0 h in omega (arith, e))
 
 looks_told : (n : ℕ) (given : Option ℕ) (flush_seen : ℕ) (looks : List CommandLook) (s : TrackKept) (before : List LifeStep) → are_due n given flush_seen looks s ≡ true
     → steps_words (looks_steps given flush_seen looks s before) ≡ steps_words before ++ words_taken looks
@@ -69,7 +69,7 @@ looks_told (suc n) given flush_seen (look ∷ looks) s before due =
         → (are_due n given flush_seen looks t ≡ true → steps_words (looks_steps given flush_seen looks t steps) ≡ steps_words steps ++ words_taken looks)
         → steps_words (if b then looks_steps given flush_seen looks t steps else steps) ≡ steps_words before ++ (look_words look ++ words_taken looks)
     by t steps true rest first more = more rest ∙ ap (λ (l : List ℕ). l ++ words_taken looks) first ∙ append_assoc (steps_words before) (look_words look) (words_taken looks)
-    by t steps false rest first more = first ∙ ap (λ (l : List ℕ). steps_words before ++ l) (sym (append-nil (look_words look)) ∙ ap (λ (l : List ℕ). look_words look ++ l) (sym (none_left looks rest)))
+    by t steps false rest first more = first ∙ ap (λ (l : List ℕ). steps_words before ++ l) (sym (append-nil (look_words look)) ∙ ap (λ (l : List ℕ). look_words look ++ l) (sym (ap words_taken (no_more looks rest))))
 
 -- ## A turn
 
