@@ -1,6 +1,6 @@
 -- What changes no track that is done with, and when a draft says Exit.
-use Rattle.std.proofs.Common.{◌≡◌, ℕ, zero, suc, ◌==◌, ◌&&◌, ◌||◌, not, Bool, true, false, if◌then◌else◌, is_some, sym, refl, ap, subst, ◌∙◌, List, [], ◌∷◌, length, map, fold, slice_set, eqb-true, eq-eqb}
-use Rattle.std.specs.List.{AllByRecursion, list_any}
+use Rattle.std.proofs.Common.{◌≡◌, ℕ, zero, suc, ◌==◌, ◌&&◌, ◌||◌, not, Bool, true, false, if◌then◌else◌, is_some, sym, refl, ap, subst, ◌∙◌, List, [], ◌∷◌, length, map, filter, fold, slice_set, eqb-true, eq-eqb}
+use Rattle.std.specs.List.{AllByRecursion, list_any, range_with_len}
 use Rattle.af_base.specs.declared.state.Command.{Command}
 use Rattle.af_base.specs.declared.state.Command.TheVariants.{ColdIdle, Exit, MixWrite}
 use Rattle.af_base.specs.declared.state.FastState.{FastState}
@@ -13,8 +13,9 @@ use Rattle.af_life.specs.declared.kept.TrackKept.{TrackKept}
 use Rattle.af_life.specs.Kept.{Setup, asked, pipe_size, NormalKept, Learnt, track_at, plays, is_home, is_lent, is_returning}
 use Rattle.af_life.specs.Serves.{served, served_to}
 use Rattle.af_life.specs.Edits.{welcomed, after_ack, is_exit, must_leave, must_enter, let_go, lend, edited, edited_to, is_over, next_command, ordered, commanded_by, mutated}
-use Rattle.af_life.specs.Plays.{after_take}
+use Rattle.af_life.specs.Plays.{after_take, is_mixed_here, mixed_here}
 use Rattle.af_life.specs.Turn.{after_tracks, after_edits}
+use Rattle.af_model.proofs.Logic.{both_left, both_right}
 pub use Rattle.af_audit.proofs.Booleans.{no}
 
 -- a track is done with: its life has ended and its proxy is home
@@ -24,16 +25,11 @@ pub record IsDone (s : TrackKept) : Type 0 where
 
 -- ## Lists of tracks
 
-both : (a b : Bool) → (a && b) ≡ true → (a ≡ true) × (b ≡ true)
-both true b h = (refl, h)
-both false b h = no h
-
 over_done : (tracks : List TrackKept) → is_over tracks ≡ true → AllByRecursion IsDone tracks
 over_done [] h = tt
 over_done (s ∷ tracks) h =
-    let two = both (s.life.ended && is_home s.holder) (is_over tracks) h in
-    let one = both s.life.ended (is_home s.holder) two.0 in
-    (record { ended = one.0; home = one.1 }, over_done tracks two.1)
+    let one = both_left (s.life.ended && is_home s.holder) (is_over tracks) h in
+    (record { ended = both_left s.life.ended (is_home s.holder) one; home = both_right s.life.ended (is_home s.holder) one }, over_done tracks (both_right (s.life.ended && is_home s.holder) (is_over tracks) h))
 
 -- a track that is put back as it was
 set_same : (tracks : List TrackKept) (i : ℕ) (s : TrackKept) → AllByRecursion IsDone tracks → (IsDone (track_at tracks i) → s ≡ track_at tracks i) → slice_set tracks i s ≡ tracks
@@ -83,6 +79,15 @@ served_same c k seen tracks (suc i) done =
     let all : AllByRecursion IsDone (served_to c k seen tracks i) = subst (AllByRecursion IsDone) (sym before) done in
     set_same (served_to c k seen tracks i) i _ all (λ one. if_true (track_at (served_to c k seen tracks i) i).life.ended _ _ one.ended) ∙ before
 
+-- it is not to be heard
+done_plays : (s : TrackKept) → IsDone s → plays s.life ≡ false
+done_plays s done = by s.life.member s.life.ended done.ended
+  where
+    by : (a b : Bool) → b ≡ true → (a && not b) ≡ false
+    by true true e = refl
+    by false true e = refl
+    by a false e = no e
+
 -- a track that is neither attached nor detached
 record StaysOut (s : TrackKept) : Type 0 where
   pub leaves : must_leave s ≡ false
@@ -96,13 +101,8 @@ and_none false b c e = refl
 done_stays_out : (s : TrackKept) → IsDone s → StaysOut s
 done_stays_out s done = record {
   leaves = ap (λ (b : Bool). b && not (plays s.life)) (not_lent s.holder done.home);
-  enters = and_none (is_home s.holder) (is_some s.slot) (plays s.life) (no_play s.life.member s.life.ended done.ended);
+  enters = and_none (is_home s.holder) (is_some s.slot) (plays s.life) (done_plays s done);
 }
-  where
-    no_play : (a b : Bool) → b ≡ true → (a && not b) ≡ false
-    no_play true true e = refl
-    no_play false true e = refl
-    no_play a false e = no e
 
 all_stay_out : (tracks : List TrackKept) (i : ℕ) → AllByRecursion IsDone tracks → StaysOut (track_at tracks i)
 all_stay_out [] i done = record { leaves = refl; enters = refl }
@@ -172,6 +172,48 @@ exit_when_over tracks room size = by_over (is_over tracks) (room == size) refl (
     by_over true true is mixes h = over_done tracks is
     by_over true false is mixes h = by_rest mixes h
     by_over false b is mixes h = by_rest mixes h
+
+-- nor where there is less room than the pipe has
+pub exit_when_empty : (tracks : List TrackKept) (room size : ℕ) → (code_of (next_command false tracks room size) == code_of Exit) ≡ true → room ≡ size
+unfolding next_command
+exit_when_empty tracks room size = by (is_over tracks) (room == size) refl (list_any (λ s. plays s.life) tracks || not (room == size))
+  where
+    by_rest : (b : Bool) → (code_of (if b then MixWrite else ColdIdle) == code_of Exit) ≡ true → room ≡ size
+    by_rest true h = no h
+    by_rest false h = no h
+
+    by : (a b : Bool) → (room == size) ≡ b → (mixes : Bool) → (code_of (if (false || (a && b)) then Exit else if mixes then MixWrite else ColdIdle) == code_of Exit) ≡ true → room ≡ size
+    by true true is mixes h = eqb-true room size is
+    by true false is mixes h = by_rest mixes h
+    by false b is mixes h = by_rest mixes h
+
+-- a draft says Exit only after an Exit was ordered
+pub ordered_exit : (command : Command) (m : NormalKept) → is_exit m.draft ≡ false → is_exit (ordered command m).draft ≡ true → (code_of command == code_of Exit) ≡ true
+unfolding ordered
+ordered_exit command m runs = by_same (code_of command == code_of m.draft.command)
+  where
+    by_same : (b : Bool) → is_exit (if b then m else record m { draft = with_command command m.draft; dirty = true }).draft ≡ true → (code_of command == code_of Exit) ≡ true
+    by_same true exit = no (sym runs ∙ exit)
+    by_same false exit = exit
+
+-- ## What is mixed
+
+-- of tracks that are done with none is mixed in a turn
+pub done_here : (tracks : List TrackKept) → AllByRecursion IsDone tracks → mixed_here tracks ≡ []
+done_here tracks done = none_passes (λ i. is_mixed_here (track_at tracks i)) (range_with_len 0 (length tracks)) (λ i. quiet (not (is_some (track_at tracks i).slot)) (plays (track_at tracks i).life) (plays_at tracks i done))
+  where
+    quiet : (a b : Bool) → b ≡ false → (a && b) ≡ false
+    quiet true b e = e
+    quiet false b e = refl
+
+    plays_at : (tracks : List TrackKept) (i : ℕ) → AllByRecursion IsDone tracks → plays (track_at tracks i).life ≡ false
+    plays_at [] i done = refl
+    plays_at (s ∷ tracks) zero done = done_plays s done.0
+    plays_at (s ∷ tracks) (suc i) done = plays_at tracks i done.1
+
+    none_passes : (p : ℕ → Bool) (xs : List ℕ) → ((i : ℕ) → p i ≡ false) → filter p xs ≡ []
+    none_passes p [] h = refl
+    none_passes p (x ∷ xs) h = ap (λ (b : Bool). if b then x ∷ filter p xs else filter p xs) (h x) ∙ none_passes p xs h
 
 -- takes change no track that is done with
 pub takes_done : (asked : ℕ) (takes : List TakeSeen) (tracks : List TrackKept) → AllByRecursion IsDone tracks → AllByRecursion IsDone (fold (after_take asked) tracks takes)

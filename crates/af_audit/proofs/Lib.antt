@@ -28,12 +28,18 @@ mod VerdictLaws
 mod TurnTells
 pub mod DoneTracks
 mod MixerEnds
+mod MixerTurns
+mod Older
+mod MixerRounds
+mod PipeDrains
+mod PipeRounds
 mod DropsNoticed
 mod FileReleased
 mod TrackStands
 mod RunStands
 mod TakenRecorded
 pub mod FatesTold
+pub mod EmptiedTold
 mod CallsUnshut
 mod LooksUnshut
 mod RearsSeen
@@ -44,10 +50,8 @@ mod Sending
 mod StepsTaken
 mod TracksSeen
 mod StopSent
-mod MixerTurns
 mod Stopped
 mod Measure
-mod Older
 mod Growing
 mod Attached
 mod Bounded

@@ -13,13 +13,13 @@ use Rattle.af_life.specs.Kept.{Setup, asked, pipe_size, NormalKept, new_normal, 
 use Rattle.af_life.specs.Edits.{after_ack, is_exit, must_leave, must_enter, let_go, lend, edited, edited_to, next_command, ordered, mutated, after_push}
 use Rattle.af_life.specs.Plays.{after_takes}
 use Rattle.af_life.specs.Turn.{after_tracks, after_edits, turn_after, LegalTurn}
-use Rattle.af_audit.proofs.DoneTracks.{IsDone, exit_when_over, no, ordered_over, quiet_edits, takes_done}
+use Rattle.af_audit.proofs.DoneTracks.{IsDone, exit_when_empty, exit_when_over, no, ordered_exit, ordered_over, quiet_edits, takes_done}
 
 -- A draft that says Exit has only tracks that are done with, and so has a mixer that pushed an Exit. One that has ended did
 pub record EndsHome (m : NormalKept) : Type 0 where
-  over : is_exit m.draft ≡ true → AllByRecursion IsDone m.tracks
-  exits : is_exit m.last ≡ true → is_exit m.draft ≡ true
-  ended : m.ended ≡ true → is_exit m.last ≡ true
+  pub over : is_exit m.draft ≡ true → AllByRecursion IsDone m.tracks
+  pub exits : is_exit m.last ≡ true → is_exit m.draft ≡ true
+  pub ended : m.ended ≡ true → is_exit m.last ≡ true
 
 -- ## What a turn keeps of a mixer
 
@@ -82,11 +82,20 @@ module _ (c : Setup) (k : Learnt) (m : NormalKept) (e : Turn) where
   unfolding mutated acked edits told
   beside = edits_beside
 
-  module _ (h : EndsHome m) where
-    -- where the draft doesn't say Exit
-    still_runs : is_exit m.draft ≡ false → is_exit edits.draft ≡ false
-    still_runs runs = says.exit ∙ runs
+  -- where the draft doesn't say Exit
+  still_runs : is_exit m.draft ≡ false → is_exit edits.draft ≡ false
+  still_runs runs = says.exit ∙ runs
 
+  told_exit : is_exit m.draft ≡ false → is_exit (ordered told edits).draft ≡ true → e.room ≡ pipe_size c
+  unfolding told
+  told_exit runs exit = exit_when_empty edits.tracks e.room (pipe_size c) (sym (ap (λ (b : Bool). code_of (next_command b edits.tracks e.room (pipe_size c)) == code_of Exit) (still_runs runs)) ∙ ordered_exit told edits (still_runs runs) exit)
+
+  -- an Exit comes into the draft only where the whole room of the pipe is seen
+  pub exit_room : is_exit m.draft ≡ false → is_exit (after_edits c k e m).draft ≡ true → e.room ≡ pipe_size c
+  unfolding mutated acked edits told
+  exit_room = told_exit
+
+  module _ (h : EndsHome m) where
     over_when_exit : is_exit m.draft ≡ false → (code_of told == code_of Exit) ≡ true → AllByRecursion IsDone edits.tracks
     unfolding told
     over_when_exit runs exit = exit_when_over edits.tracks e.room (pipe_size c) (sym (ap (λ (b : Bool). code_of (next_command b edits.tracks e.room (pipe_size c)) == code_of Exit) (still_runs runs)) ∙ exit)
@@ -109,7 +118,7 @@ module _ (c : Setup) (k : Learnt) (m : NormalKept) (e : Turn) where
     unfolding mutated acked edits told
     runs_end = edits_end
 
-    edited_ends : EndsHome (after_edits c k e m)
+    pub edited_ends : EndsHome (after_edits c k e m)
     edited_ends = by_exit (is_exit m.draft) refl
       where
         by_exit : (b : Bool) → is_exit m.draft ≡ b → EndsHome (after_edits c k e m)

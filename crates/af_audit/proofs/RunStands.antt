@@ -9,7 +9,6 @@ use Rattle.af_base.specs.declared.log.SlotEntry.{SlotEntry}
 use Rattle.af_base.specs.declared.state.FastState.{FastState}
 use Rattle.af_base.specs.Log.{absent, entry_slot, slots}
 use Rattle.af_base.specs.Turn.{Turn}
-use Rattle.af_life.specs.Heard.{learnt}
 use Rattle.af_life.specs.Kept.{NormalKept, Outside, is_home, track_at}
 use Rattle.af_model.specs.Cycles.{LooksBy, cycle_of, is_mixed, state_of, still_entry}
 use Rattle.af_model.specs.JournalForm.{IsRound, IsTurn, TracksRise}
@@ -29,9 +28,10 @@ use Rattle.af_judge.proofs.EachTrack.{each_at, each_long, told_each}
 use Rattle.af_judge.proofs.EntryTold.{cycle_beside}
 use Rattle.af_judge.proofs.EntryTracks.{both-true, plays_track}
 use Rattle.af_audit.proofs.CallsFollow.{calls_long, told_called}
-use Rattle.af_audit.proofs.MixerEnds.{EndsHome, turn_ends}
+use Rattle.af_audit.proofs.MixerEnds.{EndsHome}
+use Rattle.af_audit.proofs.MixerRounds.{round_ends}
 use Rattle.af_audit.proofs.FastCurrent.{legal_parts}
-use Rattle.af_audit.proofs.MixerTurns.{before_normal, mixer_after, round_normal, turn_legal}
+use Rattle.af_audit.proofs.MixerTurns.{before_normal, turn_legal}
 use Rattle.af_audit.proofs.TrackStands.{TrackStands, stands_called, stands_ended, stands_met, stands_mixed, stands_turned}
 use Rattle.af_audit.proofs.Booleans.{neither, no}
 use Rattle.af_audit.proofs.FirstFound.{found_at}
@@ -172,18 +172,6 @@ module _ (cut : Bool) (s : Session) (marks : Marks) (run : Run) (round : RoundSe
       let late = stands_cycles s marks n (late_of run round) (after_turn s run round) fast_parts.1 (stands_turned_if round.turn refl early) in
       stands_met_all s marks n (all_played s run round) (stands_loaded s marks n round.turn (with_cycles s (late_of run round) (after_turn s run round)) late)
 
-  -- ## The normal mixer
-
-  mixer_turned : (o : Option Turn) → round.turn ≡ o → EndsHome run.normal → EndsHome (mixer_after s run round o)
-  mixer_turned None is h = h
-  mixer_turned (Some e) is h =
-      let c = setup_of s in
-      let t = turn_legal cut s marks run round legal e is in
-      turn_ends c (learnt (outside_of c (found_in s run round e) e)) t.outside run.normal e t.legal h
-
-  mixer_round : EndsHome run.normal → EndsHome (after_round s run round).normal
-  mixer_round h = subst EndsHome (sym (round_normal s run round)) (mixer_turned round.turn refl h)
-
   -- ## The history
 
   history_ends : (r : Run) → n < length r.tracks → HasHistoryAtHome n r → HasHistoryAtHome n (with_ends r)
@@ -206,7 +194,7 @@ module _ (cut : Bool) (s : Session) (marks : Marks) (run : Run) (round : RoundSe
   pub round_stands : n < track_count s → list_any (is_poke_on false) (calls_in round n) ≡ false → RunStands s n run → RunStands s n (after_round s run round)
   round_stands low calm h =
       let met_so = stands_met_after calm h.stands in
-      record { stands = stands_ends s marks n (met_after s run round) met_so; mixer = mixer_round h.mixer; history = history_round low met_so }
+      record { stands = stands_ends s marks n (met_after s run round) met_so; mixer = round_ends cut s marks run round legal h.mixer; history = history_round low met_so }
 
 -- ## All rounds
 

@@ -9,3 +9,4 @@ pub mod Spared
 pub mod Drained
 pub mod Known
 pub mod Settled
+pub mod Emptied

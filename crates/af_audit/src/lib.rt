@@ -3,6 +3,7 @@
 
 mod differ;
 mod drained;
+mod emptied;
 mod judgement;
 mod run_judge;
 mod settled;
@@ -10,6 +11,7 @@ mod sound;
 mod verdict;
 
 pub use drained::drained_tracks_have_reached_their_stop;
+pub use emptied::all_that_was_put_is_mixed;
 pub use judgement::{judge, verify};
 pub use settled::a_start_seen_settled_bounds_what_is_discarded;
 pub use sound::pcm;
