@@ -79,12 +79,11 @@ send_right t command.Stop code argument h is = eqb-true argument (wrapped (lengt
 send_right t command.Flush code argument h is = absurd (let e : code ≡ 5 = eqb-true code 5 (both_left _ _ h) in omega (arith, e, is))
 send_right t command.Remove code argument h is = absurd (let e : code ≡ 6 = eqb-true code 6 (both_left _ _ h) in omega (arith, e, is))
 
-is_sent : ClientCall → Bool
+abbrev pub is_sent : ClientCall → Bool
 is_sent (call.Sent front code argument) = true
 is_sent _ = false
 
 sent_right : (t : Track) (w : Want) (front code argument : ℕ) → IsWanted t w (call.Sent front code argument) → code ≡ 4 → argument ≡ wrapped (length t.stream.released)
-unfolding is_sent
 sent_right t (want.Send sending) front code argument made is = send_right t sending code argument made is
 sent_right t want.Settled front code argument made is = no made
 sent_right t want.Drained front code argument made is = no made

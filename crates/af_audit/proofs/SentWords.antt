@@ -16,6 +16,7 @@ use Rattle.af_runs.specs.Clients.{Client, after_answer, asked_first, at_next_tur
 use Rattle.af_runs.specs.ClientTurns.{AreCalls, IsWanted, LegalClientTurn, Track, after_call, after_calls, answered, argument_of, called, commands_sent, is_of_commands, is_send, most_calls, released_by, wanted_of, with_call}
 use Rattle.af_audit.proofs.StartWords.{words_of, words_join, OpensFirst, NoneRemoves, RemovesLast, none_join, removes_more, opens_more}
 use Rattle.af_audit.proofs.Booleans.{no}
+use Rattle.af_audit.proofs.Sending.{is_sent}
 
 -- ## The words of a call
 
@@ -23,10 +24,6 @@ use Rattle.af_audit.proofs.Booleans.{no}
 abbrev pub sent_by : ClientCall → List (ℕ × ℕ)
 sent_by (call.Sent front code argument) = (code, argument) ∷ []
 sent_by _ = []
-
-abbrev is_sent : ClientCall → Bool
-is_sent (call.Sent front code argument) = true
-is_sent _ = false
 
 still_side : (t : Track) (answer : ClientCall) → (b : Bool) → is_of_commands answer ≡ b → (is_of_commands answer ≡ true → released_by t answer ≡ [])
     → (let u : Track = if b then record t { commands = called answer (released_by t answer) t.commands } else record t { stream = called answer (released_by t answer) t.stream } in u.commands.released) ≡ t.commands.released ++ []

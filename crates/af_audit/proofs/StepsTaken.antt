@@ -16,6 +16,7 @@ use Rattle.af_life.specs.TurnEvents.{going, tracks_at}
 use Rattle.af_model.proofs.Logic.{both_left}
 use Rattle.af_audit.specs.Drained.{commands_in, stop_number}
 use Rattle.af_audit.proofs.Booleans.{no}
+use Rattle.af_audit.proofs.StartWords.{words_join, words_of}
 
 -- ## The commands among steps
 
@@ -27,16 +28,8 @@ told_in (heard_of known ∷ steps) = told_in steps
 told_in (cut ∷ steps) = told_in steps
 
 -- their words
-abbrev pub words_told : List (ℕ × ℕ) → List ℕ
-words_told [] = []
-words_told (one ∷ ones) = one.0 ∷ one.1 ∷ words_told ones
-
-words_join : (xs ys : List (ℕ × ℕ)) → words_told (xs ++ ys) ≡ words_told xs ++ words_told ys
-words_join [] ys = refl
-words_join (x ∷ xs) ys = ap (λ (l : List ℕ). x.0 ∷ x.1 ∷ l) (words_join xs ys)
-
 abbrev pub steps_words : List LifeStep → List ℕ
-steps_words steps = words_told (told_in steps)
+steps_words steps = words_of (told_in steps)
 
 -- ## The looks of a turn
 

@@ -5,7 +5,8 @@ use Rattle.af_life.specs.Drained.{LifeStep, StoppedAt}
 use Rattle.af_runs.specs.Blocks.{BlockTold}
 use Rattle.af_audit.specs.Drained.{IsStopSent, Sent, stop_number}
 use Rattle.af_audit.proofs.Sending.{AreRight, IsRight, words_sent}
-use Rattle.af_audit.proofs.StepsTaken.{steps_words, stop_told, told_in, words_told}
+use Rattle.af_audit.proofs.StepsTaken.{steps_words, stop_told, told_in}
+use Rattle.af_audit.proofs.StartWords.{words_of}
 
 -- ## Words that begin those of others
 
@@ -20,7 +21,7 @@ behind_two : List ℕ → List ℕ
 behind_two (x ∷ y ∷ rest) = rest
 behind_two _ = []
 
-sent_at : (told : List (ℕ × ℕ)) (sent : List Sent) (m : ℕ) → words_told told ≡ take m (words_sent sent) → (n code argument : ℕ) → slice_get told n ≡ Some (code, argument) → IsAt sent n code argument
+sent_at : (told : List (ℕ × ℕ)) (sent : List Sent) (m : ℕ) → words_of told ≡ take m (words_sent sent) → (n code argument : ℕ) → slice_get told n ≡ Some (code, argument) → IsAt sent n code argument
 unfolding behind_two
 sent_at [] sent m begins n code argument is = absurd (none-some (code, argument) is)
 sent_at (x ∷ told) [] zero begins n code argument is = absurd (let l = ap length begins in omega (arith, l))
