@@ -10,7 +10,7 @@ use Rattle.af_model.specs.ClientCalls.{ClientAnswers, ClientKept, client_begins,
 use Rattle.af_model.specs.Point.{wrapped}
 use Rattle.af_runs.specs.ClientTurns.{AnswersOn, AreCalls, IsMade, LegalClientTurn, Side, Track, after_call, after_calls, asked_by, called, is_of_commands, most_calls, released_by, with_call}
 use Rattle.af_runs.specs.declared.want.Want.{Want}
-use Rattle.af_audit.specs.Spared.{is_corrupt, none_corrupt}
+use Rattle.af_audit.specs.Spared.{is_corrupt_on, none_corrupt_on}
 
 -- what a side's list tells of its client
 abbrev pub kept_of : Side → ClientKept
@@ -45,7 +45,7 @@ module _ (frames cells base : ℕ) (es : List ClientEvent) (asked : ℕ) where
   before = client_kept frames base es
 
   -- where the proxy isn't shut after a call it wasn't before it, and the call wasn't Corrupt
-  unshut_call : (commands : Bool) (answer : ClientCall) → ClientAnswers frames cells base es asked answer → (then_kept frames before before.shut answer).shut ≡ None → (before.shut ≡ None) × (is_corrupt commands answer ≡ false)
+  unshut_call : (commands : Bool) (answer : ClientCall) → ClientAnswers frames cells base es asked answer → (then_kept frames before before.shut answer).shut ≡ None → (before.shut ≡ None) × (is_corrupt_on commands answer ≡ false)
   unshut_call commands (call.Put front count) a fine = (a.0.0, refl)
   unshut_call commands (call.Full front) a fine = (a.0, refl)
   unshut_call commands (call.Dead flags) a fine = (a.0, refl)
@@ -61,13 +61,13 @@ module _ (frames cells base : ℕ) (es : List ClientEvent) (asked : ℕ) where
   unshut_call commands (call.Poke command word value) a fine = (fine, refl)
 
 -- the same of a side
-unshut_side : (commands : Bool) (b : Side) (asked : ℕ) (answer : ClientCall) (words : List ℕ) → AnswersOn b asked answer → (kept_of (called answer words b)).shut ≡ None → ((kept_of b).shut ≡ None) × (is_corrupt commands answer ≡ false)
+unshut_side : (commands : Bool) (b : Side) (asked : ℕ) (answer : ClientCall) (words : List ℕ) → AnswersOn b asked answer → (kept_of (called answer words b)).shut ≡ None → ((kept_of b).shut ≡ None) × (is_corrupt_on commands answer ≡ false)
 unshut_side commands b asked answer words a fine =
     unshut_call b.shape.frames b.shape.cells b.shape.base b.events asked commands answer a
     (sym (ap (λ (x : ClientKept). x.shut) (fold-append (client_keeps b.shape.frames) (client_begins b.shape.base) b.events (client_call_events (is_some (kept_of b).shut) answer))) ∙ fine)
 
 -- a call on the other block is no Corrupt of this one
-elsewhere : (commands : Bool) (answer : ClientCall) → is_of_commands answer ≡ not commands → is_corrupt commands answer ≡ false
+elsewhere : (commands : Bool) (answer : ClientCall) → is_of_commands answer ≡ not commands → is_corrupt_on commands answer ≡ false
 elsewhere true (call.SendCorrupt front rear) other = absurd (true≢false other)
 elsewhere false (call.SendCorrupt front rear) other = refl
 elsewhere true (call.Corrupt front rear) other = refl
@@ -87,13 +87,13 @@ elsewhere commands (call.Poke command word value) other = refl
 -- and of a track
 module _ (t : Track) (wanted : Want) (answer : ClientCall) where
   by_side : (commands b : Bool) → is_of_commands answer ≡ b → AnswersOn (if b then t.commands else t.stream) (asked_by wanted) answer
-      → IsOpen commands (if b then record t { commands = called answer (released_by t answer) t.commands } else record t { stream = called answer (released_by t answer) t.stream }) → IsOpen commands t × (is_corrupt commands answer ≡ false)
+      → IsOpen commands (if b then record t { commands = called answer (released_by t answer) t.commands } else record t { stream = called answer (released_by t answer) t.stream }) → IsOpen commands t × (is_corrupt_on commands answer ≡ false)
   by_side true true on a fine = unshut_side true t.commands (asked_by wanted) answer (released_by t answer) a fine
   by_side true false on a fine = (fine, elsewhere true answer on)
   by_side false true on a fine = (fine, elsewhere false answer on)
   by_side false false on a fine = unshut_side false t.stream (asked_by wanted) answer (released_by t answer) a fine
 
-  unshut_made : (commands : Bool) → IsMade t wanted answer → IsOpen commands (with_call t answer) → IsOpen commands t × (is_corrupt commands answer ≡ false)
+  unshut_made : (commands : Bool) → IsMade t wanted answer → IsOpen commands (with_call t answer) → IsOpen commands t × (is_corrupt_on commands answer ≡ false)
   unshut_made commands made fine = by_side commands (is_of_commands answer) refl made.1 fine
 
 -- ## A turn
@@ -103,24 +103,24 @@ same_sides : (commands : Bool) (t : Track) (answer : ClientCall) → IsOpen comm
 same_sides true t answer h = h
 same_sides false t answer h = h
 
-unshut_calls : (commands : Bool) (left : ℕ) (t : Track) (calls : List ClientCall) → AreCalls left t calls → IsOpen commands (fold after_call t calls) → IsOpen commands t × (none_corrupt commands calls ≡ true)
+unshut_calls : (commands : Bool) (left : ℕ) (t : Track) (calls : List ClientCall) → AreCalls left t calls → IsOpen commands (fold after_call t calls) → IsOpen commands t × (none_corrupt_on commands calls ≡ true)
 unshut_calls commands left t [] are fine = (fine, refl)
 unshut_calls commands left t (answer ∷ calls) are fine =
     let rest = unshut_calls commands (left - 1) (after_call t answer) calls are.4 fine in
     let one = unshut_made t are.1 answer commands are.3 (same_sides commands t answer rest.0) in
-    (one.0, both_are (not (is_corrupt commands answer)) (none_corrupt commands calls) (ap not one.1) rest.1)
+    (one.0, both_are (not (is_corrupt_on commands answer)) (none_corrupt_on commands calls) (ap not one.1) rest.1)
 
 all_sides : (commands : Bool) (t : Track) (calls : List ClientCall) → IsOpen commands (after_calls t calls) → IsOpen commands (fold after_call t calls)
 all_sides true t calls h = h
 all_sides false t calls h = h
 
 -- where a proxy isn't shut after a legal turn, it wasn't before it, and no call on its block was Corrupt
-pub unshut_turn : (commands : Bool) (t : Track) (calls : List ClientCall) → LegalClientTurn t calls → IsOpen commands (after_calls t calls) → IsOpen commands t × (none_corrupt commands calls ≡ true)
+pub unshut_turn : (commands : Bool) (t : Track) (calls : List ClientCall) → LegalClientTurn t calls → IsOpen commands (after_calls t calls) → IsOpen commands t × (none_corrupt_on commands calls ≡ true)
 unshut_turn commands t calls legal fine = by_ended t.client.ended legal
   where
     all : IsOpen commands (fold after_call t calls)
     all = all_sides commands t calls fine
 
-    by_ended : (ended : Bool) → MatchBool ended (calls ≡ []) (AreCalls most_calls t calls) → IsOpen commands t × (none_corrupt commands calls ≡ true)
-    by_ended true none = (subst (λ cs. IsOpen commands (fold after_call t cs)) none all, ap (none_corrupt commands) none)
+    by_ended : (ended : Bool) → MatchBool ended (calls ≡ []) (AreCalls most_calls t calls) → IsOpen commands t × (none_corrupt_on commands calls ≡ true)
+    by_ended true none = (subst (λ cs. IsOpen commands (fold after_call t cs)) none all, ap (none_corrupt_on commands) none)
     by_ended false are = unshut_calls commands most_calls t calls are all

@@ -20,7 +20,7 @@ use Rattle.af_judge.proofs.BlocksMeet.{met_at, met_many}
 use Rattle.af_judge.proofs.EachTrack.{each_at, each_long, told_each}
 use Rattle.af_judge.proofs.EntriesFollow.{cycles_beside}
 use Rattle.af_judge.proofs.EntryTold.{cycle_beside}
-use Rattle.af_audit.specs.Spared.{IsSpared, IsSparedIn, is_spared_by, is_spared_by_all, is_spared_by_turn, is_spared_in_turn, none_corrupt}
+use Rattle.af_audit.specs.Spared.{IsSpared, IsSparedIn, is_spared_by, is_spared_by_all, is_spared_by_turn, is_spared_in_turn, none_corrupt_on}
 use Rattle.af_audit.proofs.CallsFollow.{calls_long, told_called}
 use Rattle.af_audit.proofs.RunStands.{entry_looks, fast_parts, rises}
 use Rattle.af_audit.proofs.MixerTurns.{before_normal, turn_legal}
@@ -59,7 +59,7 @@ module _ (commands : Bool) where
 
 module _ (commands : Bool) (s : Session) (marks : Marks) (n : ℕ) where
   spares_calls : (round : RoundSeen) (run : Run) → n < length run.tracks → (commands ≡ true → list_any (is_poke_on true) (calls_in round n) ≡ false) → LegalClientTurn (sides_of (told_at run n)) (calls_in round n)
-      → Spares commands n run (with_calls round run) (none_corrupt commands (calls_in round n) ≡ true)
+      → Spares commands n run (with_calls round run) (none_corrupt_on commands (calls_in round n) ≡ true)
   spares_calls round run low calm legal = spares_by commands n run (with_calls round run) _ _ (let m = calls_long round run in omega (arith, m, low)) (told_called round run n low)
       (trim_called commands (calls_in round n) (told_at run n) calm) (λ h fine. unshut_called commands (calls_in round n) (told_at run n) legal fine)
 

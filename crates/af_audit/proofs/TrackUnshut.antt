@@ -43,7 +43,7 @@ use Rattle.af_runs.specs.Sessions.{Session, command_shape, cycle_frames}
 use Rattle.af_judge.proofs.BlocksTold.{client-server}
 use Rattle.af_judge.proofs.LooksAnswer.{alike}
 use Rattle.af_judge.proofs.TracksTold.{sides_called}
-use Rattle.af_audit.specs.Spared.{is_spared_in_turn, none_corrupt}
+use Rattle.af_audit.specs.Spared.{is_spared_in_turn, none_corrupt_on}
 use Rattle.af_audit.proofs.CallsUnshut.{IsOpen, unshut_turn}
 use Rattle.af_audit.proofs.DropsNoticed.{OneTake, one_take}
 use Rattle.af_audit.proofs.FileReleased.{lawful_join}
@@ -110,7 +110,7 @@ trim_called commands calls t calm h = record {
   shape = h.shape;
 }
 
-pub unshut_called : (commands : Bool) (calls : List ClientCall) (t : TrackTold) → LegalClientTurn (sides_of t) calls → IsUnshut commands (called calls t) → IsUnshut commands t × (none_corrupt commands calls ≡ true)
+pub unshut_called : (commands : Bool) (calls : List ClientCall) (t : TrackTold) → LegalClientTurn (sides_of t) calls → IsUnshut commands (called calls t) → IsUnshut commands t × (none_corrupt_on commands calls ≡ true)
 unshut_called commands calls t legal h =
     let one = unshut_turn commands (sides_of t) calls legal (subst (IsOpen commands) (sides_called t calls) h.client) in
     (record { client = one.0; server = by_block commands h.server }, one.1)

@@ -19,14 +19,23 @@ use Rattle.af_script.specs.Data.{ScriptData}
 -- ## Calls
 
 -- a send, or a write, found that the words of its block don't fit it
-abbrev pub is_corrupt : Bool → ClientCall → Bool
-is_corrupt commands (SendCorrupt front rear) = commands
-is_corrupt commands (Corrupt front rear) = not commands
-is_corrupt commands _ = false
+abbrev pub is_corrupt_on : Bool → ClientCall → Bool
+is_corrupt_on commands (SendCorrupt front rear) = commands
+is_corrupt_on commands (Corrupt front rear) = not commands
+is_corrupt_on commands _ = false
 
 -- none of these calls did
-abbrev pub none_corrupt : Bool → List ClientCall → Bool
-none_corrupt commands calls = list_all (λ call. not (is_corrupt commands call)) calls
+abbrev pub none_corrupt_on : Bool → List ClientCall → Bool
+none_corrupt_on commands calls = list_all (λ call. not (is_corrupt_on commands call)) calls
+
+-- on either block
+abbrev pub is_corrupt : ClientCall → Bool
+is_corrupt (SendCorrupt front rear) = true
+is_corrupt (Corrupt front rear) = true
+is_corrupt _ = false
+
+abbrev pub none_corrupt : List ClientCall → Bool
+none_corrupt calls = list_all (λ call. not (is_corrupt call)) calls
 
 -- ## Looks
 
@@ -53,7 +62,7 @@ is_spared_by_turn commands (Some e) track = is_spared_in_turn commands e track
 
 -- in a round: by its client's calls and by the turn, and a stream block by the entries before the turn and after it
 pub record IsSparedIn (commands : Bool) (s : Session) (run : Run) (round : RoundSeen) (track : ℕ) : Type 0 where
-  pub calls : none_corrupt commands (calls_in round track) ≡ true
+  pub calls : none_corrupt_on commands (calls_in round track) ≡ true
   pub early : commands ≡ false → is_spared_by_all s (with_calls round run) (early_of run round) track ≡ true
   pub turn : is_spared_by_turn commands round.turn track ≡ true
   pub late : commands ≡ false → is_spared_by_all s (after_turn s run round) (late_of run round) track ≡ true

@@ -2,6 +2,7 @@
 use Rattle.std.proofs.Common.{◌≡◌, ◌∙◌, ℕ, Bool, true, false, List, Some, Ok, Err, String, string_bytes, ap, inr, refl, subst, sym}
 use Rattle.std.specs.declared.alloc.Global.{Global}
 use Rattle.af_audit.specs.Drained.{EachDrainedTrackReachedItsStop}
+use Rattle.af_audit.specs.Emptied.{PipeIsEmptied}
 use Rattle.af_audit.specs.Fates.{EachFrameHasOneFate}
 use Rattle.af_audit.specs.Settled.{SettledMeansKept}
 use Rattle.af_audit.specs.Spared.{EachLawfulBlockIsSpared}
@@ -27,9 +28,9 @@ use Rattle.af_player.specs.Status.{stop_of}
 use Rattle.af_player.proofs.Made.{Makes-unwritten, files_are}
 
 -- the promises of a journal, one by one
-pub promises : (l : Loaded) (journal : JournalData) → IsLegalRun l.script l.files journal → EachFrameHasOneFate l.script l.files journal → EachLawfulBlockIsSpared l.script l.files journal → EachDrainedTrackReachedItsStop l.script l.files journal → SettledMeansKept l.script l.files journal
+pub promises : (l : Loaded) (journal : JournalData) → IsLegalRun l.script l.files journal → EachFrameHasOneFate l.script l.files journal → EachLawfulBlockIsSpared l.script l.files journal → EachDrainedTrackReachedItsStop l.script l.files journal → SettledMeansKept l.script l.files journal → PipeIsEmptied l.script l.files journal
     → IsLegalJournal true l.script l.files journal
-promises l journal legal fates unshut drained settled = record { legal = legal; fates = fates; unshut = unshut; drained = drained; settled = settled }
+promises l journal legal fates unshut drained settled emptied = record { legal = legal; fates = fates; unshut = unshut; drained = drained; settled = settled; emptied = emptied }
 
 module _ (ended : Bool) (l : Loaded) (journal : JournalData) (ends : EndsState) (back : HandsBackRun ended l.script l.files journal ends) (legal : IsLegalJournal ended l.script l.files journal) where
   abbrev bytes : List ℕ

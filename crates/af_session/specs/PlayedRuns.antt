@@ -6,6 +6,7 @@ use Rattle.af_io.specs.Files.{Files, SameFiles, LeavesFront}
 use Rattle.af_model.specs.Journals.{JournalData, RoundNoted, journal_of}
 use Rattle.af_script.specs.Data.{ScriptData}
 use Rattle.af_audit.specs.Drained.{EachDrainedTrackReachedItsStop}
+use Rattle.af_audit.specs.Emptied.{PipeIsEmptied}
 use Rattle.af_audit.specs.Fates.{EachFrameHasOneFate}
 use Rattle.af_audit.specs.Settled.{SettledMeansKept}
 use Rattle.af_audit.specs.Spared.{EachLawfulBlockIsSpared}
@@ -78,13 +79,14 @@ pub record HandsBackRun (ended : Bool) (script : ScriptData) (files : List (List
   pub all : all_ended parties ≡ ended
   pub cut : ended ≡ false → is_full parties ≡ true
 
--- What is promised of the journal of a play in which all have ended, whoever made it: it is that of a legal run, in which each frame that a lawful client released has one fate, each lawful track is spared, each track reported drained has reached its stop, and what is released after a START was seen settled is kept from the flushes before it
+-- What is promised of the journal of a play in which all have ended, whoever made it: it is that of a legal run, in which each frame that a lawful client released has one fate, each lawful block is spared, each track reported drained has reached its stop, what is released after a START was seen settled is kept from the flushes before it, and nothing is left in the pipe
 pub record KeepsPromises (script : ScriptData) (files : List (List Frame)) (journal : JournalData) : Type 0 where
   pub legal : IsLegalRun script files journal
   pub fates : EachFrameHasOneFate script files journal
   pub unshut : EachLawfulBlockIsSpared script files journal
   pub drained : EachDrainedTrackReachedItsStop script files journal
   pub settled : SettledMeansKept script files journal
+  pub emptied : PipeIsEmptied script files journal
 
 -- the journal alone keeps these promises; or, where not all have ended, it is that of a run cut off with its log full
 abbrev pub IsLegalJournal : Bool → ScriptData → List (List Frame) → JournalData → Type 0

@@ -28,7 +28,7 @@ returns-in_err-write_journal-in-Ok-clause-made g c = λ told.
     let here : Loaded = record { script = c.args.loaded.now.script; files = c.deref.result.now } in
     let same : here ≡ loaded_view c.args.loaded.now = λ k. record { script = c.args.loaded.now.script; files = c.deref.ensures.value k } in
     let left =
-    text_unwritten true here p.journal p.ends c.in-Ok.ensures.played (promises here p.journal c.in-Ok.ensures.legal c.in-Ok.ensures.fates c.in-Ok.ensures.unshut c.in-Ok.ensures.drained c.in-Ok.ensures.settled) c.args.target.now c.args.journal.now old mid (c.in-Ok.ensures.written told) e new
+    text_unwritten true here p.journal p.ends c.in-Ok.ensures.played (promises here p.journal c.in-Ok.ensures.legal c.in-Ok.ensures.fates c.in-Ok.ensures.unshut c.in-Ok.ensures.drained c.in-Ok.ensures.settled c.in-Ok.ensures.emptied) c.args.target.now c.args.journal.now old mid (c.in-Ok.ensures.written told) e new
     (c.in_err-write_journal-in-Ok.ensures.left (c.in-Ok.ensures.tells told)) in
     let cut : Makes (Err (stop_of e)) (Ok (play_job c.args.target.now c.args.journal.now (loaded_view c.args.loaded.now))) old new =
     subst (λ (l : Loaded). Makes (Err (stop_of e)) (Ok (play_job c.args.target.now c.args.journal.now l)) old new) same left in
@@ -44,7 +44,7 @@ returns-in_err-summary_line-in-Ok-clause-made g c = λ told.
     let same : here ≡ loaded_view c.args.loaded.now = λ k. record { script = c.args.loaded.now.script; files = c.deref.ensures.value k } in
     Makes-memory c.from_residual-in_err-summary_line-in-Ok.result (Ok (play_job c.args.target.now c.args.journal.now (loaded_view c.args.loaded.now))) old new c.from_residual-in_err-summary_line-in-Ok.ensures.1
     (subst (λ (l : Loaded). IsCutOff (Ok (play_job c.args.target.now c.args.journal.now l)) old new) same
-    (rounds_behind here p.journal p.ends c.in-Ok.ensures.played (promises here p.journal c.in-Ok.ensures.legal c.in-Ok.ensures.fates c.in-Ok.ensures.unshut c.in-Ok.ensures.drained c.in-Ok.ensures.settled) p.summary c.in-Ok.ensures.summary c.args.target.now c.args.journal.now old mid new (c.in-Ok.ensures.written told)
+    (rounds_behind here p.journal p.ends c.in-Ok.ensures.played (promises here p.journal c.in-Ok.ensures.legal c.in-Ok.ensures.fates c.in-Ok.ensures.unshut c.in-Ok.ensures.drained c.in-Ok.ensures.settled c.in-Ok.ensures.emptied) p.summary c.in-Ok.ensures.summary c.args.target.now c.args.journal.now old mid new (c.in-Ok.ensures.written told)
     (c.in_ok-write_journal-in-Ok.ensures.written (c.in-Ok.ensures.tells told))))
 
 pub returns-in-Ok-clause-made : goal.returns-in-Ok-clause-made
@@ -57,14 +57,14 @@ returns-in-Ok-clause-made g c = λ told.
     let here : Loaded = record { script = c.args.loaded.now.script; files = c.deref.result.now } in
     let same : here ≡ loaded_view c.args.loaded.now = λ k. record { script = c.args.loaded.now.script; files = c.deref.ensures.value k } in
     subst (λ (l : Loaded). Makes (Ok line) (Ok (play_job c.args.target.now c.args.journal.now l)) old new) same
-    (Makes-rounds here p.journal p.ends c.in-Ok.ensures.played (promises here p.journal c.in-Ok.ensures.legal c.in-Ok.ensures.fates c.in-Ok.ensures.unshut c.in-Ok.ensures.drained c.in-Ok.ensures.settled) p.summary c.in-Ok.ensures.summary c.args.target.now c.args.journal.now old mid new (c.in-Ok.ensures.written told)
+    (Makes-rounds here p.journal p.ends c.in-Ok.ensures.played (promises here p.journal c.in-Ok.ensures.legal c.in-Ok.ensures.fates c.in-Ok.ensures.unshut c.in-Ok.ensures.drained c.in-Ok.ensures.settled c.in-Ok.ensures.emptied) p.summary c.in-Ok.ensures.summary c.args.target.now c.args.journal.now old mid new (c.in-Ok.ensures.written told)
     (c.in_ok-write_journal-in-Ok.ensures.written (c.in-Ok.ensures.tells told)) line c.in_ok-summary_line-in-Ok.ensures)
 
 pub returns-in-Ok-clause-line : goal.returns-in-Ok-clause-line
 returns-in-Ok-clause-line g c =
     let p = c.in-Ok.played in
     let here : Loaded = record { script = c.args.loaded.now.script; files = c.deref.result.now } in
-    some_play_line here p.journal p.ends c.in-Ok.ensures.played (promises here p.journal c.in-Ok.ensures.legal c.in-Ok.ensures.fates c.in-Ok.ensures.unshut c.in-Ok.ensures.drained c.in-Ok.ensures.settled) p.summary c.in-Ok.ensures.summary _ c.in_ok-summary_line-in-Ok.ensures
+    some_play_line here p.journal p.ends c.in-Ok.ensures.played (promises here p.journal c.in-Ok.ensures.legal c.in-Ok.ensures.fates c.in-Ok.ensures.unshut c.in-Ok.ensures.drained c.in-Ok.ensures.settled c.in-Ok.ensures.emptied) p.summary c.in-Ok.ensures.summary _ c.in_ok-summary_line-in-Ok.ensures
 
 pub returns-in_err-write_journal-in-Err-CycleLimit-clause-made : goal.returns-in_err-write_journal-in-Err-CycleLimit-clause-made
 returns-in_err-write_journal-in-Err-CycleLimit-clause-made g c = λ told.

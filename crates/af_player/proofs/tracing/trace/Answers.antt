@@ -30,7 +30,7 @@ returns-in_err-write_journal-in-Ok-clause-made g c = λ told.
     let here : Loaded = record { script = c.args.loaded.now.script; files = c.deref.result.now } in
     let same : here ≡ loaded_view c.args.loaded.now = λ k. record { script = c.args.loaded.now.script; files = c.deref.ensures.value k } in
     let left =
-    journal_unwritten true here c.args.room p.journal p.ends c.in-Ok.ensures.played (promises here p.journal c.in-Ok.ensures.legal c.in-Ok.ensures.fates c.in-Ok.ensures.unshut c.in-Ok.ensures.drained c.in-Ok.ensures.settled) c.args.target.now c.args.journal.now c.args.log.now old mid (c.in-Ok.ensures.written told) e new
+    journal_unwritten true here c.args.room p.journal p.ends c.in-Ok.ensures.played (promises here p.journal c.in-Ok.ensures.legal c.in-Ok.ensures.fates c.in-Ok.ensures.unshut c.in-Ok.ensures.drained c.in-Ok.ensures.settled c.in-Ok.ensures.emptied) c.args.target.now c.args.journal.now c.args.log.now old mid (c.in-Ok.ensures.written told) e new
     (c.in_err-write_journal-in-Ok.ensures.left (c.in-Ok.ensures.tells told)) in
     let cut : Makes (Err (stop_of e)) (Ok (trace_job c.args.target.now c.args.journal.now c.args.log.now c.args.room (loaded_view c.args.loaded.now))) old new =
     subst (λ (l : Loaded). Makes (Err (stop_of e)) (Ok (trace_job c.args.target.now c.args.journal.now c.args.log.now c.args.room l)) old new) same left in
@@ -49,7 +49,7 @@ returns-in_err-write_file-in-Ok-clause-made g c = λ told.
     let same : here ≡ loaded_view c.args.loaded.now = λ k. record { script = c.args.loaded.now.script; files = c.deref.ensures.value k } in
     let text : c.deref-in-Ok.result.now ≡ log_text log.0 log.1 = appended c.deref-in-Ok.result.now _ _ (log_text log.0 log.1) c.deref-in-Ok.ensures.value log.3 c.new-text.ensures.items in
     let left =
-    log_unwritten here c.args.room p.journal p.ends c.in-Ok.ensures.played (promises here p.journal c.in-Ok.ensures.legal c.in-Ok.ensures.fates c.in-Ok.ensures.unshut c.in-Ok.ensures.drained c.in-Ok.ensures.settled) log.0 log.1 log.2 c.args.target.now c.args.journal.now c.args.log.now old mid next (c.in-Ok.ensures.written told)
+    log_unwritten here c.args.room p.journal p.ends c.in-Ok.ensures.played (promises here p.journal c.in-Ok.ensures.legal c.in-Ok.ensures.fates c.in-Ok.ensures.unshut c.in-Ok.ensures.drained c.in-Ok.ensures.settled c.in-Ok.ensures.emptied) log.0 log.1 log.2 c.args.target.now c.args.journal.now c.args.log.now old mid next (c.in-Ok.ensures.written told)
     (c.in_ok-write_journal-in-Ok.ensures.written (c.in-Ok.ensures.tells told)) e new
     (subst (λ (xs : List ℕ). LeavesFront next c.args.log.now xs new) text (c.in_err-write_file-in-Ok.ensures.left (c.in_ok-write_journal-in-Ok.ensures.tells (c.in-Ok.ensures.tells told)))) in
     let cut : Makes (Err (stop_of e)) (Ok (trace_job c.args.target.now c.args.journal.now c.args.log.now c.args.room (loaded_view c.args.loaded.now))) old new =
@@ -70,7 +70,7 @@ returns-in_err-summary_line-in-Ok-clause-made g c = λ told.
     let wrote = subst (λ (xs : List ℕ). SetsFile next c.args.log.now (Some xs) new) text (c.in_ok-write_file-in-Ok.ensures.written (c.in_ok-write_journal-in-Ok.ensures.tells (c.in-Ok.ensures.tells told))) in
     Makes-memory c.from_residual-in_err-summary_line-in-Ok.result (Ok (trace_job c.args.target.now c.args.journal.now c.args.log.now c.args.room (loaded_view c.args.loaded.now))) old new c.from_residual-in_err-summary_line-in-Ok.ensures.1
     (subst (λ (l : Loaded). IsCutOff (Ok (trace_job c.args.target.now c.args.journal.now c.args.log.now c.args.room l)) old new) same
-    (trace_behind here c.args.room p.journal p.ends c.in-Ok.ensures.played (promises here p.journal c.in-Ok.ensures.legal c.in-Ok.ensures.fates c.in-Ok.ensures.unshut c.in-Ok.ensures.drained c.in-Ok.ensures.settled) log.0 log.1 log.2 c.args.target.now c.args.journal.now c.args.log.now old mid next (c.in-Ok.ensures.written told)
+    (trace_behind here c.args.room p.journal p.ends c.in-Ok.ensures.played (promises here p.journal c.in-Ok.ensures.legal c.in-Ok.ensures.fates c.in-Ok.ensures.unshut c.in-Ok.ensures.drained c.in-Ok.ensures.settled c.in-Ok.ensures.emptied) log.0 log.1 log.2 c.args.target.now c.args.journal.now c.args.log.now old mid next (c.in-Ok.ensures.written told)
     (c.in_ok-write_journal-in-Ok.ensures.written (c.in-Ok.ensures.tells told)) p.summary c.in-Ok.ensures.summary new wrote))
 
 pub returns-in-Ok-clause-made : goal.returns-in-Ok-clause-made
@@ -87,14 +87,14 @@ returns-in-Ok-clause-made g c = λ told.
     let text : c.deref-in-Ok.result.now ≡ log_text log.0 log.1 = appended c.deref-in-Ok.result.now _ _ (log_text log.0 log.1) c.deref-in-Ok.ensures.value log.3 c.new-text.ensures.items in
     let wrote = subst (λ (xs : List ℕ). SetsFile next c.args.log.now (Some xs) new) text (c.in_ok-write_file-in-Ok.ensures.written (c.in_ok-write_journal-in-Ok.ensures.tells (c.in-Ok.ensures.tells told))) in
     subst (λ (l : Loaded). Makes (Ok line) (Ok (trace_job c.args.target.now c.args.journal.now c.args.log.now c.args.room l)) old new) same
-    (Makes-traced here c.args.room p.journal p.ends c.in-Ok.ensures.played (promises here p.journal c.in-Ok.ensures.legal c.in-Ok.ensures.fates c.in-Ok.ensures.unshut c.in-Ok.ensures.drained c.in-Ok.ensures.settled) log.0 log.1 log.2 c.args.target.now c.args.journal.now c.args.log.now old mid next (c.in-Ok.ensures.written told)
+    (Makes-traced here c.args.room p.journal p.ends c.in-Ok.ensures.played (promises here p.journal c.in-Ok.ensures.legal c.in-Ok.ensures.fates c.in-Ok.ensures.unshut c.in-Ok.ensures.drained c.in-Ok.ensures.settled c.in-Ok.ensures.emptied) log.0 log.1 log.2 c.args.target.now c.args.journal.now c.args.log.now old mid next (c.in-Ok.ensures.written told)
     (c.in_ok-write_journal-in-Ok.ensures.written (c.in-Ok.ensures.tells told)) p.summary c.in-Ok.ensures.summary new wrote line c.in_ok-summary_line-in-Ok.ensures)
 
 pub returns-in-Ok-clause-line : goal.returns-in-Ok-clause-line
 returns-in-Ok-clause-line g c =
     let p = c.in-Ok.played in
     let here : Loaded = record { script = c.args.loaded.now.script; files = c.deref.result.now } in
-    some_play_line here p.journal p.ends c.in-Ok.ensures.played (promises here p.journal c.in-Ok.ensures.legal c.in-Ok.ensures.fates c.in-Ok.ensures.unshut c.in-Ok.ensures.drained c.in-Ok.ensures.settled) p.summary c.in-Ok.ensures.summary _ c.in_ok-summary_line-in-Ok.ensures
+    some_play_line here p.journal p.ends c.in-Ok.ensures.played (promises here p.journal c.in-Ok.ensures.legal c.in-Ok.ensures.fates c.in-Ok.ensures.unshut c.in-Ok.ensures.drained c.in-Ok.ensures.settled c.in-Ok.ensures.emptied) p.summary c.in-Ok.ensures.summary _ c.in_ok-summary_line-in-Ok.ensures
 
 pub returns-in_err-write_journal-in-Err-CycleLimit-clause-made : goal.returns-in_err-write_journal-in-Err-CycleLimit-clause-made
 returns-in_err-write_journal-in-Err-CycleLimit-clause-made g c = λ told.

@@ -1,8 +1,10 @@
 use Rattle.std.proofs.Common.{◌≡◌, ◌*◌, ℕ, List, Some, false, true, inl, refl, sym, ap, subst, ◌∙◌}
 use Rattle.af_audit.specs.Drained.{EachDrainedTrackReachedItsStop}
+use Rattle.af_audit.specs.Emptied.{PipeIsEmptied}
 use Rattle.af_audit.specs.Fates.{EachFrameHasOneFate}
 use Rattle.af_audit.specs.Settled.{SettledMeansKept}
 use Rattle.af_audit.specs.Spared.{EachLawfulBlockIsSpared}
+use Rattle.af_audit.proofs.EmptiedTold.{pipe-is-emptied}
 use Rattle.af_audit.proofs.FatesTold.{frames-have-fates}
 use Rattle.af_audit.proofs.SettledTold.{settled}
 use Rattle.af_audit.proofs.SparedTold.{lawful-blocks-are-spared}
@@ -279,6 +281,9 @@ returns-clause-unshut g c = if_ok_one (λ (p : Played). IsLegalRun c.args.script
 
 pub returns-clause-drained : goal.returns-clause-drained
 returns-clause-drained g c = if_ok_one (λ (p : Played). IsLegalRun c.args.script.now c.args.files.now p.journal) (λ (p : Played). EachDrainedTrackReachedItsStop c.args.script.now c.args.files.now p.journal) c.answer.result (λ p legal. c.drained_tracks_have_reached_their_stop.ensures c.args.script.now c.args.files.now p.journal c.frames.ensures.script legal) c.answer.ensures.legal
+
+pub returns-clause-emptied : goal.returns-clause-emptied
+returns-clause-emptied g c = if_ok_one (λ (p : Played). IsLegalRun c.args.script.now c.args.files.now p.journal) (λ (p : Played). PipeIsEmptied c.args.script.now c.args.files.now p.journal) c.answer.result (λ p legal. pipe-is-emptied c.args.script.now c.args.files.now p.journal c.frames.ensures.script legal) c.answer.ensures.legal
 
 pub returns-clause-settled : goal.returns-clause-settled
 returns-clause-settled g c = if_ok_one (λ (p : Played). IsLegalRun c.args.script.now c.args.files.now p.journal) (λ (p : Played). SettledMeansKept c.args.script.now c.args.files.now p.journal) c.answer.result (λ p legal. settled c.args.script.now c.args.files.now p.journal c.frames.ensures.script legal) c.answer.ensures.legal
