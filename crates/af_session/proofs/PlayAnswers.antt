@@ -75,6 +75,19 @@ module _ {T : Type 0} (r : Result T SessionFault) where
       by_answer (Ok y) is = tt
       by_answer (Err f) is = by_fault f is
 
+  -- where none can be, there is none
+  pub never_limited : (P : JournalData → EndsState → Type 0) → ((journal : JournalData) (ends : EndsState) → P journal ends → ⊥) → IfErr r (AtLimit P) → IfErr r (AtLimit (λ journal ends. ⊥))
+  never_limited P never = by_answer r
+    where
+      by_fault : (f : SessionFault) → AtLimit P f → AtLimit (λ journal ends. ⊥) f
+      by_fault fault.Store is = tt
+      by_fault fault.Memory is = tt
+      by_fault (fault.CycleLimit journal ends) is = never journal ends is
+
+      by_answer : (x : Result T SessionFault) → IfErr x (AtLimit P) → IfErr x (AtLimit (λ journal ends. ⊥))
+      by_answer (Ok y) is = tt
+      by_answer (Err f) is = by_fault f is
+
   -- what is so anyway is so after a fault
   pub at_fault : (P : Type 0) → P → IfErr r (AtFault P)
   at_fault P p = by_answer r

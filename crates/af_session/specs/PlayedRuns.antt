@@ -2,6 +2,7 @@
 use Rattle.std.specs.Prelude.{◌≡◌, ◌⊎◌, ℕ, ◌≤◌, ◌==◌, ◌&&◌, ◌++◌, Bool, true, false, List, [], ◌∷◌, length, Result, Ok, Err}
 use Rattle.std.specs.List.{list_all}
 use Rattle.af_base.specs.declared.frame.Frame.{Frame}
+use Rattle.af_enough.specs.Enough.{HasEnoughCycles}
 use Rattle.af_io.specs.Files.{Files, SameFiles, LeavesFront}
 use Rattle.af_model.specs.Journals.{JournalData, RoundNoted, journal_of}
 use Rattle.af_script.specs.Data.{ScriptData}
@@ -88,10 +89,10 @@ pub record KeepsPromises (script : ScriptData) (files : List (List Frame)) (jour
   pub settled : SettledMeansKept script files journal
   pub emptied : PipeIsEmptied script files journal
 
--- the journal alone keeps these promises; or, where not all have ended, it is that of a run cut off with its log full
+-- the journal alone keeps these promises; or, where not all have ended, it is that of a run cut off with its log full, of a script that hasn't enough cycles by the rule
 abbrev pub IsLegalJournal : Bool → ScriptData → List (List Frame) → JournalData → Type 0
 IsLegalJournal true script files journal = KeepsPromises script files journal
-IsLegalJournal false script files journal = IsCutRun script files journal
+IsLegalJournal false script files journal = IsCutRun script files journal × (HasEnoughCycles script → ⊥)
 
 -- ## Why a run was not played to its end
 

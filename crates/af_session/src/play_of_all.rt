@@ -11,6 +11,7 @@ ghost use Rattle.af_nblog.specs.declared.entries.Note.{Note as SomeNote};
 ghost use Rattle.af_session.specs.Hostile.{PokesSpareOthers};
 ghost use Rattle.af_session.specs.Logging.{BeginsLog, IsLogOf, LogsPlay, TellsLog};
 ghost use Rattle.af_session.specs.NewSession.{IsNewSession};
+ghost use Rattle.af_enough.specs.Enough.{HasEnoughCycles};
 ghost use Rattle.af_audit.specs.Drained.{EachDrainedTrackReachedItsStop};
 ghost use Rattle.af_audit.specs.Emptied.{PipeIsEmptied};
 ghost use Rattle.af_audit.specs.Fates.{EachFrameHasOneFate};
@@ -222,6 +223,7 @@ fn play_with<R: Threads + Sync, S: Store, G: Gate>(
     ensures settled { IfOk result (λ p. SettledMeansKept script.now files.now p.journal) }
     ensures emptied { IfOk result (λ p. PipeIsEmptied script.now files.now p.journal) }
     ensures cut_run { IfErr result (AtLimit (λ journal _. IsCutRun script.now files.now journal)) }
+    ensures enough { HasEnoughCycles script.now → IfErr result (AtLimit (λ journal ends. ⊥)) }
     ensures summary { IfOk result (λ p. p.summary ≡ summary_told script.now.frames p.journal p.ends) }
     ensures calls { HandedBack CallsStandOnce result }
     ensures pushes { HandedBack PushesStandOnce result }
@@ -263,7 +265,7 @@ fn play_with<R: Threads + Sync, S: Store, G: Gate>(
 ///
 /// Whatever the threads did, what was played is a run of the script and its files, of rounds of all parties, whose journal is handed back: in it each client's calls and each state pushed stand once, in their order, and no cycle uses a state older than one before it. Where the store tells it the file is the sound of the journal. Whatever clients stored in their words, each track on whose blocks nothing was poked is spared: no call of its client was answered Corrupt, and no look of the normal mixer at its blocks was Shut. Ok says that all parties have ended, CycleLimit that the log is full and some party has not; so after each round but the last some party goes on and the log has room. After a fault no file has changed, or the file holds a front of the sound of some first rounds.
 ///
-/// By itself, whoever made it, the journal of Ok is that of a legal run of the script and its files (`legal`). In it each frame that a client without a poke released was mixed once, in its place, was discarded by one flush that was noticed, or is still queued (`fates`); nothing of such a track was found shut or corrupt (`unshut`); a track that is reported drained has reached the count of its last stop, at which its client had released so much (`drained`); and what a client releases after it saw a START settled is discarded by a later flush alone (`settled`). All that the normal mixer put into the pipe was taken from it and mixed (`emptied`). The journal after CycleLimit is that of a cut run (`cut_run`). The journal is judged before it is handed back: Memory may also stand for one that was judged not to be legal, or that is longer than the judge counts (131,072 turns of the normal mixer). No play has come to either.
+/// By itself, whoever made it, the journal of Ok is that of a legal run of the script and its files (`legal`). In it each frame that a client without a poke released was mixed once, in its place, was discarded by one flush that was noticed, or is still queued (`fates`); nothing of such a track was found shut or corrupt (`unshut`); a track that is reported drained has reached the count of its last stop, at which its client had released so much (`drained`); and what a client releases after it saw a START settled is discarded by a later flush alone (`settled`). All that the normal mixer put into the pipe was taken from it and mixed (`emptied`). The journal after CycleLimit is that of a cut run (`cut_run`), and CycleLimit never comes to a script whose tracks play through and whose cycles are enough by the rule (`enough`). The journal is judged before it is handed back: Memory may also stand for one that was judged not to be legal, or that is longer than the judge counts (131,072 turns of the normal mixer). No play has come to either.
 pub fn play<R: Threads + Sync, S: Store, G: Gate>(
     rt: &R,
     alloc: Global,
@@ -283,6 +285,7 @@ pub fn play<R: Threads + Sync, S: Store, G: Gate>(
     ensures settled { IfOk result (λ p. SettledMeansKept script.now files.now p.journal) }
     ensures emptied { IfOk result (λ p. PipeIsEmptied script.now files.now p.journal) }
     ensures cut_run { IfErr result (AtLimit (λ journal _. IsCutRun script.now files.now journal)) }
+    ensures enough { HasEnoughCycles script.now → IfErr result (AtLimit (λ journal ends. ⊥)) }
     ensures summary { IfOk result (λ p. p.summary ≡ summary_told script.now.frames p.journal p.ends) }
     ensures calls { HandedBack CallsStandOnce result }
     ensures pushes { HandedBack PushesStandOnce result }
@@ -324,6 +327,7 @@ pub fn play_logged<R: Threads + Sync, S: Store, G: Gate>(
     ensures settled { IfOk result (λ p. SettledMeansKept script.now files.now p.journal) }
     ensures emptied { IfOk result (λ p. PipeIsEmptied script.now files.now p.journal) }
     ensures cut_run { IfErr result (AtLimit (λ journal _. IsCutRun script.now files.now journal)) }
+    ensures enough { HasEnoughCycles script.now → IfErr result (AtLimit (λ journal ends. ⊥)) }
     ensures summary { IfOk result (λ p. p.summary ≡ summary_told script.now.frames p.journal p.ends) }
     ensures calls { HandedBack CallsStandOnce result }
     ensures pushes { HandedBack PushesStandOnce result }

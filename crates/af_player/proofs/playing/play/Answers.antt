@@ -1,4 +1,5 @@
 use Rattle.std.proofs.Common.{◌≡◌, Err, Ok, Some, ◌∙◌, false, subst, true}
+use Rattle.af_enough.specs.Enough.{HasEnoughCycles}
 use Rattle.af_io.specs.Files.{SetsFile}
 use Rattle.af_model.specs.Journals.{JournalData}
 use Rattle.af_session.specs.declared.rendering.SessionFault.{SessionFault}
@@ -73,7 +74,7 @@ returns-in_err-write_journal-in-Err-CycleLimit-clause-made g c = λ told.
     let new = g.S.Store.files c.write_journal-in-Err-CycleLimit.new.store in
     let a = c.in-Err-CycleLimit in
     let run = subst (λ (f : SessionFault). AtLimit (HandsBackRun false c.args.loaded.now.script c.deref.result.now) f) a.field-0-is a.ensures.limit in
-    let lawful = subst (λ (f : SessionFault). AtLimit (λ (j : JournalData) (_ : EndsState). IsCutRun c.args.loaded.now.script c.deref.result.now j) f) a.field-0-is a.ensures.cut_run in
+    let lawful = (subst (λ (f : SessionFault). AtLimit (λ (j : JournalData) (_ : EndsState). IsCutRun c.args.loaded.now.script c.deref.result.now j) f) a.field-0-is a.ensures.cut_run, λ (enough : HasEnoughCycles c.args.loaded.now.script). subst (λ (f : SessionFault). AtLimit (λ (j : JournalData) (_ : EndsState). ⊥) f) a.field-0-is (a.ensures.enough enough)) in
     let sound = subst (λ (f : SessionFault). AtLimit (λ (j : JournalData) (_ : EndsState). SetsFile old c.args.target.now (Some (journal_pcm c.args.loaded.now.script.frames j)) mid) f) a.field-0-is (a.ensures.cut told) in
     let e = c.in_err-write_journal-in-Err-CycleLimit.field-0.0 in
     let here : Loaded = record { script = c.args.loaded.now.script; files = c.deref.result.now } in
@@ -92,7 +93,7 @@ returns-in-Err-CycleLimit-clause-made g c = λ told.
     let new = g.S.Store.files c.write_journal-in-Err-CycleLimit.new.store in
     let a = c.in-Err-CycleLimit in
     let run = subst (λ (f : SessionFault). AtLimit (HandsBackRun false c.args.loaded.now.script c.deref.result.now) f) a.field-0-is a.ensures.limit in
-    let lawful = subst (λ (f : SessionFault). AtLimit (λ (j : JournalData) (_ : EndsState). IsCutRun c.args.loaded.now.script c.deref.result.now j) f) a.field-0-is a.ensures.cut_run in
+    let lawful = (subst (λ (f : SessionFault). AtLimit (λ (j : JournalData) (_ : EndsState). IsCutRun c.args.loaded.now.script c.deref.result.now j) f) a.field-0-is a.ensures.cut_run, λ (enough : HasEnoughCycles c.args.loaded.now.script). subst (λ (f : SessionFault). AtLimit (λ (j : JournalData) (_ : EndsState). ⊥) f) a.field-0-is (a.ensures.enough enough)) in
     let sound = subst (λ (f : SessionFault). AtLimit (λ (j : JournalData) (_ : EndsState). SetsFile old c.args.target.now (Some (journal_pcm c.args.loaded.now.script.frames j)) mid) f) a.field-0-is (a.ensures.cut told) in
     let cycles = c.cycles-cycles.result in
     let here : Loaded = record { script = c.args.loaded.now.script; files = c.deref.result.now } in

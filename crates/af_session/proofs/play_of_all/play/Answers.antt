@@ -41,3 +41,6 @@ play_with-requires-clause-log g c = λ κs lives. (None, c.in_ok-logging.ensures
 
 pub returns-in_err-logging-clause-cut_run : goal.returns-in_err-logging-clause-cut_run
 returns-in_err-logging-clause-cut_run g c = off_limit c.from_residual.result (cut_by c.args.script.now c.args.files.now) (memory_never c.from_residual.result c.from_residual.ensures.1)
+
+pub returns-in_err-logging-clause-enough : goal.returns-in_err-logging-clause-enough
+returns-in_err-logging-clause-enough g c = λ enough. off_limit c.from_residual.result (λ (j : JournalData) (e : EndsState). ⊥) (memory_never c.from_residual.result c.from_residual.ensures.1)

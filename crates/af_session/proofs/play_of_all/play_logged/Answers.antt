@@ -84,3 +84,9 @@ returns-in_err-logging-clause-cut_run g c = off_limit c.from_residual.result (cu
 
 pub returns-in_err-write-in-Ok-clause-cut_run : goal.returns-in_err-write-in-Ok-clause-cut_run
 returns-in_err-write-in-Ok-clause-cut_run g c = off_limit c.from_residual-in_err-write-in-Ok.result (cut_by c.args.script.now c.args.files.now) (memory_never c.from_residual-in_err-write-in-Ok.result c.from_residual-in_err-write-in-Ok.ensures.1)
+
+pub returns-in_err-logging-clause-enough : goal.returns-in_err-logging-clause-enough
+returns-in_err-logging-clause-enough g c = λ enough. off_limit c.from_residual.result (λ (j : JournalData) (e : EndsState). ⊥) (memory_never c.from_residual.result c.from_residual.ensures.1)
+
+pub returns-in_err-write-in-Ok-clause-enough : goal.returns-in_err-write-in-Ok-clause-enough
+returns-in_err-write-in-Ok-clause-enough g c = λ enough. off_limit c.from_residual-in_err-write-in-Ok.result (λ (j : JournalData) (e : EndsState). ⊥) (memory_never c.from_residual-in_err-write-in-Ok.result c.from_residual-in_err-write-in-Ok.ensures.1)

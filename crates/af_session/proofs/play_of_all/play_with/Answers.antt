@@ -9,6 +9,7 @@ use Rattle.af_audit.proofs.FatesTold.{frames-have-fates}
 use Rattle.af_audit.proofs.SettledTold.{settled}
 use Rattle.af_audit.proofs.SparedTold.{lawful-blocks-are-spared}
 use Rattle.af_base.specs.Roomy.{Roomy}
+use Rattle.af_enough_law.proofs.NeverCut.{never-cut}
 use Rattle.af_fast.specs.Mixer.{MixerState}
 use Rattle.af_io.specs.Files.{SetsFile}
 use Rattle.af_model.specs.Journals.{JournalData, RoundsNoted, journal_of}
@@ -24,7 +25,7 @@ use Rattle.af_session.proofs.JournalSound.{journal_sounds}
 use Rattle.af_session.proofs.LogEnds.{tells_log}
 use Rattle.af_session.proofs.NeverOlder.{none_older}
 use Rattle.af_session.proofs.Outgoing.{cause_memory, cause_store}
-use Rattle.af_session.proofs.PlayAnswers.{at_fault, cause_cut, cut_by, cut_off, handed, hands_back, if_ok_always, if_ok_one, if_ok_three, leaves, memory_handed, memory_never, off_limit, older_by, spares_by, store_handed, store_never, told_of}
+use Rattle.af_session.proofs.PlayAnswers.{at_fault, cause_cut, cut_by, cut_off, handed, hands_back, if_ok_always, if_ok_one, if_ok_three, leaves, memory_handed, memory_never, never_limited, off_limit, older_by, spares_by, store_handed, store_never, told_of}
 use Rattle.af_session.proofs.RunPushed.{pushes_stand_once}
 use Rattle.af_session.proofs.RunSpelled.{calls_stand_once}
 use Rattle.af_session.proofs.ShownWhole.{tally_tracks}
@@ -299,3 +300,20 @@ returns-in_err-tally-clause-cut_run g c = off_limit c.from_residual-in_err-tally
 
 pub returns-in_err-play_made-clause-cut_run : goal.returns-in_err-play_made-clause-cut_run
 returns-in_err-play_made-clause-cut_run g c = off_limit c.from_residual-in_err-play_made.result (cut_by c.args.script.now c.args.files.now) (store_never c.from_residual-in_err-play_made.result c.in_err-play_made.field-0.0 c.from_residual-in_err-play_made.ensures.1)
+
+-- ## Enough cycles
+
+pub returns-clause-enough : goal.returns-clause-enough
+returns-clause-enough g c = λ enough. never_limited c.answer.result (cut_by c.args.script.now c.args.files.now) (λ j e cut. never-cut c.args.script.now c.args.files.now j c.frames.ensures.script enough cut) c.answer.ensures.cut_run
+
+pub returns-in_err-shared-clause-enough : goal.returns-in_err-shared-clause-enough
+returns-in_err-shared-clause-enough g c = λ enough. off_limit c.from_residual.result (λ (j : JournalData) (e : EndsState). ⊥) (memory_never c.from_residual.result c.from_residual.ensures.1)
+
+pub returns-in_err-buffer-clause-enough : goal.returns-in_err-buffer-clause-enough
+returns-in_err-buffer-clause-enough g c = λ enough. off_limit c.from_residual-in_err-buffer.result (λ (j : JournalData) (e : EndsState). ⊥) (memory_never c.from_residual-in_err-buffer.result c.from_residual-in_err-buffer.ensures.1)
+
+pub returns-in_err-tally-clause-enough : goal.returns-in_err-tally-clause-enough
+returns-in_err-tally-clause-enough g c = λ enough. off_limit c.from_residual-in_err-tally.result (λ (j : JournalData) (e : EndsState). ⊥) (memory_never c.from_residual-in_err-tally.result c.from_residual-in_err-tally.ensures.1)
+
+pub returns-in_err-play_made-clause-enough : goal.returns-in_err-play_made-clause-enough
+returns-in_err-play_made-clause-enough g c = λ enough. off_limit c.from_residual-in_err-play_made.result (λ (j : JournalData) (e : EndsState). ⊥) (store_never c.from_residual-in_err-play_made.result c.in_err-play_made.field-0.0 c.from_residual-in_err-play_made.ensures.1)
