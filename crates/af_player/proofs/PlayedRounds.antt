@@ -6,6 +6,7 @@ use Rattle.af_audit.specs.Emptied.{PipeIsEmptied}
 use Rattle.af_audit.specs.Fates.{EachFrameHasOneFate}
 use Rattle.af_audit.specs.Settled.{SettledMeansKept}
 use Rattle.af_audit.specs.Spared.{EachLawfulBlockIsSpared}
+use Rattle.af_enough.specs.Enough.{HasEnoughCycles}
 use Rattle.af_io.specs.Files.{Files, SetsFile, LeavesFront}
 use Rattle.af_io.specs.Outputs.{with_file}
 use Rattle.af_journal.specs.Texts.{text_of}
@@ -14,7 +15,7 @@ use Rattle.af_tally.specs.declared.summary.Summary.{Summary}
 use Rattle.af_session.specs.Ends.{EndsState}
 use Rattle.af_session.specs.PlayedRuns.{HandsBackRun, IsLegalJournal}
 use Rattle.af_session.specs.Shown.{summary_told}
-use Rattle.af_runs.specs.LegalRuns.{IsLegalRun}
+use Rattle.af_runs.specs.LegalRuns.{IsCutRun, IsLegalRun}
 use Rattle.af_runs.specs.Pcm.{journal_pcm}
 use Rattle.af_io.specs.declared.store.StoreError.{StoreError}
 use Rattle.af_player.specs.declared.status.Stop.TheVariants.{Over}
@@ -31,6 +32,10 @@ use Rattle.af_player.proofs.Made.{Makes-unwritten, files_are}
 pub promises : (l : Loaded) (journal : JournalData) → IsLegalRun l.script l.files journal → EachFrameHasOneFate l.script l.files journal → EachLawfulBlockIsSpared l.script l.files journal → EachDrainedTrackReachedItsStop l.script l.files journal → SettledMeansKept l.script l.files journal → PipeIsEmptied l.script l.files journal
     → IsLegalJournal true l.script l.files journal
 promises l journal legal fates unshut drained settled emptied = record { legal = legal; fates = fates; unshut = unshut; drained = drained; settled = settled; emptied = emptied }
+
+-- and those of one that was cut off
+pub cut_short : (l : Loaded) (journal : JournalData) → IsCutRun l.script l.files journal → (HasEnoughCycles l.script → ⊥) → IsLegalJournal false l.script l.files journal
+cut_short l journal cut few = (cut, few)
 
 module _ (ended : Bool) (l : Loaded) (journal : JournalData) (ends : EndsState) (back : HandsBackRun ended l.script l.files journal ends) (legal : IsLegalJournal ended l.script l.files journal) where
   abbrev bytes : List ℕ

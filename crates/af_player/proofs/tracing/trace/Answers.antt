@@ -16,7 +16,7 @@ use Rattle.af_player.specs.Loading.{loaded_view}
 use Rattle.af_words.specs.Requests.{Trace}
 use Rattle.af_player.specs.Status.{stop_of}
 use Rattle.af_player.proofs.Played.{Makes-memory}
-use Rattle.af_player.proofs.PlayedRounds.{promises, some_play_line}
+use Rattle.af_player.proofs.PlayedRounds.{cut_short, promises, some_play_line}
 use Rattle.af_player.proofs.TracedRounds.{Makes-cut_log, Makes-traced, appended, journal_unwritten, log_unwritten, trace_behind}
 use Rattle.af_player.proofs.PlayedFaults.{calm_limit, calm_memory, cut_still, fault_behind, ok_still, stopped, suits_stopped, written_still}
 use Rattle.af_player.proofs.tracing.trace.Goals as goal
@@ -104,10 +104,10 @@ returns-in_err-write_journal-in-Err-CycleLimit-clause-made g c = λ told.
     let new = g.S.Store.files c.write_journal-in-Err-CycleLimit.new.store in
     let a = c.in-Err-CycleLimit in
     let run = subst (λ (f : SessionFault). AtLimit (HandsBackRun false c.args.loaded.now.script c.deref.result.now) f) a.field-0-is a.ensures.limit in
-    let lawful = (subst (λ (f : SessionFault). AtLimit (λ (j : JournalData) (_ : EndsState). IsCutRun c.args.loaded.now.script c.deref.result.now j) f) a.field-0-is a.ensures.cut_run, λ (enough : HasEnoughCycles c.args.loaded.now.script). subst (λ (f : SessionFault). AtLimit (λ (j : JournalData) (_ : EndsState). ⊥) f) a.field-0-is (a.ensures.enough enough)) in
     let sound = subst (λ (f : SessionFault). AtLimit (λ (j : JournalData) (_ : EndsState). SetsFile old c.args.target.now (Some (journal_pcm c.args.loaded.now.script.frames j)) mid) f) a.field-0-is (a.ensures.cut told) in
     let e = c.in_err-write_journal-in-Err-CycleLimit.field-0.0 in
     let here : Loaded = record { script = c.args.loaded.now.script; files = c.deref.result.now } in
+    let lawful = cut_short here a.cut (subst (λ (f : SessionFault). AtLimit (λ (j : JournalData) (_ : EndsState). IsCutRun c.args.loaded.now.script c.deref.result.now j) f) a.field-0-is a.ensures.cut_run) (λ (enough : HasEnoughCycles c.args.loaded.now.script). subst (λ (f : SessionFault). AtLimit (λ (j : JournalData) (_ : EndsState). ⊥) f) a.field-0-is (a.ensures.enough enough)) in
     let same : here ≡ loaded_view c.args.loaded.now = λ k. record { script = c.args.loaded.now.script; files = c.deref.ensures.value k } in
     let left =
     journal_unwritten false here c.args.room a.cut a.field-0-1 run lawful c.args.target.now c.args.journal.now c.args.log.now old mid sound e new
@@ -123,10 +123,10 @@ returns-in-Err-CycleLimit-clause-made g c = λ told.
     let new = g.S.Store.files c.write_journal-in-Err-CycleLimit.new.store in
     let a = c.in-Err-CycleLimit in
     let run = subst (λ (f : SessionFault). AtLimit (HandsBackRun false c.args.loaded.now.script c.deref.result.now) f) a.field-0-is a.ensures.limit in
-    let lawful = (subst (λ (f : SessionFault). AtLimit (λ (j : JournalData) (_ : EndsState). IsCutRun c.args.loaded.now.script c.deref.result.now j) f) a.field-0-is a.ensures.cut_run, λ (enough : HasEnoughCycles c.args.loaded.now.script). subst (λ (f : SessionFault). AtLimit (λ (j : JournalData) (_ : EndsState). ⊥) f) a.field-0-is (a.ensures.enough enough)) in
     let sound = subst (λ (f : SessionFault). AtLimit (λ (j : JournalData) (_ : EndsState). SetsFile old c.args.target.now (Some (journal_pcm c.args.loaded.now.script.frames j)) mid) f) a.field-0-is (a.ensures.cut told) in
     let cycles = c.cycles-cycles.result in
     let here : Loaded = record { script = c.args.loaded.now.script; files = c.deref.result.now } in
+    let lawful = cut_short here a.cut (subst (λ (f : SessionFault). AtLimit (λ (j : JournalData) (_ : EndsState). IsCutRun c.args.loaded.now.script c.deref.result.now j) f) a.field-0-is a.ensures.cut_run) (λ (enough : HasEnoughCycles c.args.loaded.now.script). subst (λ (f : SessionFault). AtLimit (λ (j : JournalData) (_ : EndsState). ⊥) f) a.field-0-is (a.ensures.enough enough)) in
     let same : here ≡ loaded_view c.args.loaded.now = λ k. record { script = c.args.loaded.now.script; files = c.deref.ensures.value k } in
     subst (λ (l : Loaded). Makes (Err (Over (Limit cycles))) (Ok (trace_job c.args.target.now c.args.journal.now c.args.log.now c.args.room l)) old new) same
     (Makes-cut_log here c.args.room a.cut a.field-0-1 run lawful c.args.target.now c.args.journal.now c.args.log.now old mid new sound
