@@ -1,0 +1,221 @@
+-- The round in which the fast mixer comes to have a proxy at the latest: the last state pushed before it plays the track, which stays lent. The proxy takes part in its meeting, and from there on it is carried as one that flows.
+use Rattle.std.proofs.Common.{◌≡◌, ◌⊎◌, inl, inr, ℕ, ◌≤◌, ◌<◌, ◌==◌, unwrap_or, is_some, if◌then◌else◌, Bool, true, false, true≢false, All, Option, Some, List, [], ◌++◌, length, length-append, refl, sym, ap, ◌∙◌, subst, arith, eqb-true}
+use Rattle.std.specs.Prelude.{max}
+use Rattle.af_base.specs.declared.report.SlotReport.{SlotReport}
+use Rattle.af_base.specs.declared.state.FastState.{FastState}
+use Rattle.af_base.specs.declared.state.FastTrack.{FastTrack}
+use Rattle.af_life.specs.declared.kept.Heard.{Heard}
+use Rattle.af_life.specs.declared.kept.Holder.TheVariants.{Lent}
+use Rattle.af_life.specs.declared.kept.Setting.{Setting}
+use Rattle.af_life.specs.declared.kept.TrackKept.{TrackKept}
+use Rattle.af_life.specs.Heard.{learnt, heard_by, heard_at_home, heard_elsewhere, heard_with, grown, counts_in, slot_reported}
+use Rattle.af_life.specs.Kept.{NormalKept, Learnt, track_at, is_home, number_of}
+use Rattle.af_life.specs.Turn.{turn_after}
+use Rattle.af_model.specs.Cycles.{state_of}
+use Rattle.af_model.specs.Journals.{RoundSeen}
+use Rattle.af_model.specs.Reports.{report_at}
+use Rattle.af_runs.specs.Blocks.{Marks, client_list, server_list}
+use Rattle.af_runs.specs.Rounds.{LegalRound, before_turn, after_turn, met_after, after_round}
+use Rattle.af_runs.specs.Runs.{Run, told_at, with_calls, with_cycles, report_of, takes_part, holds}
+use Rattle.af_runs.specs.Sessions.{Session, track_count, setup_of, cycle_frames}
+use Rattle.af_enough_law.specs.Carried.{SessionCarried}
+use Rattle.af_enough_law.specs.Drafts.{is_busy}
+use Rattle.af_enough_law.specs.FastFlows.{Plays, AllStates, slot_told}
+use Rattle.af_enough_law.specs.NormalRounds.{TurnMade}
+use Rattle.af_enough_law.proofs.AwayKeeps.{StaysOpen, away_turn}
+use Rattle.af_enough_law.proofs.AwayRounds.{AwayTurn}
+use Rattle.af_enough_law.proofs.Commanding.{le_cases}
+use Rattle.af_enough_law.proofs.EntryCounts.{found_within, round_high}
+use Rattle.af_enough_law.proofs.FastFound.{state_none}
+use Rattle.af_enough_law.proofs.FastKnows.{knows_released}
+use Rattle.af_enough_law.proofs.FastMixes.{state_more}
+use Rattle.af_enough_law.proofs.FastPolls.{round_states, turn_more}
+use Rattle.af_enough_law.proofs.FastReports.{plays_reported}
+use Rattle.af_enough_law.proofs.FastRounds.{ends_part}
+use Rattle.af_enough_law.proofs.Following.{greeted_in, greeted_alike}
+use Rattle.af_enough_law.proofs.Foreseen.{Foreseen, part_seen}
+use Rattle.af_enough_law.proofs.Generations.{Attached, greeted_lent, greeted_same}
+use Rattle.af_enough_law.proofs.HomeRounds.{IsNamed}
+use Rattle.af_enough_law.proofs.LastStates.{round_last}
+use Rattle.af_enough_law.proofs.Lending.{IsLending, WasOpen, lent_still, busy_same, free_plays}
+use Rattle.af_enough_law.proofs.LentFlows.{state_there}
+use Rattle.af_enough_law.proofs.LentRounds.{LentCarried, holds_by, or_last, state_last}
+use Rattle.af_enough_law.proofs.LentTurns.{turn_leaves}
+use Rattle.af_enough_law.proofs.MeetReports.{SaysOpenOf}
+use Rattle.af_enough_law.proofs.MeetRounds.{Meeting, meets_open}
+use Rattle.af_enough_law.proofs.QueueRounds.{acks_states}
+use Rattle.af_enough_law.proofs.RestTurns.{low_or}
+use Rattle.af_enough_law.proofs.SessionRounds.{turn_of, turn_runs, states_few}
+use Rattle.af_enough_law.proofs.StreamCalm.{IsQuiet}
+use Rattle.af_enough_law.proofs.TrackGoes.{CalmStream}
+
+-- ## What is heard of a proxy that is away
+
+-- where a report of this attachment says that the server is open, and the stream was open when the proxy was lent, it isn't heard to be shut
+pub away_heard : (own : Heard) (r : SlotReport) (g : TrackKept) → is_home g.holder ≡ false → (r.generation ≡ g.generation → r.shut ≡ false) → g.at_attach.known.shut ≡ false → (heard_by own r g).known.shut ≡ false
+unfolding heard_by
+away_heard own r g away says attach =
+    ap (λ (b : Bool). (if b then heard_at_home own g else heard_elsewhere r g).known.shut) away ∙ by (r.generation == g.generation) (λ e. says (eqb-true r.generation g.generation e))
+  where
+    by : (b : Bool) → (b ≡ true → r.shut ≡ false) → (if b then heard_with r.consumed r.flush_seen r.shut (grown (counts_in r) g.reported) else g.at_attach).known.shut ≡ false
+    by true f = f refl
+    by false f = attach
+
+-- ## The round
+
+module _ (s : Session) (marks : Marks) (scales : All (λ (x : Setting). x.scale ≤ 4096) (setup_of s).settings) (long : length (setup_of s).settings ≡ track_count s) (run : Run) (round : RoundSeen) (legal : LegalRound false s marks run round) (c : SessionCarried s run) (i : ℕ) (named : i < track_count s)
+    (slot : ℕ) (item : FastTrack) (l : IsLending s run i slot item) (some : 1 ≤ length run.states) (last : Plays slot item run.normal.last) (stays : (track_at (after_round s run round).normal.tracks i).holder ≡ Lent) where
+  abbrev t : TurnMade s marks run round
+  t = turn_of s marks scales long run round legal c.stands
+
+  goes : t.turn.ended ≡ false
+  goes = turn_runs s marks scales long run round legal c.stands
+
+  abbrev after : Run
+  after = after_round s run round
+
+  abbrev g : TrackKept
+  g = greeted_in run.normal t.turn i
+
+  low_run : i < length run.tracks
+  low_run = let a = c.stands.tracks in omega (arith, a, named)
+
+  there : i < length run.normal.tracks
+  there = let a = c.stands.kept in omega (arith, a, named)
+
+  -- it is lent as before
+  pub still_lending : IsLending s after i slot item
+  still_lending = lent_still s marks scales long run round legal c.stands i named slot item l stays
+
+  -- the last state pushed goes on to play it
+  pub last_then : Plays slot item after.normal.last
+  last_then = by (is_busy t.turn.push) refl
+    where
+      by : (b : Bool) → is_busy t.turn.push ≡ b → Plays slot item after.normal.last
+      by true busy = subst (Plays slot item) (sym (busy_same s marks scales long run round legal c.stands i named busy).1) last
+      by false free = (free_plays s marks scales long run round legal c.stands i named slot item still_lending free).1
+
+  some_then : 1 ≤ length after.states
+  some_then =
+      let whole = ap length (round_states s run round ∙ (turn_more s run round).whole) in
+      let both = length-append run.states (turn_more s run round).more in omega (arith, whole, both, some)
+
+  first : state_of run.states (length run.states) ≡ Some run.normal.last
+  first = state_last run.states (cycle_frames s) run.normal.last some c.stands.last
+
+  some_is : (x y : FastState) → Some x ≡ Some y → x ≡ y
+  some_is x y e = ap (λ (o : Option FastState). unwrap_or o x) e
+
+  -- a state that the turn pushes plays it
+  pub pushed_plays : (k : ℕ) (x : FastState) → length run.states < k → state_of after.states k ≡ Some x → Plays slot item x
+  pushed_plays k x above is = by (low_or k (length after.states))
+    where
+      by : (k ≤ length after.states) ⊎ (length after.states < k) → Plays slot item x
+      by (inr far) = absurd (true≢false (sym (ap is_some is) ∙ ap is_some (state_none after.states k far)))
+      by (inl high) =
+          let count = states_few s marks scales long run round legal c.stands in
+          let at : k ≡ length after.states = omega (arith, above, high, count) in
+          let final = state_last after.states (cycle_frames s) after.normal.last some_then (round_last s marks run round legal c.stands.last) in
+          subst (Plays slot item) (some_is after.normal.last x (sym final ∙ ap (λ (n : ℕ). state_of after.states n) (sym at) ∙ is)) last_then
+
+  -- so all states that the round may use play it
+  pub states_play : AllStates run after (Plays slot item)
+  states_play = (some, λ k x high is. by k x is (le_cases (length run.states) k high))
+    where
+      whole : after.states ≡ run.states ++ (turn_more s run round).more
+      whole = round_states s run round ∙ (turn_more s run round).whole
+
+      by : (k : ℕ) (x : FastState) → state_of after.states k ≡ Some x → (k ≡ length run.states) ⊎ (length run.states < k) → Plays slot item x
+      by k x is (inl same) =
+          let at : state_of after.states k ≡ Some run.normal.last =
+          ap (λ (xs : List FastState). state_of xs k) whole ∙ ap (λ (n : ℕ). state_of (run.states ++ (turn_more s run round).more) n) same ∙ state_more run.states (turn_more s run round).more (length run.states) (omega arith) ∙ first in
+          subst (Plays slot item) (some_is run.normal.last x (sym at ∙ is)) last
+      by k x is (inr above) = pushed_plays k x above is
+
+  track_is : item.track ≡ i
+  track_is = ap (λ (x : FastTrack). x.track) l.item_is
+
+  -- its proxy takes part in the meeting
+  pub adopted_part : takes_part s after i ≡ true
+  adopted_part =
+      let low = acks_states s marks run round legal c.stands.going c.states in
+      let high = round_high s run round c.stands.adopted in
+      let x = state_there after.states after.current (omega (arith, low, some)) high in
+      let p = states_play.1 after.current x.0 low x.1 in
+      or_last (is_home (track_at after.normal.tracks i).holder) (holds s after i) (holds_by s after i slot item x.0 l.low track_is x.1 p)
+
+  pub adopted_met : takes_part s (met_after s run round) i ≡ true
+  adopted_met = sym (ends_part s (met_after s run round) i) ∙ adopted_part
+
+  away : is_home g.holder ≡ false
+  away = ap is_home (greeted_lent t.turn.ack run.normal.last (track_at run.normal.tracks i) l.lent)
+
+  slot_next : is_some (track_at (turn_after (setup_of s) (learnt t.by.outside) run.normal t.turn).tracks i).slot ≡ true
+  slot_next = ap (λ (m : NormalKept). is_some (track_at m.tracks i).slot) (sym t.after) ∙ ap is_some still_lending.slot_is
+
+  -- the turn adds nothing to its server's list
+  pub turn_adds : server_list (told_at (after_turn s run round) i).stream ≡ server_list (told_at (before_turn s run round) i).stream
+  turn_adds = turn_leaves s marks run round t i low_run there goes away slot_next
+
+  -- From here on it is carried as one that flows
+  pub adopted_carried : CalmStream (told_at after i).stream.shape (client_list (told_at after i).stream) [] → LentCarried s after i slot item
+  adopted_carried history =
+      let told = plays_reported s marks run round i slot item legal (record { there = low_run; slot = l.low; item_is = track_is; states = states_play; fast_mixer = c.stands.going; knows_states = c.states; lent = turn_adds }) in
+      record {
+        low = l.low;
+        slot_is = still_lending.slot_is;
+        item_is = still_lending.item_is;
+        lent = stays;
+        heard = still_lending.heard;
+        some = some_then;
+        last = last_then;
+        used = told.carries_on;
+        told = told.told;
+        released = knows_released s run round i low_run adopted_part;
+        history = history;
+      }
+
+  -- ## The turn
+
+  module _ (lawful : marks.commands i ≡ true) (o : StaysOpen run i) (quiet : IsQuiet (told_at run i).stream.shape (server_list (told_at run i).stream)) (was : WasOpen run i) (says : SaysOpenOf item (slot_told run slot)) (two : 2 ≤ (track_at run.normal.tracks i).life.retries) where
+    pub adopted_named : IsNamed s marks run i
+    adopted_named = record { low = low_run; named = named; there = there; lawful = lawful }
+
+    -- what was done to its stream so far is told by the history after this round
+    pub adopted_seen : Foreseen (told_at after i).stream
+    adopted_seen = part_seen false s marks run round t i low_run named legal o.keeps adopted_met
+
+    meeting : Meeting s run i slot item
+    meeting = record {
+      there = low_run;
+      some = (let a = ((c.stands.order.sound.slotted i).slot (ap is_some l.slot_is)).0 in let b = ap number_of l.slot_is in omega (arith, a, b));
+      low = l.low;
+      is = track_is;
+      states = some;
+      last = first;
+      plays = last;
+      says = says;
+      quiet = quiet;
+      current = c.stands.queue.current;
+      adopted = c.stands.adopted;
+      going = c.stands.going;
+      knows = c.states;
+    }
+
+    -- the turn doesn't hear that it is shut, and the round is judged by that history
+    pub adopted_turn : AwayTurn s marks run round i t
+    adopted_turn = away_turn false s marks run round i t legal adopted_named goes o adopted_seen quiet two (λ alive. away_heard ((learnt t.by.outside).own i) (slot_reported (learnt t.by.outside) g) g away report (ap (λ (h : Heard). h.known.shut) same.at_attach ∙ was))
+      where
+        same : Attached (track_at run.normal.tracks i) g
+        same = greeted_same t.turn.ack run.normal.last (track_at run.normal.tracks i)
+
+        report : (slot_reported (learnt t.by.outside) g).generation ≡ g.generation → (slot_reported (learnt t.by.outside) g).shut ≡ false
+        report e =
+            let within = found_within s run round marks false t.turn legal c.stands.stored c.reports t.is goes c.stands.logged in
+            let m : ℕ = max (length (with_calls round run).entries) t.turn.cycle in
+            let number = ap number_of ((greeted_alike t.turn.ack run.normal.last (track_at run.normal.tracks i)).slot ∙ l.slot_is) in
+            let found : SaysOpenOf item (report_at (report_of (with_cycles s round.entries (with_calls round run)).reports m).slots slot) =
+            meets_open s marks run round i slot item legal meeting (λ k y above is. inl (pushed_plays k y above is)) turn_adds adopted_seen m within.0 within.1 in
+            let here : report_at (report_of (with_cycles s round.entries (with_calls round run)).reports m).slots slot ≡ slot_reported (learnt t.by.outside) g =
+            ap (λ (n : ℕ). report_at (report_of (with_cycles s round.entries (with_calls round run)).reports m).slots n) (sym number) ∙ ap (λ (k : Learnt). slot_reported k g) (sym t.sees) in
+            subst (SaysOpenOf item) here found (e ∙ same.generation ∙ sym (ap (λ (x : FastTrack). x.generation) l.item_is))

@@ -1,0 +1,186 @@
+-- A turn once every life has ended: no proxy is lent, the draft carries nothing, and what is acknowledged comes home.
+use Rattle.std.proofs.Common.{◌≡◌, ◌⊎◌, inl, inr, ℕ, zero, suc, ◌<◌, ◌≤◌, ◌&&◌, not, Bool, true, false, true≢false, All, List, [], ◌∷◌, length, is_some, if◌then◌else◌, refl, sym, ap, ◌∙◌, arith}
+use Rattle.af_base.specs.declared.state.FastState.{FastState}
+use Rattle.af_base.specs.Log.{slots}
+use Rattle.af_base.specs.Turn.{Turn}
+use Rattle.af_life.specs.declared.kept.Holder.{Holder}
+use Rattle.af_life.specs.declared.kept.Holder.TheVariants.{Home, Lent, Returning}
+use Rattle.af_life.specs.declared.kept.Setting.{Setting}
+use Rattle.af_life.specs.declared.kept.TrackKept.{TrackKept}
+use Rattle.af_life.specs.declared.track.Life.{Life}
+use Rattle.af_life.specs.Edits.{comes_home, welcomed, is_over}
+use Rattle.af_life.specs.Heard.{learnt, heard, ready}
+use Rattle.af_life.specs.Kept.{Setup, NormalKept, Outside, Learnt, track_at, track_in, plays, is_home, is_lent, is_returning, slot_number, new_track}
+use Rattle.af_life.specs.Serves.{after_part}
+use Rattle.af_life.specs.Sound.{IsSlotted}
+use Rattle.af_life.specs.Turn.{turn_after, GoesOn}
+use Rattle.af_life.proofs.Lives.{turn_len}
+use Rattle.af_judge.proofs.SoundTurns.{sound_turn}
+use Rattle.af_model.specs.StateQueue.{carries}
+use Rattle.af_enough_law.specs.Drafts.{next_holder, is_busy, PushMade}
+use Rattle.af_enough_law.specs.Ends.{AllOver, NoneLent, AllHome, CarriesNone, IsInOrder, Rests}
+use Rattle.af_enough_law.specs.Owned.{AreOwned}
+use Rattle.af_enough_law.specs.TrackTurns.{greeted, attended}
+use Rattle.af_enough_law.proofs.Drafts.{holder_turned, turn_pushes}
+use Rattle.af_enough_law.proofs.Following.{greeted_in, greeted_alike, edited_alike}
+use Rattle.af_enough_law.proofs.Orders.{come}
+use Rattle.af_enough_law.proofs.Owned.{owned_turn}
+use Rattle.af_enough_law.proofs.Served.{track_turned}
+
+no : {A : Type 0} → false ≡ true → A
+no h = absurd (true≢false (sym h))
+
+-- ## The lives
+
+pub attended_same : (b : Bool) (s t : TrackKept) → b ≡ true → (if b then s else t) ≡ s
+attended_same true s t is = refl
+attended_same false s t is = no is
+
+-- a life that has ended stays as it is
+pub over_stays : (c : Setup) (k : Learnt) (m : NormalKept) (e : Turn) (i : ℕ) → i < length m.tracks → e.ended ≡ false → (track_at m.tracks i).life.ended ≡ true → (track_at (turn_after c k m e).tracks i).life.ended ≡ true
+over_stays c k m e i lt runs over =
+    let t = track_turned c k m e i lt runs in
+    let g : TrackKept = greeted_in m e i in
+    let life : g.life ≡ (track_at m.tracks i).life = (greeted_alike e.ack m.last (track_at m.tracks i)).life in
+    let ended : g.life.ended ≡ true = ap (λ (l : Life). l.ended) life ∙ over in
+    let same : attended t.given k i (track_in e i).looks g ≡ g = attended_same g.life.ended g (after_part t.given (heard k i g) (track_in e i).looks (ready k i g)) ended in
+    ap (λ (s : TrackKept). s.life.ended) t.after ∙ ap (λ (l : Life). l.ended) (edited_alike (k.own i) (attended t.given k i (track_in e i).looks g) t.edited t.edit).life ∙ ap (λ (s : TrackKept). s.life.ended) same ∙ ended
+
+pub over_turn : (c : Setup) (k : Learnt) (m : NormalKept) (e : Turn) → e.ended ≡ false → AllOver m.tracks → AllOver (turn_after c k m e).tracks
+over_turn c k m e runs over i lt = let long = turn_len c k m e in let lt' : i < length m.tracks = omega (arith, lt, long) in over_stays c k m e i lt' runs (over i lt')
+
+-- ## The holders
+
+pub silent : (l : Life) → l.ended ≡ true → plays l ≡ false
+silent l over = ap (λ (b : Bool). l.member && not b) over ∙ none l.member
+  where
+    none : (b : Bool) → (b && false) ≡ false
+    none true = refl
+    none false = refl
+
+unlent : (slot : Bool) (h : Holder) → is_lent (next_holder false slot h) ≡ false
+unlent true Home = refl
+unlent false Home = refl
+unlent slot Lent = refl
+unlent slot Returning = refl
+
+stays_home : (slot : Bool) (h : Holder) → is_home h ≡ true → is_home (next_holder false slot h) ≡ true
+stays_home true Home is = refl
+stays_home false Home is = refl
+stays_home slot Lent is = no is
+stays_home slot Returning is = no is
+
+pub out_of : (tracks : List TrackKept) (i : ℕ) → length tracks ≤ i → track_at tracks i ≡ new_track
+out_of [] i far = refl
+out_of (s ∷ tracks) zero far = absurd (let z : ⊥ = omega (arith, far) in z)
+out_of (s ∷ tracks) (suc i) far = out_of tracks i (omega (arith, far))
+
+pub within_or : (a b : ℕ) → (a < b) ⊎ (b ≤ a)
+within_or a zero = inr (omega arith)
+within_or zero (suc b) = inl (omega arith)
+within_or (suc a) (suc b) = by (within_or a b)
+  where
+    by : (a < b) ⊎ (b ≤ a) → (suc a < suc b) ⊎ (suc b ≤ suc a)
+    by (inl h) = inl (omega (arith, h))
+    by (inr h) = inr (omega (arith, h))
+
+holder_silent : (c : Setup) (k : Learnt) (m : NormalKept) (e : Turn) (i : ℕ) → i < length m.tracks → e.ended ≡ false → (track_at (turn_after c k m e).tracks i).life.ended ≡ true
+    → (let t = track_at (turn_after c k m e).tracks i in t.holder ≡ next_holder false (is_some t.slot) (greeted_in m e i).holder)
+holder_silent c k m e i lt runs over = let t : TrackKept = track_at (turn_after c k m e).tracks i in holder_turned c k m e i lt runs ∙ ap (λ (b : Bool). next_holder b (is_some t.slot) (greeted_in m e i).holder) (silent t.life over)
+
+pub none_lent : (c : Setup) (k : Learnt) (m : NormalKept) (e : Turn) → e.ended ≡ false → AllOver (turn_after c k m e).tracks → NoneLent (turn_after c k m e).tracks
+none_lent c k m e runs over i = by (within_or i (length m.tracks))
+  where
+    by : (i < length m.tracks) ⊎ (length m.tracks ≤ i) → is_lent (track_at (turn_after c k m e).tracks i).holder ≡ false
+    by (inl lt) = let long = turn_len c k m e in ap is_lent (holder_silent c k m e i lt runs (over i (omega (arith, lt, long)))) ∙ unlent (is_some (track_at (turn_after c k m e).tracks i).slot) (greeted_in m e i).holder
+    by (inr far) = let long = turn_len c k m e in ap (λ (s : TrackKept). is_lent s.holder) (out_of (turn_after c k m e).tracks i (omega (arith, far, long)))
+
+-- a draft whose slots are those of lent tracks carries none where none is lent
+pub carries_none : (tracks : List TrackKept) (draft : FastState) → AreOwned tracks draft → NoneLent tracks → CarriesNone draft
+carries_none tracks draft owned none slot lt = by (carries draft slot) refl
+  where
+    by : (b : Bool) → carries draft slot ≡ b → carries draft slot ≡ false
+    by true is = let o = owned slot lt is in absurd (true≢false (sym o.lent ∙ none o.owner))
+    by false is = is
+
+-- ## A turn
+
+-- what holds between two turns holds after the next one
+pub order_turn : (c : Setup) → All (λ (x : Setting). x.scale ≤ 4096) c.settings → (o : Outside) (m : NormalKept) (e : Turn) → length m.tracks ≤ length c.settings → e.ended ≡ false → GoesOn c o m e → IsInOrder m → IsInOrder (turn_after c (learnt o) m e)
+order_turn c scales o m e few runs goes order = record {
+  sound = sound_turn c scales (learnt o) m e few order.sound;
+  owned = owned_turn c scales (learnt o) m e few order.sound order.owned;
+  latest = (turn_pushes c o m e runs goes order.latest).latest;
+}
+
+-- once every life has ended the mixer rests after the next turn
+pub rests_turn : (c : Setup) → All (λ (x : Setting). x.scale ≤ 4096) c.settings → (o : Outside) (m : NormalKept) (e : Turn) → length m.tracks ≤ length c.settings → e.ended ≡ false → GoesOn c o m e → IsInOrder m → AllOver (turn_after c (learnt o) m e).tracks → Rests (turn_after c (learnt o) m e)
+rests_turn c scales o m e few runs goes order over =
+    let after = order_turn c scales o m e few runs goes order in
+    let none = none_lent c (learnt o) m e runs over in
+    record { order = after; over = over; none = none; empty = carries_none (turn_after c (learnt o) m e).tracks (turn_after c (learnt o) m e).draft after.owned none }
+
+-- a push of a resting mixer leaves a last state that carries nothing
+pub last_empty : (m after : NormalKept) (e : Turn) → PushMade m after e.push → Rests after → is_busy e.push ≡ false → CarriesNone after.last
+last_empty m after e made rests free slot lt = ap (λ (x : FastState). carries x slot) (made.done free).1 ∙ rests.empty slot lt
+
+-- and it stays so
+pub stays_empty : (m after : NormalKept) (e : Turn) → PushMade m after e.push → Rests after → CarriesNone m.last → CarriesNone after.last
+stays_empty m after e made rests empty slot lt = by (is_busy e.push) refl
+  where
+    by : (b : Bool) → is_busy e.push ≡ b → carries after.last slot ≡ false
+    by true is = ap (λ (x : FastState). carries x slot) (made.busy is).3 ∙ empty slot lt
+    by false is = last_empty m after e made rests is slot lt
+
+home_or : (h : Holder) → is_lent h ≡ false → (is_home h ≡ true) ⊎ (is_returning h ≡ true)
+home_or Home none = inl refl
+home_or Lent none = absurd (true≢false none)
+home_or Returning none = inr refl
+
+pub greeted_home : (ack : Bool) (last : FastState) (s : TrackKept) → is_home s.holder ≡ true → is_home (greeted ack last s).holder ≡ true
+unfolding welcomed
+greeted_home false last s home = home
+greeted_home true last s home = by (comes_home last s)
+  where
+    by : (b : Bool) → is_home (if b then record s { holder = Home } else s).holder ≡ true
+    by true = refl
+    by false = home
+
+slot_low : (s : TrackKept) → IsSlotted s → is_returning s.holder ≡ true → slot_number s < slots
+slot_low s slotted returning = by (is_some s.slot) refl
+  where
+    away : (h : Holder) → is_returning h ≡ true → is_home h ≡ true → ⊥
+    away Home r h = true≢false (sym r)
+    away Lent r h = true≢false (sym h)
+    away Returning r h = true≢false (sym h)
+
+    by : (b : Bool) → is_some s.slot ≡ b → slot_number s < slots
+    by true is = (slotted.slot is).1
+    by false is = absurd (away s.holder returning (slotted.homely is))
+
+-- Where the last state pushed carries nothing, a turn that sees it acknowledged brings all proxies home
+pub all_home : (c : Setup) (k : Learnt) (m : NormalKept) (e : Turn) → e.ended ≡ false → Rests m → CarriesNone m.last → e.ack ≡ true → AllHome (turn_after c k m e).tracks
+all_home c k m e runs rests empty ack i lt =
+    let long = turn_len c k m e in
+    let lt' : i < length m.tracks = omega (arith, lt, long) in
+    let s : TrackKept = track_at m.tracks i in
+    let t : TrackKept = track_at (turn_after c k m e).tracks i in
+    ap is_home (holder_silent c k m e i lt' runs (over_stays c k m e i lt' runs (rests.over i lt'))) ∙ stays_home (is_some t.slot) (greeted_in m e i).holder (by (home_or s.holder (rests.none i)))
+  where
+    by : (is_home (track_at m.tracks i).holder ≡ true) ⊎ (is_returning (track_at m.tracks i).holder ≡ true) → is_home (greeted_in m e i).holder ≡ true
+    by (inl home) = greeted_home e.ack m.last (track_at m.tracks i) home
+    by (inr returning) = ap is_home (come m.last (track_at m.tracks i) e.ack ack returning (empty (slot_number (track_at m.tracks i)) (slot_low (track_at m.tracks i) (rests.order.sound.slotted i) returning)))
+
+-- and they stay there
+pub home_stays : (c : Setup) (k : Learnt) (m : NormalKept) (e : Turn) → e.ended ≡ false → Rests m → AllHome m.tracks → AllHome (turn_after c k m e).tracks
+home_stays c k m e runs rests home i lt =
+    let long = turn_len c k m e in
+    let lt' : i < length m.tracks = omega (arith, lt, long) in
+    let t : TrackKept = track_at (turn_after c k m e).tracks i in
+    ap is_home (holder_silent c k m e i lt' runs (over_stays c k m e i lt' runs (rests.over i lt'))) ∙ stays_home (is_some t.slot) (greeted_in m e i).holder (greeted_home e.ack m.last (track_at m.tracks i) (home i lt'))
+
+-- then all is over
+pub is_over_by : (tracks : List TrackKept) → AllOver tracks → AllHome tracks → is_over tracks ≡ true
+is_over_by [] over home = refl
+is_over_by (s ∷ tracks) over home =
+    (λ j. ((over 0 (omega arith)) j && (home 0 (omega arith)) j) && is_over tracks) ∙ is_over_by tracks (λ i lt. over (suc i) (omega (arith, lt))) (λ i lt. home (suc i) (omega (arith, lt)))

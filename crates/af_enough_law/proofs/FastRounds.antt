@@ -1,0 +1,199 @@
+-- What a round does to a stream block beside the entries, and what all its entries take.
+use Rattle.std.proofs.Common.{◌≡◌, ◌⊎◌, inl, inr, ℕ, ◌<◌, if◌then◌else◌, Bool, true, false, Option, Some, None, List, [], ◌∷◌, ◌++◌, length, drop, refl, sym, ap, ◌∙◌, subst, arith, append-nil}
+use Rattle.af_base.specs.declared.event.ClientEvent.{ClientEvent}
+use Rattle.af_base.specs.declared.event.ClientEvent.TheVariants as client
+use Rattle.af_base.specs.declared.event.ServerEvent.{ServerEvent}
+use Rattle.af_base.specs.declared.event.ServerEvent.TheVariants as server
+use Rattle.af_base.specs.Turn.{Turn}
+use Rattle.af_base.specs.declared.event.HandEvent.TheVariants as hand
+use Rattle.af_life.specs.Heard.{learnt}
+use Rattle.af_life.specs.TurnEvents.{tracks_at, hand_list, stream_list}
+use Rattle.af_life.specs.Kept.{Setup, NormalKept, Outside}
+use Rattle.af_model.specs.Journals.{EntrySeen, RoundSeen}
+use Rattle.af_runs.specs.Blocks.{BlockTold, client_list, server_list, client_does, hand_does, meets, meets_flag}
+use Rattle.af_runs.specs.ClientTurns.{Side, after_calls}
+use Rattle.af_runs.specs.Clients.{ends}
+use Rattle.af_runs.specs.Found.{TurnFound, outside_of}
+use Rattle.af_runs.specs.Rounds.{early_of, late_of, before_turn, found_in, turned, after_turn, loaded, all_played, met_after, after_round}
+use Rattle.af_runs.specs.Runs.{Run, TrackTold, told_at, each_track, sides_of, with_side, called, calls_in, with_calls, with_cycle, with_cycles, turned_track, stream_turned, with_turn, with_load, stream_met, takes_part, track_met, met, with_ends}
+use Rattle.af_runs.specs.Sessions.{Session, setup_of}
+use Rattle.af_enough_law.proofs.FastFlows.{Later, later_same, cycles_later}
+use Rattle.af_enough_law.proofs.FastSteps.{server_does-server, server_does-client, client_does-client, client_does-server, hand_does-client, hand_does-server, each_long, each_at, told_each, cycle_length}
+
+-- ## Steps that add no look
+
+-- the server does nothing, or meets the client
+pub record Quiet (b later : BlockTold) : Type 0 where
+  pub is_later : Later b later
+  pub rests : (is_later.events ≡ []) ⊎ ((n : ℕ) × (is_later.events ≡ server.Learn n ∷ []))
+
+pub quiet_same : (b later : BlockTold) → later ≡ b → Quiet b later
+quiet_same b later same = record {
+  is_later = record { shape = ap (λ (x : BlockTold). x.shape) same; calls = []; client = ap client_list same ∙ sym (append-nil (client_list b)); events = []; server = ap server_list same ∙ sym (append-nil (server_list b)) };
+  rests = inl refl;
+}
+
+side_quiet : (side : Side) (b : BlockTold) → Quiet b (with_side side b)
+side_quiet side b =
+    let es : List ClientEvent = drop (length (client_list b)) side.events in
+    record { is_later = record { shape = refl; calls = es; client = client_does-client es b; events = []; server = client_does-server es b ∙ sym (append-nil (server_list b)) }; rests = inl refl }
+
+pub calls_quiet : (round : RoundSeen) (run : Run) (track : ℕ) → track < length run.tracks → Quiet (told_at run track).stream (told_at (with_calls round run) track).stream
+unfolding with_calls
+calls_quiet round run track low =
+    subst (λ (t : TrackTold). Quiet (told_at run track).stream t.stream) (sym (told_each (λ track t. called (calls_in round track) t) run track low))
+    (side_quiet (after_calls (sides_of (told_at run track)) (calls_in round track)).stream (told_at run track).stream)
+
+pub calls_length : (round : RoundSeen) (run : Run) → length (with_calls round run).tracks ≡ length run.tracks
+unfolding with_calls
+calls_length round run = each_long (λ track t. called (calls_in round track) t) 0 run.tracks
+
+pub cycles_length : (s : Session) (es : List EntrySeen) (run : Run) → length (with_cycles s es run).tracks ≡ length run.tracks
+cycles_length s [] run = refl
+cycles_length s (e ∷ es) run = cycles_length s es (with_cycle s run e) ∙ cycle_length s run e
+
+stream_later : (c : Setup) (o : Outside) (m : NormalKept) (e : Turn) (i : ℕ) (b : BlockTold) → Later b (stream_turned c o m e i b)
+stream_later c o m e i b =
+    let added : List ServerEvent = stream_list c o e (tracks_at c (learnt o) m e i) i in
+    let handed : BlockTold = hand_does (hand_list e i) b in
+    record {
+      shape = refl;
+      calls = [];
+      client = server_does-client added handed ∙ hand_does-client (hand_list e i) b ∙ sym (append-nil (client_list b));
+      events = added;
+      server = server_does-server added handed ∙ ap (λ l. l ++ added) (hand_does-server (hand_list e i) b);
+    }
+
+turn_later : (s : Session) (f : TurnFound) (e : Turn) (run : Run) (track : ℕ) → track < length run.tracks → Later (told_at run track).stream (told_at (with_turn s f e run) track).stream
+unfolding with_turn
+turn_later s f e run track low =
+    subst (λ (t : TrackTold). Later (told_at run track).stream t.stream) (sym (each_at (turned_track (setup_of s) (outside_of (setup_of s) f e) run.normal e) 0 run.tracks track track _ low (omega arith)))
+    (stream_later (setup_of s) (outside_of (setup_of s) f e) run.normal e track (told_at run track).stream)
+
+turn_length : (s : Session) (f : TurnFound) (e : Turn) (run : Run) → length (with_turn s f e run).tracks ≡ length run.tracks
+unfolding with_turn
+turn_length s f e run = each_long _ 0 run.tracks
+
+pub turned_later : (s : Session) (found : Turn → TurnFound) (o : Option Turn) (run : Run) (track : ℕ) → track < length run.tracks → Later (told_at run track).stream (told_at (turned s found o run) track).stream
+turned_later s found None run track low = later_same (told_at run track).stream (told_at run track).stream refl
+turned_later s found (Some e) run track low = turn_later s (found e) e run track low
+
+pub turned_length : (s : Session) (found : Turn → TurnFound) (o : Option Turn) (run : Run) → length (turned s found o run).tracks ≡ length run.tracks
+turned_length s found None run = refl
+turned_length s found (Some e) run = turn_length s (found e) e run
+
+load_tracks : (e : Turn) (run : Run) → (with_load e run).tracks ≡ run.tracks
+unfolding with_load
+load_tracks e run = refl
+
+pub loaded_tracks : (o : Option Turn) (run : Run) → (loaded o run).tracks ≡ run.tracks
+loaded_tracks None run = refl
+loaded_tracks (Some e) run = load_tracks e run
+
+load_told : (e : Turn) (run : Run) (track : ℕ) → told_at (with_load e run) track ≡ told_at run track
+unfolding with_load
+load_told e run track = refl
+
+pub loaded_told : (o : Option Turn) (run : Run) (track : ℕ) → told_at (loaded o run) track ≡ told_at run track
+loaded_told None run track = refl
+loaded_told (Some e) run track = load_told e run track
+
+meets_quiet : (b : BlockTold) → Quiet b (meets b)
+meets_quiet b =
+    let called : BlockTold = client_does (client.Learn (length (server_list b)) ∷ []) b in
+    record {
+      is_later = record {
+        shape = refl;
+        calls = client.Learn (length (server_list b)) ∷ [];
+        client = server_does-client (server.Learn (length (client_list b)) ∷ []) called ∙ client_does-client (client.Learn (length (server_list b)) ∷ []) b;
+        events = server.Learn (length (client_list b)) ∷ [];
+        server = server_does-server (server.Learn (length (client_list b)) ∷ []) called ∙ ap (λ l. l ++ server.Learn (length (client_list b)) ∷ []) (client_does-server (client.Learn (length (server_list b)) ∷ []) b);
+      };
+      rests = inr (length (client_list b), refl);
+    }
+
+flag_quiet : (b c : BlockTold) → Quiet b c → Quiet b (meets_flag c)
+flag_quiet b c q = record {
+  is_later = record {
+    shape = q.is_later.shape;
+    calls = q.is_later.calls;
+    client = hand_does-client (hand.Met (length (client_list c)) ∷ []) c ∙ q.is_later.client;
+    events = q.is_later.events;
+    server = hand_does-server (hand.Met (length (client_list c)) ∷ []) c ∙ q.is_later.server;
+  };
+  rests = q.rests;
+}
+
+stream_quiet : (part handed : Bool) (b : BlockTold) → Quiet b (stream_met part handed b)
+stream_quiet true true b = flag_quiet b (meets b) (meets_quiet b)
+stream_quiet true false b = meets_quiet b
+stream_quiet false true b = flag_quiet b b (quiet_same b b refl)
+stream_quiet false false b = quiet_same b b refl
+
+pub met_quiet : (s : Session) (run : Run) (track : ℕ) → track < length run.tracks → Quiet (told_at run track).stream (told_at (met s run) track).stream
+unfolding met
+met_quiet s run track low =
+    subst (λ (t : TrackTold). Quiet (told_at run track).stream t.stream) (sym (told_each (track_met s run) run track low))
+    (stream_quiet (takes_part s run track) run.handed (told_at run track).stream)
+
+pub met_length : (s : Session) (run : Run) → length (met s run).tracks ≡ length run.tracks
+unfolding met
+met_length s run = each_long (track_met s run) 0 run.tracks
+
+-- ## The ends of a round
+
+ends_by : (b : Bool) (run : Run) (track : ℕ) → track < length run.tracks → (told_at (if b then each_track (λ track t. record t { client = ends t.client }) run else run) track).stream ≡ (told_at run track).stream
+ends_by true run track low = ap (λ (t : TrackTold). t.stream) (told_each (λ track t. record t { client = ends t.client }) run track low)
+ends_by false run track low = refl
+
+pub ends_stream : (run : Run) (track : ℕ) → track < length run.tracks → (told_at (with_ends run) track).stream ≡ (told_at run track).stream
+unfolding with_ends
+ends_stream run track low = ends_by run.normal.ended run track low
+
+part_by : (s : Session) (b : Bool) (run : Run) (track : ℕ) → takes_part s (if b then each_track (λ track t. record t { client = ends t.client }) run else run) track ≡ takes_part s run track
+part_by s true run track = refl
+part_by s false run track = refl
+
+pub ends_part : (s : Session) (run : Run) (track : ℕ) → takes_part s (with_ends run) track ≡ takes_part s run track
+unfolding with_ends
+ends_part s run track = part_by s run.normal.ended run track
+
+-- ## All that a round does to a block
+
+-- a block over a round: what the clients' calls, the entries, the turn and the meeting add to it
+pub record Over (s : Session) (run : Run) (round : RoundSeen) (track : ℕ) : Type 0 where
+  pub calls : Quiet (told_at run track).stream (told_at (with_calls round run) track).stream
+  pub early : Later (told_at (with_calls round run) track).stream (told_at (before_turn s run round) track).stream
+  pub turn : Later (told_at (before_turn s run round) track).stream (told_at (after_turn s run round) track).stream
+  pub late : Later (told_at (after_turn s run round) track).stream (told_at (with_cycles s (late_of run round) (after_turn s run round)) track).stream
+  pub meeting : Quiet (told_at (with_cycles s (late_of run round) (after_turn s run round)) track).stream (told_at (met_after s run round) track).stream
+  pub whole : (told_at (after_round s run round) track).stream ≡ (told_at (met_after s run round) track).stream
+  pub first : track < length (with_calls round run).tracks
+  pub last : track < length (after_turn s run round).tracks
+
+pub over : (s : Session) (run : Run) (round : RoundSeen) (track : ℕ) → track < length run.tracks → Over s run round track
+over s run round track low =
+    let a = calls_length round run in
+    let b = cycles_length s (early_of run round) (with_calls round run) in
+    let c = turned_length s (found_in s run round) round.turn (before_turn s run round) in
+    let late : Run = with_cycles s (late_of run round) (after_turn s run round) in
+    let d = cycles_length s (late_of run round) (after_turn s run round) in
+    let e = ap length (loaded_tracks round.turn late) in
+    let f = met_length s (all_played s run round) in
+    record {
+      calls = calls_quiet round run track low;
+      early = cycles_later s (early_of run round) (with_calls round run) track (omega (arith, a, low));
+      turn = turned_later s (found_in s run round) round.turn (before_turn s run round) track (omega (arith, a, b, low));
+      late = cycles_later s (late_of run round) (after_turn s run round) track (omega (arith, a, b, c, low));
+      meeting = subst (λ (t : TrackTold). Quiet t.stream (told_at (met_after s run round) track).stream) (loaded_told round.turn late track) (met_quiet s (all_played s run round) track (omega (arith, a, b, c, d, e, low)));
+      whole = ends_stream (met_after s run round) track (omega (arith, a, b, c, d, e, f, low));
+      first = omega (arith, a, low);
+      last = omega (arith, a, b, c, low);
+    }
+
+-- as many tracks
+pub all_length : (s : Session) (run : Run) (round : RoundSeen) → length (all_played s run round).tracks ≡ length run.tracks
+all_length s run round =
+    let late : Run = with_cycles s (late_of run round) (after_turn s run round) in
+    ap length (loaded_tracks round.turn late) ∙ cycles_length s (late_of run round) (after_turn s run round) ∙ turned_length s (found_in s run round) round.turn (before_turn s run round)
+    ∙ cycles_length s (early_of run round) (with_calls round run) ∙ calls_length round run

@@ -1,0 +1,58 @@
+-- The retries of a track that plays and that the normal mixer mixes, in numbers: a round keeps what makes them two at least.
+use Rattle.std.proofs.Common.{◌≡◌, ℕ, suc, ◌+◌, ◌≤◌, ◌==◌, not, if◌then◌else◌, Bool, true, false, List, [], ◌∷◌, length, refl, ap, ◌∙◌, arith}
+use Rattle.af_base.specs.declared.seen.Seen.{Seen}
+use Rattle.af_base.specs.declared.seen.Seen.TheVariants as seen
+use Rattle.af_base.specs.Log.{count_seen}
+use Rattle.af_base.specs.Turn.{TakeSeen}
+use Rattle.af_life.specs.declared.kept.Counts.{Counts}
+use Rattle.af_life.specs.declared.kept.TrackKept.{TrackKept}
+use Rattle.af_life.specs.Kept.{no_counts}
+use Rattle.af_life.specs.Plays.{counted}
+use Rattle.af_life.specs.TurnEvents.{takes_from}
+use Rattle.af_enough_law.specs.FastFlows.{IsShown}
+use Rattle.af_enough_law.specs.TrackTurns.{own_after}
+
+-- ## Its own looks
+
+none_own : (asked i : ℕ) (counts : Counts) (takes : List TakeSeen) → takes_from takes i ≡ [] → own_after asked i counts takes ≡ counts
+none_own asked i counts [] is = refl
+none_own asked i counts (take ∷ takes) is = by (take.track == i) is (λ c e. none_own asked i c takes e)
+  where
+    by : (b : Bool) → (if b then take ∷ takes_from takes i else takes_from takes i) ≡ [] → ((c : Counts) → takes_from takes i ≡ [] → own_after asked i c takes ≡ c) → own_after asked i (if b then counted asked take.slot.seen counts else counts) takes ≡ counts
+    by true e rest = absurd (let z : suc (length (takes_from takes i)) ≡ 0 = ap length e in omega (arith, z))
+    by false e rest = rest counts e
+
+tail_takes : List TakeSeen → List TakeSeen
+tail_takes [] = []
+tail_takes (t ∷ takes) = takes
+
+first_seen : Seen → List TakeSeen → Seen
+first_seen d [] = d
+first_seen d (t ∷ takes) = t.slot.seen
+
+-- one take leaves its look
+pub one_own : (asked i : ℕ) (counts : Counts) (takes : List TakeSeen) (mix : TakeSeen) → takes_from takes i ≡ mix ∷ [] → own_after asked i counts takes ≡ counted asked mix.slot.seen counts
+unfolding tail_takes first_seen
+one_own asked i counts [] mix is = absurd (let z : 0 ≡ 1 = ap length is in omega (arith, z))
+one_own asked i counts (take ∷ takes) mix is = by (take.track == i) is (λ c e. none_own asked i c takes e) (λ c e. one_own asked i c takes mix e)
+  where
+    by : (b : Bool) → (if b then take ∷ takes_from takes i else takes_from takes i) ≡ mix ∷ [] → ((c : Counts) → takes_from takes i ≡ [] → own_after asked i c takes ≡ c) → ((c : Counts) → takes_from takes i ≡ mix ∷ [] → own_after asked i c takes ≡ counted asked mix.slot.seen c)
+        → own_after asked i (if b then counted asked take.slot.seen counts else counts) takes ≡ counted asked mix.slot.seen counts
+    by true e none one = none (counted asked take.slot.seen counts) (ap tail_takes e) ∙ ap (λ (x : Seen). counted asked x counts) (ap (first_seen take.slot.seen) e)
+    by false e none one = one counts e
+
+-- the looks that showed frames
+abbrev pub own_shown : TrackKept → ℕ
+own_shown s = s.own.fulls + s.own.partials
+
+-- a look that shows frames is counted
+pub shown_counted : (asked : ℕ) (answer : Seen) → IsShown answer → 1 ≤ count_seen answer → 1 ≤ (counted asked answer no_counts).fulls + (counted asked answer no_counts).partials
+shown_counted asked (seen.Frames count) shows some = by (count == asked)
+  where
+    by : (b : Bool) → 1 ≤ (0 + (if b then 1 else 0)) + (0 + (if not b then 1 else 0))
+    by true = omega arith
+    by false = omega arith
+shown_counted asked seen.Absent shows some = absurd shows
+shown_counted asked seen.Empty shows some = absurd (let z : ⊥ = omega (arith, some) in z)
+shown_counted asked (seen.Flushed dropped) shows some = absurd shows
+shown_counted asked (seen.Shut f r) shows some = absurd shows

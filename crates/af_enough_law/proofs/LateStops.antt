@@ -1,0 +1,189 @@
+-- The round in which a proxy leaves that the last state plays, whether the fast mixer had it before or not: its turn doesn't hear that the stream is shut.
+use Rattle.std.proofs.Common.{◌≡◌, ◌⊎◌, inl, inr, ℕ, ◌≤◌, ◌<◌, unwrap_or, is_some, Bool, true, false, true≢false, All, Option, Some, length, refl, sym, ap, ◌∙◌, subst, arith}
+use Rattle.std.specs.Prelude.{max}
+use Rattle.af_base.specs.declared.state.FastState.{FastState}
+use Rattle.af_base.specs.declared.state.FastTrack.{FastTrack}
+use Rattle.af_life.specs.declared.kept.Heard.{Heard}
+use Rattle.af_life.specs.declared.kept.Holder.TheVariants.{Returning}
+use Rattle.af_life.specs.declared.kept.Setting.{Setting}
+use Rattle.af_life.specs.declared.kept.TrackKept.{TrackKept}
+use Rattle.af_life.specs.Heard.{learnt, slot_reported}
+use Rattle.af_life.specs.Kept.{NormalKept, Learnt, track_at, plays, is_home, is_lent, is_returning, number_of}
+use Rattle.af_life.specs.Turn.{turn_after}
+use Rattle.af_model.specs.Cycles.{state_of}
+use Rattle.af_model.specs.Journals.{RoundSeen}
+use Rattle.af_model.specs.Reports.{report_at}
+use Rattle.af_runs.specs.Blocks.{Marks, server_list}
+use Rattle.af_runs.specs.Rounds.{LegalRound, before_turn, after_turn, met_after, after_round}
+use Rattle.af_runs.specs.Runs.{Run, told_at, with_calls, with_cycles, report_of, takes_part}
+use Rattle.af_runs.specs.Sessions.{Session, track_count, setup_of, cycle_frames}
+use Rattle.af_enough_law.specs.Carried.{SessionCarried}
+use Rattle.af_enough_law.specs.Drafts.{is_busy, PushMade}
+use Rattle.af_enough_law.specs.FastFlows.{slot_told}
+use Rattle.af_enough_law.specs.NormalRounds.{TurnMade}
+use Rattle.af_enough_law.proofs.AdoptRounds.{away_heard}
+use Rattle.af_enough_law.proofs.AwayKeeps.{StaysOpen, open_then, away_turn}
+use Rattle.af_enough_law.proofs.AwayRounds.{AwayTurn}
+use Rattle.af_enough_law.proofs.Commanding.{le_cases}
+use Rattle.af_enough_law.proofs.EntryCounts.{found_within}
+use Rattle.af_enough_law.proofs.FastFound.{state_none}
+use Rattle.af_enough_law.proofs.FastRounds.{ends_part}
+use Rattle.af_enough_law.proofs.Following.{greeted_in, greeted_alike}
+use Rattle.af_enough_law.proofs.Foreseen.{Foreseen, part_seen}
+use Rattle.af_enough_law.proofs.Generations.{Attached, greeted_lent, greeted_same, attached_stays}
+use Rattle.af_enough_law.proofs.HomeRounds.{IsNamed}
+use Rattle.af_enough_law.proofs.LastStates.{round_last}
+use Rattle.af_enough_law.proofs.LeftEarly.{left_back}
+use Rattle.af_enough_law.proofs.LeftEntries.{IsOut}
+use Rattle.af_enough_law.proofs.LeftRounds.{draft_out}
+use Rattle.af_enough_law.proofs.Lending.{WasOpen, slotted_opened}
+use Rattle.af_enough_law.proofs.LentRounds.{state_last}
+use Rattle.af_enough_law.proofs.LentTurns.{turn_leaves}
+use Rattle.af_enough_law.proofs.Lookahead.{Coming, held_on, passed, greeted_coming, home_then, seen_before}
+use Rattle.af_enough_law.proofs.MeetReports.{SaysOpenOf}
+use Rattle.af_enough_law.proofs.MeetRounds.{Meeting, meets_open}
+use Rattle.af_enough_law.proofs.QueueRounds.{acks_states, queue_stands}
+use Rattle.af_enough_law.proofs.RestTurns.{low_or}
+use Rattle.af_enough_law.proofs.SessionRounds.{turn_of, turn_runs, push_of, states_few}
+use Rattle.af_enough_law.proofs.Slots.{slot_stays}
+use Rattle.af_enough_law.proofs.StartRounds.{PushedLast}
+use Rattle.af_enough_law.proofs.StreamCalm.{IsQuiet}
+
+module _ (s : Session) (marks : Marks) (scales : All (λ (x : Setting). x.scale ≤ 4096) (setup_of s).settings) (long : length (setup_of s).settings ≡ track_count s) (run : Run) (round : RoundSeen) (legal : LegalRound false s marks run round) (c : SessionCarried s run) (i : ℕ) (named : i < track_count s) (lawful : marks.commands i ≡ true)
+    (slot : ℕ) (item : FastTrack) (p : PushedLast s run i slot item) (leaves : is_lent (track_at (after_round s run round).normal.tracks i).holder ≡ false) (c_after : SessionCarried s (after_round s run round)) where
+  abbrev t : TurnMade s marks run round
+  t = turn_of s marks scales long run round legal c.stands
+
+  goes : t.turn.ended ≡ false
+  goes = turn_runs s marks scales long run round legal c.stands
+
+  abbrev after : Run
+  after = after_round s run round
+
+  abbrev g : TrackKept
+  g = greeted_in run.normal t.turn i
+
+  pub low_run : i < length run.tracks
+  low_run = let a = c.stands.tracks in omega (arith, a, named)
+
+  there : i < length run.normal.tracks
+  there = let a = c.stands.kept in omega (arith, a, named)
+
+  pub named_run : IsNamed s marks run i
+  named_run = record { low = low_run; named = named; there = there; lawful = lawful }
+
+  -- its proxy is on its way home, in the same slot
+  pub back : (track_at after.normal.tracks i).holder ≡ Returning
+  back = left_back s marks scales long run round legal c.stands i named p.lending.lent leaves
+
+  slot_turned : (track_at (turn_after (setup_of s) (learnt t.by.outside) run.normal t.turn).tracks i).slot ≡ Some slot
+  slot_turned = slot_stays (setup_of s) (learnt t.by.outside) run.normal t.turn i there goes (slotted_opened (track_at run.normal.tracks i) slot (c.stands.order.sound.slotted i) p.lending.slot_is) ∙ p.lending.slot_is
+
+  pub slot_then : (track_at after.normal.tracks i).slot ≡ Some slot
+  slot_then = ap (λ (m : NormalKept). (track_at m.tracks i).slot) t.after ∙ slot_turned
+
+  pub generation_then : item.generation ≡ (track_at after.normal.tracks i).generation
+  generation_then =
+      ap (λ (x : FastTrack). x.generation) p.lending.item_is ∙ sym (attached_stays (setup_of s) (learnt t.by.outside) run.normal t.turn i there goes p.lending.lent).generation ∙ ap (λ (m : NormalKept). (track_at m.tracks i).generation) (sym t.after)
+
+  pub track_is : item.track ≡ i
+  track_is = ap (λ (x : FastTrack). x.track) p.lending.item_is
+
+  pub out_then : IsOut slot i after.normal.draft
+  out_then = draft_out after.normal i slot c_after.stands.order back (ap number_of slot_then)
+
+  pub last_is : state_of run.states (length run.states) ≡ Some run.normal.last
+  last_is = state_last run.states (cycle_frames s) run.normal.last p.some c.stands.last
+
+  pub made : PushMade run.normal after.normal t.turn.push
+  made = push_of s marks scales long run round legal c.stands
+
+  -- a state that the turn pushes has nothing of it
+  pub out_pushed : (m : ℕ) (y : FastState) → length run.states < m → state_of after.states m ≡ Some y → IsOut slot i y
+  out_pushed m y above is = by (low_or m (length after.states))
+    where
+      some_is : (x y : FastState) → Some x ≡ Some y → x ≡ y
+      some_is x y e = ap (λ (o : Option FastState). unwrap_or o x) e
+
+      by_push : (b : Bool) → is_busy t.turn.push ≡ b → length run.states < length after.states → IsOut slot i after.normal.last
+      by_push true busy more =
+          let same = (made.busy busy).2 in
+          let now = (queue_stands s marks run round legal c.stands.queue).pushed in
+          let before = c.stands.queue.pushed in
+          absurd (let z : ⊥ = omega (arith, same, now, before, more) in z)
+      by_push false pushed more = subst (IsOut slot i) (sym (made.done pushed).1) out_then
+
+      by : (m ≤ length after.states) ⊎ (length after.states < m) → IsOut slot i y
+      by (inr far) = absurd (true≢false (sym (ap is_some is) ∙ ap is_some (state_none after.states m far)))
+      by (inl high) =
+          let count = states_few s marks scales long run round legal c.stands in
+          let at : m ≡ length after.states = omega (arith, above, high, count) in
+          let some : 1 ≤ length after.states = omega (arith, above, high) in
+          let last = state_last after.states (cycle_frames s) after.normal.last some (round_last s marks run round legal c.stands.last) in
+          subst (IsOut slot i) (some_is after.normal.last y (sym last ∙ ap (λ (n : ℕ). state_of after.states n) (sym at) ∙ is)) (by_push (is_busy t.turn.push) refl (omega (arith, above, high)))
+
+  -- its proxy takes part in the meeting, or it is coming
+  pub part_or : (after.current ≡ length run.states) ⊎ (length run.states < after.current)
+  part_or = le_cases (length run.states) after.current (acks_states s marks run round legal c.stands.going c.states)
+
+  pub part_at : after.current ≡ length run.states → takes_part s (met_after s run round) i ≡ true
+  part_at at = sym (ends_part s (met_after s run round) i) ∙ held_on s marks scales long run round legal c i slot item p.last p.lending.low track_is p.some last_is at
+
+  pub coming : length run.states < after.current → Coming after slot
+  coming above = passed s marks scales long run round legal c i slot item p.last p.lending.low track_is p.some last_is out_then.free above
+
+  -- ## What was done to its stream
+
+  module _ (o : StaysOpen run i) (next : RoundSeen) (legal_next : LegalRound false s marks after next) (silent : plays (track_at (after_round s after next).normal.tracks i).life ≡ false) where
+    -- one that is coming is home after the next round
+    pub home_next : length run.states < after.current → is_home (track_at (after_round s after next).normal.tracks i).holder ≡ true
+    home_next above = home_then s marks scales long after next legal_next c_after i named (greeted_coming s marks scales long after next legal_next c_after i named slot (coming above) (ap is_returning back) (ap number_of slot_then)) silent
+
+    -- so it is told by the history of this round or of the next one
+    pub left_seen : Foreseen (told_at after i).stream
+    left_seen = by part_or
+      where
+        by : (after.current ≡ length run.states) ⊎ (length run.states < after.current) → Foreseen (told_at after i).stream
+        by (inl at) = part_seen false s marks run round t i low_run named legal o.keeps (part_at at)
+        by (inr above) = seen_before s marks scales long after next legal_next c_after i named (open_then false s marks run round i t legal named_run goes o).keeps (home_next above)
+
+    away : is_home g.holder ≡ false
+    away = ap is_home (greeted_lent t.turn.ack run.normal.last (track_at run.normal.tracks i) p.lending.lent)
+
+    pub turn_adds : server_list (told_at (after_turn s run round) i).stream ≡ server_list (told_at (before_turn s run round) i).stream
+    turn_adds = turn_leaves s marks run round t i low_run there goes away (ap is_some slot_turned)
+
+    -- the turn doesn't hear that it is shut, and the round is judged by that history
+    pub left_turn : IsQuiet (told_at run i).stream.shape (server_list (told_at run i).stream) → WasOpen run i → SaysOpenOf item (slot_told run slot) → 2 ≤ (track_at run.normal.tracks i).life.retries → AwayTurn s marks run round i t
+    left_turn quiet was says two = away_turn false s marks run round i t legal named_run goes o left_seen quiet two (λ alive. away_heard ((learnt t.by.outside).own i) (slot_reported (learnt t.by.outside) g) g away report (ap (λ (h : Heard). h.known.shut) same.at_attach ∙ was))
+      where
+        same : Attached (track_at run.normal.tracks i) g
+        same = greeted_same t.turn.ack run.normal.last (track_at run.normal.tracks i)
+
+        meeting : Meeting s run i slot item
+        meeting = record {
+          there = low_run;
+          some = (let a = ((c.stands.order.sound.slotted i).slot (ap is_some p.lending.slot_is)).0 in let b = ap number_of p.lending.slot_is in omega (arith, a, b));
+          low = p.lending.low;
+          is = track_is;
+          states = p.some;
+          last = last_is;
+          plays = p.last;
+          says = says;
+          quiet = quiet;
+          current = c.stands.queue.current;
+          adopted = c.stands.adopted;
+          going = c.stands.going;
+          knows = c.states;
+        }
+
+        report : (slot_reported (learnt t.by.outside) g).generation ≡ g.generation → (slot_reported (learnt t.by.outside) g).shut ≡ false
+        report e =
+            let within = found_within s run round marks false t.turn legal c.stands.stored c.reports t.is goes c.stands.logged in
+            let m : ℕ = max (length (with_calls round run).entries) t.turn.cycle in
+            let number = ap number_of ((greeted_alike t.turn.ack run.normal.last (track_at run.normal.tracks i)).slot ∙ p.lending.slot_is) in
+            let found : SaysOpenOf item (report_at (report_of (with_cycles s round.entries (with_calls round run)).reports m).slots slot) =
+            meets_open s marks run round i slot item legal meeting (λ k y above is. inr (out_pushed k y above is)) turn_adds left_seen m within.0 within.1 in
+            let here : report_at (report_of (with_cycles s round.entries (with_calls round run)).reports m).slots slot ≡ slot_reported (learnt t.by.outside) g =
+            ap (λ (n : ℕ). report_at (report_of (with_cycles s round.entries (with_calls round run)).reports m).slots n) (sym number) ∙ ap (λ (k : Learnt). slot_reported k g) (sym t.sees) in
+            subst (SaysOpenOf item) here found (e ∙ same.generation ∙ sym (ap (λ (x : FastTrack). x.generation) p.lending.item_is))

@@ -1,0 +1,238 @@
+-- The round in which a lent track leaves: it hears that its stream is open, all that its client is answered is fair, and it is on its course after it. What isn't told by the history of this round is told by that of the next one.
+use Rattle.std.proofs.Common.{◌≡◌, ◌⊎◌, inl, inr, ℕ, zero, suc, ◌≤◌, ◌<◌, ◌&&◌, if◌then◌else◌, unwrap_or, is_some, Bool, true, false, true≢false, All, Option, Some, List, [], ◌∷◌, length, refl, sym, ap, ◌∙◌, subst, arith}
+use Rattle.std.specs.Prelude.{max}
+use Rattle.af_base.specs.declared.report.SlotReport.{SlotReport}
+use Rattle.af_base.specs.declared.state.FastState.{FastState}
+use Rattle.af_base.specs.declared.state.FastTrack.{FastTrack}
+use Rattle.af_life.specs.declared.kept.Holder.TheVariants.{Lent, Returning}
+use Rattle.af_life.specs.declared.kept.Setting.{Setting}
+use Rattle.af_life.specs.declared.kept.TrackKept.{TrackKept}
+use Rattle.af_life.specs.Edits.{is_over}
+use Rattle.af_life.specs.Heard.{learnt, heard, slot_reported}
+use Rattle.af_life.specs.Kept.{NormalKept, Learnt, track_at, plays, is_home, is_lent, is_returning, slot_number, number_of}
+use Rattle.af_life.specs.Turn.{turn_after}
+use Rattle.af_life.proofs.Lives.{turn_len}
+use Rattle.af_model.specs.Cycles.{state_of}
+use Rattle.af_model.specs.Journals.{RoundSeen}
+use Rattle.af_model.specs.Reports.{report_at}
+use Rattle.af_model.specs.StateQueue.{slot_of, carries}
+use Rattle.af_runs.specs.Blocks.{Marks}
+use Rattle.af_runs.specs.Rounds.{LegalRound, met_after, after_round}
+use Rattle.af_runs.specs.Runs.{Run, told_at, with_calls, with_cycles, report_of, takes_part}
+use Rattle.af_runs.specs.Sessions.{Session, track_count, setup_of, cycle_frames}
+use Rattle.af_enough_law.specs.Carried.{SessionCarried}
+use Rattle.af_enough_law.specs.Drafts.{next_holder, is_busy, PushMade}
+use Rattle.af_enough_law.specs.Ends.{IsInOrder}
+use Rattle.af_enough_law.specs.NormalRounds.{TurnMade}
+use Rattle.af_enough_law.proofs.CommandsGo.{OpenTurn}
+use Rattle.af_enough_law.proofs.Drafts.{holder_turned}
+use Rattle.af_enough_law.proofs.Ends.{silent}
+use Rattle.af_enough_law.proofs.EntryCounts.{found_within}
+use Rattle.af_enough_law.proofs.FastFound.{state_none}
+use Rattle.af_enough_law.proofs.FastRounds.{ends_part}
+use Rattle.af_enough_law.proofs.Following.{greeted_in, greeted_alike}
+use Rattle.af_enough_law.proofs.Foreseen.{Foreseen, KeepsTo, keeps_to, part_seen}
+use Rattle.af_enough_law.proofs.Generations.{greeted_lent, greeted_same}
+use Rattle.af_enough_law.proofs.HomeRounds.{keeps_of}
+use Rattle.af_enough_law.proofs.LastStates.{round_last}
+use Rattle.af_enough_law.proofs.LeftEntries.{IsOut, SaysOpen}
+use Rattle.af_enough_law.proofs.LeftFound.{Flowing, FoundOpen, found_open}
+use Rattle.af_enough_law.proofs.LentRounds.{LentCarried, heard_away, heard_opened, state_last}
+use Rattle.af_enough_law.proofs.LentTurns.{turn_leaves}
+use Rattle.af_enough_law.proofs.Lookahead.{Coming, missed, greeted_coming, home_then, seen_before, ended_then}
+use Rattle.af_enough_law.proofs.Orders.{lent_carried}
+use Rattle.af_enough_law.proofs.QueueRounds.{queue_stands}
+use Rattle.af_enough_law.proofs.RestTurns.{low_or}
+use Rattle.af_enough_law.proofs.SessionRounds.{turn_of, turn_runs, push_of, states_few, session_carried}
+use Rattle.af_enough_law.proofs.Slots.{slot_stays}
+use Rattle.af_enough_law.proofs.TrackCarried.{TrackCarried}
+use Rattle.af_enough_law.proofs.TurnLives.{shut_turned}
+
+-- not all is over while a proxy is away
+pub some_away : (tracks : List TrackKept) (i : ℕ) → i < length tracks → is_home (track_at tracks i).holder ≡ false → is_over tracks ≡ false
+some_away [] i low away = absurd (let z : ⊥ = omega (arith, low) in z)
+some_away (s ∷ tracks) zero low away = ap (λ (b : Bool). (s.life.ended && b) && is_over tracks) away ∙ gone s.life.ended (is_over tracks)
+  where
+    gone : (b d : Bool) → ((b && false) && d) ≡ false
+    gone true d = refl
+    gone false d = refl
+some_away (s ∷ tracks) (suc i) low away = and_last (s.life.ended && is_home s.holder) (is_over tracks) (some_away tracks i (omega (arith, low)) away)
+  where
+    and_last : (b d : Bool) → d ≡ false → (b && d) ≡ false
+    and_last true d e = e
+    and_last false d e = refl
+
+-- a draft has nothing of a track that is returning
+pub draft_out : (m : NormalKept) (i slot : ℕ) → IsInOrder m → (track_at m.tracks i).holder ≡ Returning → slot_number (track_at m.tracks i) ≡ slot → IsOut slot i m.draft
+draft_out m i slot order back number = record {
+  free = ap (carries m.draft) (sym number) ∙ (order.sound.drafted i).returning (ap is_returning back);
+  none = λ j low carried same.
+      let o = order.owned j low carried in
+      let at = lent_carried m o.owner order.sound o.lent in
+      let owner : o.owner ≡ i = sym at.1 ∙ ap (λ (n : ℕ). (slot_of m.draft n).track) o.slot_is ∙ same in
+      true≢false (sym o.lent ∙ ap (λ (n : ℕ). is_lent (track_at m.tracks n).holder) owner ∙ ap is_lent back);
+}
+
+module _ (s : Session) (marks : Marks) (scales : All (λ (x : Setting). x.scale ≤ 4096) (setup_of s).settings) (long : length (setup_of s).settings ≡ track_count s) (run : Run) (round : RoundSeen) (legal : LegalRound false s marks run round) (c : SessionCarried s run)
+    (i most total : ℕ) (named : i < track_count s) (lawful : marks.commands i ≡ true) (track : TrackCarried run i most total) (slot : ℕ) (item : FastTrack) (l : LentCarried s run i slot item)
+    (leaves : is_lent (track_at (after_round s run round).normal.tracks i).holder ≡ false) (next : RoundSeen) (legal_next : LegalRound false s marks (after_round s run round) next) where
+  abbrev t : TurnMade s marks run round
+  t = turn_of s marks scales long run round legal c.stands
+
+  pub runs : t.turn.ended ≡ false
+  runs = turn_runs s marks scales long run round legal c.stands
+
+  abbrev after : Run
+  after = after_round s run round
+
+  abbrev turned : NormalKept
+  turned = turn_after (setup_of s) (learnt t.by.outside) run.normal t.turn
+
+  abbrev g : TrackKept
+  g = greeted_in run.normal t.turn i
+
+  pub low_run : i < length run.tracks
+  low_run = let a = c.stands.tracks in omega (arith, a, named)
+
+  pub there : i < length run.normal.tracks
+  there = let a = c.stands.kept in omega (arith, a, named)
+
+  left_by : (b : Bool) → is_lent (if b then Lent else Returning) ≡ false → (b ≡ false) × ((if b then Lent else Returning) ≡ Returning)
+  left_by true e = absurd (true≢false e)
+  left_by false e = (refl, refl)
+
+  -- its proxy is on its way home, and it is not to be heard
+  pub left : (plays (track_at after.normal.tracks i).life ≡ false) × ((track_at after.normal.tracks i).holder ≡ Returning)
+  left =
+      let u : TrackKept = track_at turned.tracks i in
+      let is : u.holder ≡ (if plays u.life then Lent else Returning) = holder_turned (setup_of s) (learnt t.by.outside) run.normal t.turn i there runs ∙ ap (next_holder (plays u.life) (is_some u.slot)) (greeted_lent t.turn.ack run.normal.last (track_at run.normal.tracks i) l.lent) in
+      let b = left_by (plays u.life) (ap is_lent (sym is) ∙ ap (λ (m : NormalKept). is_lent (track_at m.tracks i).holder) (sym t.after) ∙ leaves) in
+      (ap (λ (m : NormalKept). plays (track_at m.tracks i).life) t.after ∙ b.0, ap (λ (m : NormalKept). (track_at m.tracks i).holder) t.after ∙ is ∙ b.1)
+
+  pub slot_turned : (track_at turned.tracks i).slot ≡ Some slot
+  slot_turned = slot_stays (setup_of s) (learnt t.by.outside) run.normal t.turn i there runs (heard_opened track.on.count track.on.told (track_at run.normal.tracks i).life track.on.follows.course l.heard) ∙ l.slot_is
+
+  pub slot_then : (track_at after.normal.tracks i).slot ≡ Some slot
+  slot_then = ap (λ (m : NormalKept). (track_at m.tracks i).slot) t.after ∙ slot_turned
+
+  few : length run.normal.tracks ≤ length (setup_of s).settings
+  few = let a = c.stands.kept in omega (arith, a, long)
+
+  pub there_then : i < length after.normal.tracks
+  there_then = let a = session.stands.kept in omega (arith, a, named)
+    where
+      over : is_over after.normal.tracks ≡ false
+      over = some_away after.normal.tracks i (let a = ap (λ (m : NormalKept). length m.tracks) t.after in let b = turn_len (setup_of s) (learnt t.by.outside) run.normal t.turn in let d = there in omega (arith, a, b, d)) (ap is_home left.1)
+
+      session : SessionCarried s after
+      session = session_carried s marks scales long run round legal c.stands over
+
+  -- the session goes on
+  pub session : SessionCarried s after
+  session = session_carried s marks scales long run round legal c.stands (some_away after.normal.tracks i there_then (ap is_home left.1))
+
+  pub flowing : Flowing s run i slot item
+  flowing = record {
+    there = low_run;
+    some = (let a = ((c.stands.order.sound.slotted i).slot (ap is_some l.slot_is)).0 in let b = ap number_of l.slot_is in omega (arith, a, b));
+    low = l.low;
+    is = ap (λ (x : FastTrack). x.track) l.item_is;
+    states = l.some;
+    last = state_last run.states (cycle_frames s) run.normal.last l.some c.stands.last;
+    plays = l.last;
+    used = l.used;
+    told = l.told;
+    quiet = track.calm.stream;
+    current = c.stands.queue.current;
+    going = c.stands.going;
+    knows = c.states;
+  }
+
+  pub out_then : IsOut slot i after.normal.draft
+  out_then = draft_out after.normal i slot session.stands.order left.1 (ap number_of slot_then)
+
+  -- a state that the turn pushes has nothing of it
+  pub out_pushed : (m : ℕ) (y : FastState) → length run.states < m → state_of after.states m ≡ Some y → IsOut slot i y
+  out_pushed m y above is = by (low_or m (length after.states))
+    where
+      some_is : (x y : FastState) → Some x ≡ Some y → x ≡ y
+      some_is x y e = ap (λ (o : Option FastState). unwrap_or o x) e
+
+      made : PushMade run.normal after.normal t.turn.push
+      made = push_of s marks scales long run round legal c.stands
+
+      by_push : (b : Bool) → is_busy t.turn.push ≡ b → length run.states < length after.states → IsOut slot i after.normal.last
+      by_push true busy more =
+          let same = (made.busy busy).2 in
+          let now = (queue_stands s marks run round legal c.stands.queue).pushed in
+          let before = c.stands.queue.pushed in
+          absurd (let z : ⊥ = omega (arith, same, now, before, more) in z)
+      by_push false pushed more = subst (IsOut slot i) (sym (made.done pushed).1) out_then
+
+      by : (m ≤ length after.states) ⊎ (length after.states < m) → IsOut slot i y
+      by (inr far) = absurd (true≢false (sym (ap is_some is) ∙ ap is_some (state_none after.states m far)))
+      by (inl high) =
+          let count = states_few s marks scales long run round legal c.stands in
+          let at : m ≡ length after.states = omega (arith, above, high, count) in
+          let some : 1 ≤ length after.states = omega (arith, above, high) in
+          let last = state_last after.states (cycle_frames s) after.normal.last some (round_last s marks run round legal c.stands.last) in
+          subst (IsOut slot i) (some_is after.normal.last y (sym last ∙ ap (λ (n : ℕ). state_of after.states n) (sym at) ∙ is)) (by_push (is_busy t.turn.push) refl (omega (arith, above, high)))
+
+  pub keeps : KeepsTo run i
+  keeps = keeps_of run i track.known_stream track.known_commands track.calm
+
+  pub keeps_then : KeepsTo after i
+  keeps_then = keeps_to false s marks run round t i low_run named legal keeps
+
+  pub returning : is_returning (track_at after.normal.tracks i).holder ≡ true
+  returning = ap is_returning left.1
+
+  -- where it missed the meeting it is home after the next round, if it isn't to be heard then
+  pub coming : takes_part s (met_after s run round) i ≡ false → Coming after slot
+  coming none = missed s marks scales long run round legal c i slot item l.last l.low (ap (λ (x : FastTrack). x.track) l.item_is) l.some (state_last run.states (cycle_frames s) run.normal.last l.some c.stands.last) out_then.free (ends_part s (met_after s run round) i ∙ none)
+
+  -- of a track whose life has ended what was done to its stream is told by this round's history or the next one's
+  pub ended_seen : (track_at after.normal.tracks i).life.ended ≡ true → Foreseen (told_at after i).stream
+  ended_seen ended = by (takes_part s (met_after s run round) i) refl
+    where
+      by : (b : Bool) → takes_part s (met_after s run round) i ≡ b → Foreseen (told_at after i).stream
+      by true part = part_seen false s marks run round t i low_run named legal keeps part
+      by false none =
+          let home = greeted_coming s marks scales long after next legal_next session i named slot (coming none) returning (ap number_of slot_then) in
+          let still = ended_then s marks scales long after next legal_next session i named ended in
+          let there = home_then s marks scales long after next legal_next session i named home (silent (track_at (after_round s after next).normal.tracks i).life still) in
+          seen_before s marks scales long after next legal_next session i named keeps_then there
+
+  pub away : is_home g.holder ≡ false
+  away = ap is_home (greeted_lent t.turn.ack run.normal.last (track_at run.normal.tracks i) l.lent)
+
+  -- by such a history the reports say that the server is open
+  pub open_by : Foreseen (told_at after i).stream → FoundOpen s run round i slot item
+  open_by seen = found_open s marks run round i slot item legal flowing out_pushed (turn_leaves s marks run round t i low_run there runs away (ap is_some slot_turned)) seen
+
+  number_g : slot_number g ≡ slot
+  number_g = ap number_of ((greeted_alike t.turn.ack run.normal.last (track_at run.normal.tracks i)).slot ∙ l.slot_is)
+
+  report_open : Foreseen (told_at after i).stream → SaysOpen (slot_reported (learnt t.by.outside) g) item
+  report_open seen =
+      let within = found_within s run round marks false t.turn legal c.stands.stored c.reports t.is runs c.stands.logged in
+      let m : ℕ = max (length (with_calls round run).entries) t.turn.cycle in
+      subst (λ (r : SlotReport). SaysOpen r item)
+      (ap (λ (n : ℕ). report_at (report_of (with_cycles s round.entries (with_calls round run)).reports m).slots n) (sym number_g) ∙ ap (λ (k : Learnt). slot_reported k g) (sym t.sees))
+      ((open_by seen).found m within.0 within.1)
+
+  same_generation : item.generation ≡ g.generation
+  same_generation = ap (λ (x : FastTrack). x.generation) l.item_is ∙ sym (greeted_same t.turn.ack run.normal.last (track_at run.normal.tracks i)).generation
+
+  open_heard : Foreseen (told_at after i).stream → (heard (learnt t.by.outside) i g).known.shut ≡ false
+  open_heard seen = let r = report_open seen in heard_away ((learnt t.by.outside).own i) (slot_reported (learnt t.by.outside) g) g away (r.generation ∙ same_generation) r.unshut
+
+  -- So the turn doesn't hear that its stream is shut: else its life would have ended, and what was done to the stream would be told
+  pub left_open : OpenTurn s marks run round i t
+  left_open = record { low = low_run; named = named; there = there; lawful = lawful; runs = runs; unshut = λ alive. by alive (heard (learnt t.by.outside) i g).known.shut refl }
+    where
+      by : g.life.ended ≡ false → (b : Bool) → (heard (learnt t.by.outside) i g).known.shut ≡ b → (heard (learnt t.by.outside) i g).known.shut ≡ false
+      by alive false is = is
+      by alive true is =
+          let ended = ap (λ (m : NormalKept). (track_at m.tracks i).life.ended) t.after ∙ shut_turned (setup_of s) (learnt t.by.outside) run.normal t.turn i there runs alive is in
+          absurd (true≢false (sym is ∙ open_heard (ended_seen ended)))

@@ -1,0 +1,238 @@
+-- A track whose proxy is lent, and stays so in a round, flows in it, and all that is carried of it is carried on.
+use Rattle.std.proofs.Common.{◌≡◌, ◌⊎◌, inl, inr, ℕ, zero, suc, ◌+◌, ◌≤◌, ◌<◌, ◌==◌, ◌&&◌, ◌||◌, not, if◌then◌else◌, unwrap_or, is_some, Bool, true, false, true≢false, All, Option, Some, List, [], ◌∷◌, ◌++◌, length, length-append, refl, sym, ap, ◌∙◌, subst, arith, eq-eqb}
+use Rattle.std.specs.List.{list_any, range_with_len}
+use Rattle.af_base.specs.declared.report.SlotReport.{SlotReport}
+use Rattle.af_base.specs.declared.state.FastState.{FastState}
+use Rattle.af_base.specs.declared.state.FastTrack.{FastTrack}
+use Rattle.af_base.specs.declared.state.Command.TheVariants.{MixWrite}
+use Rattle.af_base.specs.Log.{slots}
+use Rattle.af_life.specs.declared.kept.Heard.{Heard}
+use Rattle.af_life.specs.declared.kept.Holder.{Holder}
+use Rattle.af_life.specs.declared.kept.Holder.TheVariants.{Home, Lent, Returning}
+use Rattle.af_life.specs.declared.kept.Setting.{Setting}
+use Rattle.af_life.specs.declared.kept.TrackKept.{TrackKept}
+use Rattle.af_life.specs.declared.track.Life.{Life}
+use Rattle.af_life.specs.Heard.{learnt, heard, heard_by, heard_at_home, heard_elsewhere, heard_with, grown, counts_in}
+use Rattle.af_life.specs.Kept.{Setup, NormalKept, track_at, plays, is_home, is_lent, slot_number, number_of, setting_of}
+use Rattle.af_life.specs.declared.state.LifeState.TheVariants.{Absent}
+use Rattle.af_life.specs.State.{is_among}
+use Rattle.af_life.specs.Turn.{turn_after}
+use Rattle.af_model.specs.Cycles.{state_of}
+use Rattle.af_model.specs.Draft.{initial}
+use Rattle.af_model.specs.Journals.{RoundSeen}
+use Rattle.af_model.specs.StateQueue.{slot_of, carries}
+use Rattle.af_runs.specs.Blocks.{Marks, client_list}
+use Rattle.af_runs.specs.Rounds.{LegalRound, after_round}
+use Rattle.af_runs.specs.Runs.{Run, told_at, holds}
+use Rattle.af_runs.specs.Sessions.{Session, track_count, setup_of, cycle_frames}
+use Rattle.af_runs.specs.Told.{state_at}
+use Rattle.af_enough_law.specs.Carried.{SessionCarried}
+use Rattle.af_enough_law.specs.Courses.{Course, absent, idle, playing, stopping, drained, stopped, over}
+use Rattle.af_enough_law.specs.Drafts.{is_busy, PushMade}
+use Rattle.af_enough_law.specs.Ends.{IsInOrder}
+use Rattle.af_enough_law.specs.FastFlows.{Plays, AllStates, LastCarries, IsTold, KnowsReleased, slot_told}
+use Rattle.af_enough_law.specs.Items.{AreItems, item_of}
+use Rattle.af_enough_law.specs.NormalRounds.{TurnMade}
+use Rattle.af_enough_law.proofs.Commanding.{le_cases}
+use Rattle.af_enough_law.proofs.Ends.{order_turn}
+use Rattle.af_enough_law.proofs.FastFound.{state_none}
+use Rattle.af_enough_law.proofs.FastMixes.{state_more}
+use Rattle.af_enough_law.proofs.FastPolls.{round_states, turn_more}
+use Rattle.af_enough_law.proofs.Generations.{attached_stays, lent_plays}
+use Rattle.af_enough_law.proofs.Items.{items_turn}
+use Rattle.af_enough_law.proofs.LastStates.{round_last}
+use Rattle.af_enough_law.proofs.Orders.{lent_carried, mix_is, orders_mix}
+use Rattle.af_enough_law.proofs.RestTurns.{low_or}
+use Rattle.af_enough_law.proofs.SessionRounds.{turn_of, turn_runs, push_of, states_few}
+use Rattle.af_enough_law.proofs.Slots.{IsOpened, slot_stays}
+use Rattle.af_enough_law.proofs.TrackCarried.{TrackCarried}
+use Rattle.af_enough_law.proofs.TrackGoes.{CalmStream}
+
+-- ## The draft
+
+lent_away : (h : Holder) → is_lent h ≡ true → is_home h ≡ false
+lent_away Home e = absurd (true≢false (sym e))
+lent_away Lent e = refl
+lent_away Returning e = absurd (true≢false (sym e))
+
+-- a draft that mixes plays each track that is lent, in its slot and in no other
+pub draft_plays : (c : Setup) (m : NormalKept) (i : ℕ) → IsInOrder m → AreItems c m → is_lent (track_at m.tracks i).holder ≡ true → m.draft.command ≡ MixWrite → Plays (slot_number (track_at m.tracks i)) (item_of c i (track_at m.tracks i)) m.draft
+draft_plays c m i order items lent mixes = record {
+  mixes = mixes;
+  carried = (lent_carried m i order.sound lent).0;
+  is = items i (lent_away (track_at m.tracks i).holder lent);
+  only = λ j low carried same.
+      let o = order.owned j low carried in
+      let at = lent_carried m o.owner order.sound o.lent in
+      let owner : o.owner ≡ i = sym at.1 ∙ ap (λ (n : ℕ). (slot_of m.draft n).track) o.slot_is ∙ same in
+      sym o.slot_is ∙ ap (λ (n : ℕ). slot_number (track_at m.tracks n)) owner;
+}
+
+-- ## The state adopted
+
+pub or_last : (x y : Bool) → y ≡ true → (x || y) ≡ true
+or_last true y e = refl
+or_last false y e = e
+
+any_from : (p : ℕ → Bool) (a n i : ℕ) → a ≤ i → i < a + n → p i ≡ true → list_any p (range_with_len a n) ≡ true
+any_from p a zero i low high is = absurd (let z : ⊥ = omega (arith, low, high) in z)
+any_from p a (suc n) i low high is = by (le_cases a i low) (λ above. any_from p (a + 1) n i (omega (arith, above)) (omega (arith, high)) is)
+  where
+    by : (i ≡ a) ⊎ (a < i) → (a < i → list_any p (range_with_len (a + 1) n) ≡ true) → (p a || list_any p (range_with_len (a + 1) n)) ≡ true
+    by (inl same) later = ap (λ (x : Bool). x || list_any p (range_with_len (a + 1) n)) (ap p (sym same) ∙ is)
+    by (inr above) later = or_last (p a) (list_any p (range_with_len (a + 1) n)) (later above)
+
+-- where the state adopted last plays a track, its proxy takes part in the meeting
+pub holds_by : (s : Session) (run : Run) (track slot : ℕ) (item : FastTrack) (x : FastState) → slot < slots → item.track ≡ track → state_of run.states run.current ≡ Some x → Plays slot item x → holds s run track ≡ true
+holds_by s run track slot item x low is at p =
+    let y : FastState = state_at (cycle_frames s) run.states run.current in
+    let same : y ≡ x = ap (λ (o : Option FastState). unwrap_or o (initial (cycle_frames s))) at in
+    any_from (λ j. carries y j && ((slot_of y j).track == track)) 0 slots slot (omega arith) low
+    (both (carries y slot) ((slot_of y slot).track == track) (ap (λ (z : FastState). carries z slot) same ∙ p.carried) (eq-eqb (slot_of y slot).track track (ap (λ (z : FastState). (slot_of z slot).track) same ∙ ap (λ (t : FastTrack). t.track) p.is ∙ is)))
+  where
+    both : (a b : Bool) → a ≡ true → b ≡ true → (a && b) ≡ true
+    both true b e f = f
+    both false b e f = absurd (true≢false (sym e))
+
+-- the states from a number on, of which at most one was added to these
+pub state_last : (xs : List FastState) (frames : ℕ) (last : FastState) → 1 ≤ length xs → state_at frames xs (length xs) ≡ last → state_of xs (length xs) ≡ Some last
+state_last [] frames last some is = absurd (let z : ⊥ = omega (arith, some) in z)
+state_last (y ∷ []) frames last some is = ap Some is
+state_last (y ∷ z ∷ xs) frames last some is = state_last (z ∷ xs) frames last (omega arith) is
+
+-- ## What is carried of a track whose proxy is lent
+
+-- The proxy is lent, and flows: the states that may be used carry the track, the last report tells of it, and its server knows all that was released
+pub record LentCarried (s : Session) (run : Run) (i slot : ℕ) (item : FastTrack) : Type 0 where
+  -- it has this slot, in which it is told so
+  pub low : slot < slots
+  pub slot_is : (track_at run.normal.tracks i).slot ≡ Some slot
+  pub item_is : item ≡ item_of (setup_of s) i (track_at run.normal.tracks i)
+  pub lent : (track_at run.normal.tracks i).holder ≡ Lent
+  -- it is to be heard
+  pub heard : plays (track_at run.normal.tracks i).life ≡ true
+  -- a state was pushed, and the last one plays it
+  pub some : 1 ≤ length run.states
+  pub last : Plays slot item run.normal.last
+  -- the state used last carries it, and the last report tells of it
+  pub used : LastCarries run slot
+  pub told : IsTold run i slot item
+  -- at the last meeting its server learnt of all that was released
+  pub released : KnowsReleased (told_at run i).stream
+  -- the lists of its stream have the calm history of the last meeting
+  pub history : CalmStream (told_at run i).stream.shape (client_list (told_at run i).stream) []
+
+-- no more looks that showed frames were heard of than the last report tells
+abbrev pub HeardOf : Run → ℕ → ℕ → Type 0
+HeardOf run i slot = (track_at run.normal.tracks i).reported.fulls + (track_at run.normal.tracks i).reported.partials ≤ (slot_told run slot).fulls + (slot_told run slot).partials
+
+-- a life on its course that is to be heard was opened
+pub heard_opened : (count told : ℕ) (l : Life) → Course count told l → plays l ≡ true → IsOpened l
+heard_opened count told l absent heard = absurd (true≢false (sym heard))
+heard_opened count told l idle heard = absurd (true≢false (sym heard))
+heard_opened count told l (playing retries a b) heard = refl
+heard_opened count told l (stopping retries) heard = refl
+heard_opened count told l (drained retries) heard = refl
+heard_opened count told l (stopped retries) heard = refl
+heard_opened count told l (over life e) heard = ap (λ (b : Bool). not b && is_among (Absent ∷ []) life.state) e
+
+pub heard_away : (h : Heard) (r : SlotReport) (g : TrackKept) → is_home g.holder ≡ false → r.generation ≡ g.generation → r.shut ≡ false → (heard_by h r g).known.shut ≡ false
+unfolding heard_by
+heard_away h r g away same unshut =
+    ap (λ (b : Bool). (if b then heard_at_home h g else heard_elsewhere r g).known.shut) away
+    ∙ ap (λ (b : Bool). (if b then heard_with r.consumed r.flush_seen r.shut (grown (counts_in r) g.reported) else g.at_attach).known.shut) (eq-eqb r.generation g.generation same) ∙ unshut
+
+module _ (s : Session) (marks : Marks) (scales : All (λ (x : Setting). x.scale ≤ 4096) (setup_of s).settings) (long : length (setup_of s).settings ≡ track_count s) (run : Run) (round : RoundSeen) (legal : LegalRound false s marks run round) (c : SessionCarried s run)
+    (i most total : ℕ) (named : i < track_count s) (lawful : marks.commands i ≡ true) (track : TrackCarried run i most total) (two : 2 ≤ (track_at run.normal.tracks i).life.retries) (slot : ℕ) (item : FastTrack) (l : LentCarried s run i slot item)
+    (stays : (track_at (after_round s run round).normal.tracks i).holder ≡ Lent) where
+  abbrev t : TurnMade s marks run round
+  t = turn_of s marks scales long run round legal c.stands
+
+  pub runs : t.turn.ended ≡ false
+  runs = turn_runs s marks scales long run round legal c.stands
+
+  abbrev after : Run
+  after = after_round s run round
+
+  abbrev next : NormalKept
+  next = turn_after (setup_of s) (learnt t.by.outside) run.normal t.turn
+
+  pub low_run : i < length run.tracks
+  low_run = let a = c.stands.tracks in omega (arith, a, named)
+
+  pub there : i < length run.normal.tracks
+  there = let a = c.stands.kept in omega (arith, a, named)
+
+  stays_next : (track_at next.tracks i).holder ≡ Lent
+  stays_next = ap (λ (m : NormalKept). (track_at m.tracks i).holder) (sym t.after) ∙ stays
+
+  pub heard_then : plays (track_at next.tracks i).life ≡ true
+  heard_then = lent_plays (setup_of s) (learnt t.by.outside) run.normal t.turn i there runs l.lent stays_next
+
+  pub slot_then : (track_at next.tracks i).slot ≡ Some slot
+  slot_then = slot_stays (setup_of s) (learnt t.by.outside) run.normal t.turn i there runs (heard_opened track.on.count track.on.told (track_at run.normal.tracks i).life track.on.follows.course l.heard) ∙ l.slot_is
+
+  generation_then : (track_at next.tracks i).generation ≡ (track_at run.normal.tracks i).generation
+  generation_then = (attached_stays (setup_of s) (learnt t.by.outside) run.normal t.turn i there runs l.lent).generation
+
+  pub item_then : item ≡ item_of (setup_of s) i (track_at next.tracks i)
+  item_then = l.item_is ∙ ap (λ (g : ℕ). record { generation = g; track = i; mono = (setting_of (setup_of s) i).mono; scale = (setting_of (setup_of s) i).scale }) (sym generation_then)
+
+  few : length run.normal.tracks ≤ length (setup_of s).settings
+  few = let a = c.stands.kept in omega (arith, a, long)
+
+  -- the draft after the turn plays it
+  draft_then : Plays slot item next.draft
+  draft_then =
+      let order : IsInOrder next = order_turn (setup_of s) scales t.by.outside run.normal t.turn few runs (t.by.legal.goes_on runs) c.stands.order in
+      let items : AreItems (setup_of s) next = items_turn (setup_of s) scales (learnt t.by.outside) run.normal t.turn few c.stands.order.sound c.stands.items in
+      let mixes : next.draft.command ≡ MixWrite = mix_is next.draft.command (orders_mix (setup_of s) (learnt t.by.outside) run.normal t.turn runs c.stands.draft_goes i heard_then) in
+      let p = draft_plays (setup_of s) next i order items (ap is_lent stays_next) mixes in
+      subst (λ (x : FastTrack). Plays slot x next.draft) (sym item_then) (subst (λ (n : ℕ). Plays n (item_of (setup_of s) i (track_at next.tracks i)) next.draft) (ap number_of slot_then) p)
+
+  -- and so does the last state pushed
+  pub last_then : Plays slot item after.normal.last
+  last_then = by (is_busy t.turn.push) refl
+    where
+      made : PushMade run.normal after.normal t.turn.push
+      made = push_of s marks scales long run round legal c.stands
+
+      by : (b : Bool) → is_busy t.turn.push ≡ b → Plays slot item after.normal.last
+      by true busy = subst (Plays slot item) (sym (made.busy busy).3) l.last
+      by false free = subst (Plays slot item) (sym ((made.done free).1 ∙ ap (λ (m : NormalKept). m.draft) t.after)) draft_then
+
+  -- the states that the round may use play it
+  pub states_play : AllStates run after (Plays slot item)
+  states_play = (l.some, λ k x high is. by k x is (le_cases (length run.states) k high) (within k x is))
+    where
+      first : state_of run.states (length run.states) ≡ Some run.normal.last
+      first = state_last run.states (cycle_frames s) run.normal.last l.some c.stands.last
+
+      whole : after.states ≡ run.states ++ (turn_more s run round).more
+      whole = round_states s run round ∙ (turn_more s run round).whole
+
+      more_states : 1 ≤ length after.states
+      more_states = let a = ap length whole in let b = length-append run.states (turn_more s run round).more in let d = l.some in omega (arith, a, b, d)
+
+      final : state_of after.states (length after.states) ≡ Some after.normal.last
+      final = state_last after.states (cycle_frames s) after.normal.last more_states (round_last s marks run round legal c.stands.last)
+
+      some_is : (x y : FastState) → Some x ≡ Some y → x ≡ y
+      some_is x y e = ap (λ (o : Option FastState). unwrap_or o x) e
+
+      within : (k : ℕ) (x : FastState) → state_of after.states k ≡ Some x → k ≤ length after.states
+      within k x is = by_place (low_or k (length after.states))
+        where
+          by_place : (k ≤ length after.states) ⊎ (length after.states < k) → k ≤ length after.states
+          by_place (inl low) = low
+          by_place (inr far) = absurd (true≢false (sym (ap is_some is) ∙ ap is_some (state_none after.states k far)))
+
+      by : (k : ℕ) (x : FastState) → state_of after.states k ≡ Some x → (k ≡ length run.states) ⊎ (length run.states < k) → k ≤ length after.states → Plays slot item x
+      by k x is (inl same) high =
+          let at : state_of after.states k ≡ Some run.normal.last =
+          ap (λ (xs : List FastState). state_of xs k) whole ∙ ap (λ (n : ℕ). state_of (run.states ++ (turn_more s run round).more) n) same ∙ state_more run.states (turn_more s run round).more (length run.states) (omega arith) ∙ first in
+          subst (Plays slot item) (some_is run.normal.last x (sym at ∙ is)) l.last
+      by k x is (inr above) high =
+          let count = states_few s marks scales long run round legal c.stands in
+          let at : k ≡ length after.states = omega (arith, above, high, count) in
+          subst (Plays slot item) (some_is after.normal.last x (sym final ∙ ap (λ (n : ℕ). state_of after.states n) (sym at) ∙ is)) last_then

@@ -1,0 +1,133 @@
+-- A proxy that missed the meeting after the round in which it was detached comes home in the next one: what was done to its stream in the one is told by the history of the other.
+use Rattle.std.proofs.Common.{◌≡◌, ◌⊎◌, inl, inr, ℕ, ◌≤◌, ◌<◌, ◌&&◌, if◌then◌else◌, is_some, Bool, true, false, true≢false, All, Some, length, refl, sym, ap, ◌∙◌, subst, arith}
+use Rattle.af_base.specs.declared.state.FastState.{FastState}
+use Rattle.af_base.specs.declared.state.FastTrack.{FastTrack}
+use Rattle.af_base.specs.Log.{slots}
+use Rattle.af_life.specs.declared.kept.Holder.TheVariants.{Home, Lent}
+use Rattle.af_life.specs.declared.kept.Setting.{Setting}
+use Rattle.af_life.specs.declared.kept.TrackKept.{TrackKept}
+use Rattle.af_life.specs.Heard.{learnt}
+use Rattle.af_life.specs.Kept.{NormalKept, track_at, plays, is_home, is_returning, slot_number}
+use Rattle.af_life.specs.Turn.{turn_after}
+use Rattle.af_model.specs.Cycles.{state_of}
+use Rattle.af_model.specs.Journals.{RoundSeen}
+use Rattle.af_model.specs.StateQueue.{carries}
+use Rattle.af_runs.specs.Blocks.{Marks}
+use Rattle.af_runs.specs.Rounds.{LegalRound, after_round}
+use Rattle.af_runs.specs.Runs.{Run, told_at, takes_part, holds}
+use Rattle.af_runs.specs.Sessions.{Session, track_count, setup_of}
+use Rattle.af_enough_law.specs.Acks.{KnowsAcked}
+use Rattle.af_enough_law.specs.Carried.{SessionCarried}
+use Rattle.af_enough_law.specs.Drafts.{next_holder, is_busy, PushMade}
+use Rattle.af_enough_law.specs.FastFlows.{Plays}
+use Rattle.af_enough_law.specs.NormalRounds.{TurnMade}
+use Rattle.af_enough_law.proofs.Acks.{turn_sees_ack}
+use Rattle.af_enough_law.proofs.Commanding.{le_cases}
+use Rattle.af_enough_law.proofs.Drafts.{holder_turned}
+use Rattle.af_enough_law.proofs.Ends.{over_stays, silent}
+use Rattle.af_enough_law.proofs.EntryCounts.{round_high}
+use Rattle.af_enough_law.proofs.FastFlows.{Later, later_both}
+use Rattle.af_enough_law.proofs.FastMixes.{state_more}
+use Rattle.af_enough_law.proofs.FastPolls.{round_states, turn_more}
+use Rattle.af_enough_law.proofs.FastRounds.{over}
+use Rattle.af_enough_law.proofs.Following.{greeted_in}
+use Rattle.af_enough_law.proofs.Foreseen.{Foreseen, KeepsTo, part_seen, seen_earlier}
+use Rattle.af_enough_law.proofs.HomeRounds.{home_part}
+use Rattle.af_enough_law.proofs.LentRounds.{holds_by, or_last}
+use Rattle.af_enough_law.proofs.Orders.{come}
+use Rattle.af_enough_law.proofs.QueueRounds.{acks_states, knows_by, queue_stands}
+use Rattle.af_enough_law.proofs.SessionRounds.{turn_of, turn_runs, push_of, states_few}
+
+-- a stream block only grows in a round
+pub round_later : (s : Session) (run : Run) (round : RoundSeen) (i : ℕ) → i < length run.tracks → Later (told_at run i).stream (told_at (after_round s run round) i).stream
+round_later s run round i low =
+    let o = over s run round i low in
+    subst (Later (told_at run i).stream) (sym o.whole)
+    (later_both _ _ _ o.calls.is_later (later_both _ _ _ o.early (later_both _ _ _ o.turn (later_both _ _ _ o.late o.meeting.is_later))))
+
+-- the last state that was pushed is known to be acknowledged, and has nothing in the slot
+pub record Coming (run : Run) (slot : ℕ) : Type 0 where
+  pub acked : KnowsAcked run
+  pub free : carries run.normal.last slot ≡ false
+
+module _ (s : Session) (marks : Marks) (scales : All (λ (x : Setting). x.scale ≤ 4096) (setup_of s).settings) (long : length (setup_of s).settings ≡ track_count s) (run : Run) (round : RoundSeen) (legal : LegalRound false s marks run round) (c : SessionCarried s run) (i slot : ℕ) (item : FastTrack) (plays_last : Plays slot item run.normal.last) (low : slot < slots) (is_track : item.track ≡ i) (some : 1 ≤ length run.states) (last : state_of run.states (length run.states) ≡ Some run.normal.last) where
+  abbrev after : Run
+  after = after_round s run round
+
+  -- where the state used before the round is still the one adopted last, its proxy takes part in the meeting
+  pub held_on : after.current ≡ length run.states → takes_part s after i ≡ true
+  held_on at =
+      let whole = round_states s run round ∙ (turn_more s run round).whole in
+      let is : state_of after.states after.current ≡ Some run.normal.last =
+      ap (λ (n : ℕ). state_of after.states n) at ∙ ap (λ l. state_of l (length run.states)) whole ∙ state_more run.states (turn_more s run round).more (length run.states) (omega arith) ∙ last in
+      or_last (is_home (track_at after.normal.tracks i).holder) (holds s after i) (holds_by s after i slot item run.normal.last low is_track is plays_last)
+
+  -- else the state that the turn pushed was adopted: it is known to be acknowledged
+  pub passed : carries after.normal.draft slot ≡ false → length run.states < after.current → Coming after slot
+  passed free above =
+      let high = round_high s run round c.stands.adopted in
+      let count = states_few s marks scales long run round legal c.stands in
+      record {
+        acked = knows_by s marks run round legal c.stands.queue (omega (arith, above, high, count));
+        free = by_push (is_busy (turn_of s marks scales long run round legal c.stands).turn.push) refl (omega (arith, above, high));
+      }
+    where
+      made : PushMade run.normal after.normal (turn_of s marks scales long run round legal c.stands).turn.push
+      made = push_of s marks scales long run round legal c.stands
+
+      by_push : (b : Bool) → is_busy (turn_of s marks scales long run round legal c.stands).turn.push ≡ b → length run.states < length after.states → carries after.normal.last slot ≡ false
+      by_push true busy more =
+          let same = (made.busy busy).2 in
+          let now = (queue_stands s marks run round legal c.stands.queue).pushed in
+          let before = c.stands.queue.pushed in
+          absurd (let z : ⊥ = omega (arith, same, now, before, more) in z)
+      by_push false pushed more = ap (λ (x : FastState). carries x slot) (made.done pushed).1 ∙ free
+
+  pub missed : carries after.normal.draft slot ≡ false → takes_part s after i ≡ false → Coming after slot
+  missed free none = by (le_cases (length run.states) after.current (acks_states s marks run round legal c.stands.going c.states))
+    where
+      by : (after.current ≡ length run.states) ⊎ (length run.states < after.current) → Coming after slot
+      by (inl at) = absurd (true≢false (sym (held_on at) ∙ none))
+      by (inr above) = passed free above
+
+-- ## The next round
+
+module _ (s : Session) (marks : Marks) (scales : All (λ (x : Setting). x.scale ≤ 4096) (setup_of s).settings) (long : length (setup_of s).settings ≡ track_count s) (run : Run) (round : RoundSeen) (legal : LegalRound false s marks run round) (c : SessionCarried s run) (i : ℕ) (named : i < track_count s) where
+  abbrev t : TurnMade s marks run round
+  t = turn_of s marks scales long run round legal c.stands
+
+  there : i < length run.normal.tracks
+  there = let a = c.stands.kept in omega (arith, a, named)
+
+  low : i < length run.tracks
+  low = let a = c.stands.tracks in omega (arith, a, named)
+
+  -- a proxy that is coming is home when its track is served
+  pub greeted_coming : (slot : ℕ) → Coming run slot → is_returning (track_at run.normal.tracks i).holder ≡ true → slot_number (track_at run.normal.tracks i) ≡ slot → (greeted_in run.normal t.turn i).holder ≡ Home
+  greeted_coming slot h returning number =
+      let ack = (turn_sees_ack false s marks run round legal c.stands.runs h.acked t).0 in
+      come run.normal.last (track_at run.normal.tracks i) t.turn.ack ack returning (ap (λ (n : ℕ). carries run.normal.last n) number ∙ h.free)
+
+  -- and stays there, where the track is not to be heard after the turn
+  pub home_then : (greeted_in run.normal t.turn i).holder ≡ Home → plays (track_at (after_round s run round).normal.tracks i).life ≡ false → is_home (track_at (after_round s run round).normal.tracks i).holder ≡ true
+  home_then home silent =
+      let u : TrackKept = track_at (turn_after (setup_of s) (learnt t.by.outside) run.normal t.turn).tracks i in
+      let still : plays u.life ≡ false = ap (λ (m : NormalKept). plays (track_at m.tracks i).life) (sym t.after) ∙ silent in
+      ap (λ (m : NormalKept). is_home (track_at m.tracks i).holder) t.after
+      ∙ ap is_home (holder_turned (setup_of s) (learnt t.by.outside) run.normal t.turn i there (turn_runs s marks scales long run round legal c.stands) ∙ (λ j. next_holder (still j) (is_some u.slot) (home j)))
+      ∙ stays (is_some u.slot)
+    where
+      stays : (b : Bool) → is_home (if b && false then Lent else Home) ≡ true
+      stays true = refl
+      stays false = refl
+
+  -- then what was done to its stream before is told by the history of this round
+  pub seen_home : KeepsTo run i → is_home (track_at (after_round s run round).normal.tracks i).holder ≡ true → Foreseen (told_at (after_round s run round) i).stream
+  seen_home keeps home = part_seen false s marks run round t i low named legal keeps (home_part s run round i home)
+
+  pub seen_before : KeepsTo run i → is_home (track_at (after_round s run round).normal.tracks i).holder ≡ true → Foreseen (told_at run i).stream
+  seen_before keeps home = seen_earlier (told_at run i).stream (told_at (after_round s run round) i).stream (round_later s run round i low) (seen_home keeps home)
+
+  -- a life that has ended stays so
+  pub ended_then : (track_at run.normal.tracks i).life.ended ≡ true → (track_at (after_round s run round).normal.tracks i).life.ended ≡ true
+  ended_then over = ap (λ (m : NormalKept). (track_at m.tracks i).life.ended) t.after ∙ over_stays (setup_of s) (learnt t.by.outside) run.normal t.turn i there (turn_runs s marks scales long run round legal c.stands) over

@@ -1,0 +1,37 @@
+-- No journal of an accepted script whose tracks play through, and whose cycles are enough, is that of a run that was cut off.
+use Rattle.std.proofs.Common.{◌≡◌, ℕ, ◌+◌, ◌≤◌, ◌<◌, true, List, length, take, arith}
+use Rattle.af_base.specs.declared.frame.Frame.{Frame}
+use Rattle.af_model.specs.Journals.{JournalData}
+use Rattle.af_script.specs.Data.{ScriptData}
+use Rattle.af_script.specs.Form.{IsScript}
+use Rattle.af_runs.specs.Blocks.{Marks}
+use Rattle.af_runs.specs.LegalRuns.{marks_of, session_of, run_from, IsCutRun}
+use Rattle.af_runs.specs.Runs.{new_run}
+use Rattle.af_runs.specs.Sessions.{Session}
+use Rattle.af_enough.specs.Enough.{enough_rounds, HasEnoughCycles}
+use Rattle.af_enough_law.specs.Ending.{StillGoes}
+use Rattle.af_enough_law.specs.Ends.{AllOver}
+use Rattle.af_enough_law.proofs.LongRuns as long_runs
+use Rattle.af_enough_law.proofs.NearSums.{near_costs}
+use Rattle.af_enough_law.proofs.NotOver.{goes_not_over}
+use Rattle.af_enough_law.proofs.RunBegins.{track_plays}
+use Rattle.af_enough_law.proofs.RunMarks.{run_lawful}
+use Rattle.af_enough_law.proofs.StartDone.{most_of, total_of}
+use Rattle.af_enough_law.proofs.StartFirst.{middle_begins}
+use Rattle.af_enough_law.proofs.StartNever.{start_never}
+
+-- no such run still goes after as many rounds as are enough
+never-going : (script : ScriptData) (files : List (List Frame)) (marks : Marks) (is : IsScript script) (enough : HasEnoughCycles script) (lawful : (i : ℕ) → i < length script.tracks → marks.commands i ≡ true) → StillGoes script files marks → ⊥
+never-going script files marks is enough lawful goes =
+    let s : Session = session_of script files in
+    let costs = near_costs script files 0 is.track_count.0 (track_plays script files 0 is enough.form is.track_count.0) in
+    let count = goes.count in
+    let never : (k : ℕ) → k + 10 ≤ enough_rounds script → AllOver (run_from s (new_run s) (take k goes.rounds)).normal.tracks → ⊥ = λ k few. goes_not_over script files marks is goes k few in
+    start_never script files marks is enough lawful goes.rounds goes.count goes.legal never 7 (omega arith) (most_of s) (total_of s)
+    (middle_begins script files marks is enough.form lawful goes.rounds (omega (arith, count, costs)) goes.legal (λ k few. never k (omega (arith, few, costs))))
+
+-- No run of such a script is cut off
+pub never-cut : (script : ScriptData) (files : List (List Frame)) (j : JournalData) → IsScript script → HasEnoughCycles script → IsCutRun script files j → ⊥
+never-cut script files j is enough cut =
+    let lawful : (i : ℕ) → i < length script.tracks → (marks_of j.rounds).commands i ≡ true = λ i named. run_lawful true true script files (marks_of j.rounds) j.rounds i is enough.form named cut.rounds.rounds in
+    never-going script files (marks_of j.rounds) is enough lawful (long_runs.long script files j enough cut)

@@ -1,0 +1,80 @@
+-- In a run of a script whose tracks play through each block is lawful, by the marks of the whole journal.
+use Rattle.std.proofs.Common.{◌≡◌, ℕ, ◌-◌, ◌<◌, ◌||◌, not, Bool, true, false, MatchBool, List, [], ◌∷◌, length, refl, ap, arith, true≢false}
+use Rattle.std.specs.List.{list_any}
+use Rattle.af_base.specs.declared.event.ClientCall.{ClientCall}
+use Rattle.af_base.specs.declared.event.ClientCall.TheVariants as call
+use Rattle.af_base.specs.declared.frame.Frame.{Frame}
+use Rattle.af_model.specs.Journals.{RoundSeen}
+use Rattle.af_script.specs.Data.{ScriptData}
+use Rattle.af_script.specs.Form.{IsScript}
+use Rattle.af_runs.specs.declared.want.Want.{Want}
+use Rattle.af_runs.specs.Blocks.{Marks}
+use Rattle.af_runs.specs.ClientTurns.{Track, IsWanted, AreCalls, after_call}
+use Rattle.af_runs.specs.LegalRuns.{is_poke_on, is_lawful_block, session_of, LegalRounds}
+use Rattle.af_runs.specs.Rounds.{after_round}
+use Rattle.af_runs.specs.Runs.{Run, new_run, told_at, sides_of, calls_in}
+use Rattle.af_runs.specs.Sessions.{Session, track_count}
+use Rattle.af_enough.specs.Enough.{all_play_through}
+use Rattle.af_enough_law.proofs.Pokeless.{is_plain_want, IsPokelessTrack, poke_not, wanted_plain, call_pokeless}
+use Rattle.af_enough_law.proofs.RunBegins.{new_long, begins_pokeless}
+use Rattle.af_enough_law.proofs.RunTame.{round_pokeless}
+use Rattle.af_enough_law.proofs.RunTracks.{round_long}
+
+-- a plain want isn't answered by a poke on a block
+pub not_on : (on : Bool) (t : Track) (w : Want) (answer : ClientCall) → is_plain_want w ≡ true → IsWanted t w answer → is_poke_on on answer ≡ false
+not_on true t w (call.Put front count) plain made = refl
+not_on true t w (call.Full front) plain made = refl
+not_on true t w (call.Dead flags) plain made = refl
+not_on true t w (call.Corrupt front rear) plain made = refl
+not_on true t w (call.Cleared flags) plain made = refl
+not_on true t w (call.Flush count) plain made = refl
+not_on true t w (call.Gain word) plain made = refl
+not_on true t w (call.Sent front code argument) plain made = refl
+not_on true t w (call.SendFull front) plain made = refl
+not_on true t w (call.SendDead flags) plain made = refl
+not_on true t w (call.SendCorrupt front rear) plain made = refl
+not_on true t w (call.Status word) plain made = refl
+not_on true t w (call.Poke in_command word value) plain made = absurd (poke_not t w in_command word value plain made)
+not_on false t w (call.Put front count) plain made = refl
+not_on false t w (call.Full front) plain made = refl
+not_on false t w (call.Dead flags) plain made = refl
+not_on false t w (call.Corrupt front rear) plain made = refl
+not_on false t w (call.Cleared flags) plain made = refl
+not_on false t w (call.Flush count) plain made = refl
+not_on false t w (call.Gain word) plain made = refl
+not_on false t w (call.Sent front code argument) plain made = refl
+not_on false t w (call.SendFull front) plain made = refl
+not_on false t w (call.SendDead flags) plain made = refl
+not_on false t w (call.SendCorrupt front rear) plain made = refl
+not_on false t w (call.Status word) plain made = refl
+not_on false t w (call.Poke in_command word value) plain made = absurd (poke_not t w in_command word value plain made)
+
+none_or : (a b : Bool) → a ≡ false → b ≡ false → (a || b) ≡ false
+none_or true b h g = absurd (true≢false h)
+none_or false b h g = g
+
+calls_free : (on : Bool) (left : ℕ) (t : Track) (calls : List ClientCall) → IsPokelessTrack t → AreCalls left t calls → list_any (is_poke_on on) calls ≡ false
+calls_free on left t [] h made = refl
+calls_free on left t (answer ∷ calls) h made =
+    none_or (is_poke_on on answer) (list_any (is_poke_on on) calls) (not_on on t made.1 answer (wanted_plain t made.1 h.client made.2) made.3.0)
+    (calls_free on (left - 1) (after_call t answer) calls (call_pokeless t made.1 answer h made.2 made.3) made.4)
+
+turn_free : (on b : Bool) (t : Track) (calls : List ClientCall) → IsPokelessTrack t → MatchBool b (calls ≡ []) (AreCalls 64 t calls) → list_any (is_poke_on on) calls ≡ false
+turn_free on true t calls h legal = ap (list_any (is_poke_on on)) legal
+turn_free on false t calls h legal = calls_free on 64 t calls h legal
+
+-- no round has a poke on a track's blocks
+pub rounds_free : (on cut : Bool) (s : Session) (marks : Marks) (run : Run) (rounds : List RoundSeen) (i : ℕ) → i < length run.tracks → i < track_count s → LegalRounds cut s marks run rounds → IsPokelessTrack (sides_of (told_at run i))
+    → list_any (λ round. list_any (is_poke_on on) (calls_in round i)) rounds ≡ false
+rounds_free on cut s marks run [] i lt there legal h = refl
+rounds_free on cut s marks run (round ∷ rounds) i lt there legal h =
+    none_or (list_any (is_poke_on on) (calls_in round i)) (list_any (λ r. list_any (is_poke_on on) (calls_in r i)) rounds)
+    (turn_free on (told_at run i).client.ended (sides_of (told_at run i)) (calls_in round i) h (legal.0.turns.clients i there))
+    (rounds_free on cut s marks (after_round s run round) rounds i (let long = round_long s run round in omega arith) there legal.1 (round_pokeless s run round cut marks i lt there legal.0 h))
+
+-- so each of its blocks is lawful
+pub run_lawful : (on cut : Bool) (script : ScriptData) (files : List (List Frame)) (marks : Marks) (rounds : List RoundSeen) (i : ℕ) → IsScript script → all_play_through script ≡ true → i < length script.tracks
+    → LegalRounds cut (session_of script files) marks (new_run (session_of script files)) rounds → is_lawful_block on rounds i ≡ true
+run_lawful on cut script files marks rounds i is through lt legal =
+    let s = session_of script files in
+    ap not (rounds_free on cut s marks (new_run s) rounds i (let long = new_long s in omega arith) lt legal (begins_pokeless script files i is through lt))

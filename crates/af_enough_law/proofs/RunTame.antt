@@ -1,0 +1,96 @@
+-- In a run of a script without pokes no block is poked.
+use Rattle.std.proofs.Common.{◌≡◌, inl, inr, ℕ, ◌<◌, Bool, true, false, List, [], ◌∷◌, length, fold, refl, sym, ap, ◌∙◌, subst, arith, Option, Some, None}
+use Rattle.af_base.specs.declared.event.ClientEvent.TheVariants as client
+use Rattle.af_base.specs.Turn.{Turn}
+use Rattle.af_life.specs.Heard.{learnt}
+use Rattle.af_life.specs.Kept.{NormalKept}
+use Rattle.af_life.specs.TurnEvents.{tracks_at, hand_list, stream_list}
+use Rattle.af_model.specs.Cycles.{cycle_events}
+use Rattle.af_model.specs.History.{is_lawful}
+use Rattle.af_model.specs.Journals.{EntrySeen, RoundSeen}
+use Rattle.af_base.specs.Log.{entry_slot}
+use Rattle.af_runs.specs.Blocks.{BlockTold, Marks, client_list, server_list, listed, hand_does}
+use Rattle.af_runs.specs.ClientTurns.{after_call}
+use Rattle.af_runs.specs.Found.{TurnFound, outside_of}
+use Rattle.af_runs.specs.Fronts.{front_of}
+use Rattle.af_runs.specs.LegalRuns.{LegalRounds, run_from}
+use Rattle.af_runs.specs.Rounds.{LegalRound, early_of, late_of, after_turn, found_in, all_played, after_round}
+use Rattle.af_runs.specs.Runs.{Run, TrackTold, told_at, sides_of, called, calls_in, with_calls, with_poll, with_cycle, state_for, slot_for, played, mixed_track, stream_met, takes_part}
+use Rattle.af_runs.specs.Sessions.{Session, cycle_frames, setup_of, track_count}
+use Rattle.af_judge.proofs.BlocksTold.{server-client, hand-client}
+use Rattle.af_enough_law.proofs.FairTurns.{stream_grows}
+use Rattle.af_enough_law.proofs.Pokeless.{IsPokeless, IsPokelessTrack, lawful_append, turn_pokeless}
+use Rattle.af_enough_law.proofs.RunLists.{side_lists, command_lists}
+use Rattle.af_enough_law.proofs.RunTracks.{mixed_by, turned_by, played_track, round_blocks, round_client, round_long, met_track}
+
+-- ## The client's list of a stream block is its client's alone
+
+played_list : (asked : ℕ) (e : EntrySeen) (i : ℕ) (b : BlockTold) → client_list (played asked e i b) ≡ client_list b
+played_list asked e i b = let slot = entry_slot e.entry i in server-client b.told (cycle_events asked (listed b) slot (front_of asked (listed b) slot))
+
+module _ (s : Session) where
+  mixed_if : (e : EntrySeen) (t : TrackTold) (o : Option ℕ) → let u : TrackTold = elim o as (λ o. TrackTold) [ None ↦ t | Some i ↦ record t { stream = played (cycle_frames s) e i t.stream } ] in client_list u.stream ≡ client_list t.stream
+  mixed_if e t None = refl
+  mixed_if e t (Some i) = played_list (cycle_frames s) e i t.stream
+
+  pub mixed_list : (run : Run) (es : List EntrySeen) (i : ℕ) (t : TrackTold) → client_list (mixed_by s run es i t).stream ≡ client_list t.stream
+  unfolding mixed_by
+  mixed_list run [] i t = refl
+  mixed_list run (e ∷ es) i t = let x = state_for s (with_poll s e.entry.state run) e.entry.state in
+      mixed_list (with_cycle s run e) es i (mixed_track s x e i t) ∙ mixed_if e t (slot_for x e.entry i)
+
+  pub turned_list : (found : Turn → TurnFound) (o : Option Turn) (m : NormalKept) (i : ℕ) (t : TrackTold) → client_list (turned_by s found o m i t).stream ≡ client_list t.stream
+  unfolding turned_by
+  turned_list found None m i t = refl
+  turned_list found (Some e) m i t = let o = outside_of (setup_of s) (found e) e in
+      server-client (hand_does (hand_list e i) t.stream).told (stream_list (setup_of s) o e (tracks_at (setup_of s) (learnt o) m e i) i) ∙ hand-client t.stream.told (hand_list e i)
+
+  module _ (run : Run) (round : RoundSeen) where
+    pub played_client_list : (i : ℕ) (t : TrackTold) → client_list (played_track s run round i t).stream ≡ client_list (called (calls_in round i) t).stream
+    unfolding played_track
+    played_client_list i t =
+        let early = mixed_by s (with_calls round run) (early_of run round) i (called (calls_in round i) t) in
+        mixed_list (after_turn s run round) (late_of run round) i (turned_by s (found_in s run round) round.turn run.normal i early)
+        ∙ turned_list (found_in s run round) round.turn run.normal i early ∙ mixed_list (with_calls round run) (early_of run round) i (called (calls_in round i) t)
+
+    -- a meeting adds what was learnt, or nothing
+    met_list : (there hands : Bool) (b : BlockTold) → is_lawful (client_list b) ≡ true → is_lawful (client_list (stream_met there hands b)) ≡ true
+    met_list true true b h = lawful_append (client_list b) (client.Learn (length (server_list b)) ∷ []) h refl
+    met_list true false b h = lawful_append (client_list b) (client.Learn (length (server_list b)) ∷ []) h refl
+    met_list false true b h = h
+    met_list false false b h = h
+
+    lawful_stream : (i : ℕ) → i < length run.tracks → is_lawful (fold after_call (sides_of (told_at run i)) (calls_in round i)).stream.events ≡ true → is_lawful (client_list (told_at (after_round s run round) i).stream) ≡ true
+    lawful_stream i lt h =
+        let t = told_at run i in
+        let calls = calls_in round i in
+        let more = stream_grows (sides_of t) calls in
+        let side = side_lists (fold after_call (sides_of t) calls).stream t.stream more.0 more.1 in
+        let before : is_lawful (client_list (played_track s run round i t).stream) ≡ true = ap is_lawful (played_client_list i t ∙ side.0) ∙ h in
+        ap (λ (b : BlockTold). is_lawful (client_list b)) ((round_blocks s run round i lt).0 ∙ ap (λ (x : TrackTold). x.stream) (met_track s run round i lt))
+        ∙ met_list (takes_part s (all_played s run round) i) (all_played s run round).handed (played_track s run round i t).stream before
+
+    lawful_commands : (i : ℕ) → i < length run.tracks → is_lawful (fold after_call (sides_of (told_at run i)) (calls_in round i)).commands.events ≡ true → is_lawful (client_list (told_at (after_round s run round) i).commands) ≡ true
+    lawful_commands i lt h =
+        let l = command_lists s run round i lt in
+        ap is_lawful l.client ∙ lawful_append l.said (client.Learn (length l.did) ∷ []) (ap is_lawful l.said_is ∙ h) refl
+
+    -- a track that has not poked doesn't in a legal round
+    pub round_pokeless : (cut : Bool) (marks : Marks) (i : ℕ) → i < length run.tracks → i < track_count s → LegalRound cut s marks run round → IsPokelessTrack (sides_of (told_at run i)) → IsPokelessTrack (sides_of (told_at (after_round s run round) i))
+    round_pokeless cut marks i lt there legal h =
+        let next = turn_pokeless (sides_of (told_at run i)) (calls_in round i) h (legal.turns.clients i there) in
+        record {
+          client = elim (round_client s run round i lt) as (λ _. IsPokeless (told_at (after_round s run round) i).client) [
+            | inl still ↦ subst IsPokeless (sym still) next.client
+            | inr over ↦ subst IsPokeless (sym over) (record { due = next.client.due; ops = next.client.ops })
+          ];
+          stream = lawful_stream i lt next.stream;
+          commands = lawful_commands i lt next.commands;
+        }
+
+  -- nor in legal rounds
+  pub rounds_pokeless : (cut : Bool) (marks : Marks) (run : Run) (rounds : List RoundSeen) (i : ℕ) → i < length run.tracks → i < track_count s → LegalRounds cut s marks run rounds → IsPokelessTrack (sides_of (told_at run i))
+      → IsPokelessTrack (sides_of (told_at (run_from s run rounds) i))
+  rounds_pokeless cut marks run [] i lt there legal h = h
+  rounds_pokeless cut marks run (round ∷ rounds) i lt there legal h =
+      rounds_pokeless cut marks (after_round s run round) rounds i (let long = round_long s run round in omega arith) there legal.1 (round_pokeless run round cut marks i lt there legal.0 h)

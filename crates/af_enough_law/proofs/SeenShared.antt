@@ -1,0 +1,207 @@
+-- What was learnt of the queue, the report and the pipe is seen.
+use Rattle.std.proofs.Common.{◌≡◌, ℕ, ◌+◌, List, [], ◌∷◌, ◌++◌, fold, refl, ap, ◌∙◌, arith, Option}
+use Rattle.af_base.specs.declared.event.ClientEvent.{ClientEvent}
+use Rattle.af_base.specs.declared.event.ClientEvent.TheVariants as client
+use Rattle.af_base.specs.declared.event.ServerEvent.{ServerEvent}
+use Rattle.af_base.specs.declared.event.ServerEvent.TheVariants as server
+use Rattle.af_base.specs.declared.report.Report.{Report}
+use Rattle.af_base.specs.declared.state.FastState.{FastState}
+use Rattle.af_model.specs.declared.newest.ReaderEvent.{ReaderEvent}
+use Rattle.af_model.specs.declared.newest.ReaderEvent.TheVariants as reads
+use Rattle.af_model.specs.declared.newest.WriterEvent.{WriterEvent}
+use Rattle.af_model.specs.declared.newest.WriterEvent.TheVariants as writes
+use Rattle.af_model.specs.declared.states.MutatorEvent.{MutatorEvent}
+use Rattle.af_model.specs.declared.states.MutatorEvent.TheVariants as mutator
+use Rattle.af_model.specs.declared.states.ObserverEvent.{ObserverEvent}
+use Rattle.af_model.specs.declared.states.ObserverEvent.TheVariants as observer
+use Rattle.af_model.specs.NewestValue as newest
+use Rattle.af_model.specs.Order.{Event, one, two, ones, twos, after}
+use Rattle.af_model.specs.PipeHistory as piped
+use Rattle.af_model.specs.Point.{wrapped}
+use Rattle.af_model.specs.Reports.{no_report}
+use Rattle.af_model.specs.StateQueue as queued
+use Rattle.af_model.specs.StateQueue.{MutatorPoint, ObserverPoint, QueuePoint, mutator_next, observer_next, mutated, observed}
+use Rattle.af_runs.specs.Told.{Item}
+use Rattle.af_enough_law.specs.Seen.{AckIsSeen, NextIsSeen, stored, LoadIsSeen, put_by, frames_put, taken_by, frames_taken, RoomIsSeen, RearIsSeen}
+use Rattle.af_enough_law.proofs.Standing.{swapped, legal_swapped, next_swapped, sees_first}
+
+-- ## The queue
+
+abbrev Told : Type 0
+Told = Event (MutatorEvent Item) (ObserverEvent Item)
+
+-- each half of a point is what the events of its end leave
+pub mutator_half : (p : QueuePoint Item) (es : List Told) → (after queued.legal queued.next p es).mutator ≡ fold mutator_next p.mutator (ones es)
+mutator_half p [] = refl
+mutator_half p (one e ∷ es) = mutator_half (queued.next p (one e)) es
+mutator_half p (two e ∷ es) = mutator_half (queued.next p (two e)) es
+
+pub observer_half : (p : QueuePoint Item) (es : List Told) → (after queued.legal queued.next p es).observer ≡ fold observer_next p.observer (twos es)
+observer_half p [] = refl
+observer_half p (one e ∷ es) = observer_half (queued.next p (one e)) es
+observer_half p (two e ∷ es) = observer_half (queued.next p (two e)) es
+
+counts_mutator : (m : MutatorPoint Item) (e : MutatorEvent Item) → (mutator_next m e).count ≡ m.count + 1
+counts_mutator m (mutator.Push k x items) = refl
+counts_mutator m (mutator.SawAck a items) = refl
+counts_mutator m (mutator.Learn n) = refl
+
+counts_observer : (o : ObserverPoint Item) (e : ObserverEvent Item) → (observer_next o e).count ≡ o.count + 1
+counts_observer o (observer.SawNext k x items) = refl
+counts_observer o (observer.Ack k items) = refl
+counts_observer o (observer.Learn n) = refl
+
+pub next_seen : (first : FastState) (before behind : List (ObserverEvent Item)) (others : List (MutatorEvent Item)) (k : ℕ) (x : Option FastState) (items : List (Option Item)) → NextIsSeen first before behind others k x items
+next_seen first before behind others k x items h =
+    sees_first queued.legal queued.next (λ p. p.mutator.count) observer.Learn (λ p e. counts_mutator p.mutator e) (λ p e. refl) (λ p n l. l.0)
+    (queued.start first) others before behind (observer.SawNext k x items) (λ front. k ≡ (mutated first front).pushed) refl h
+    (λ es l. l.0 ∙ ap (λ (m : MutatorPoint Item). m.pushed) (mutator_half (queued.start first) es))
+
+-- the same order, told from the other end
+swapped_half : (p : QueuePoint Item) (es : List (Event (ObserverEvent Item) (MutatorEvent Item)))
+    → (after (legal_swapped queued.legal queued.next) (next_swapped queued.legal queued.next) p es).observer ≡ fold observer_next p.observer (ones es)
+swapped_half p [] = refl
+swapped_half p (one e ∷ es) = swapped_half (queued.next p (two e)) es
+swapped_half p (two e ∷ es) = swapped_half (queued.next p (one e)) es
+
+pub ack_seen : (first : FastState) (before behind : List (MutatorEvent Item)) (others : List (ObserverEvent Item)) (a : ℕ) (items : List (Option Item)) → AckIsSeen first before behind others a items
+ack_seen first before behind others a items h =
+    sees_first (legal_swapped queued.legal queued.next) (next_swapped queued.legal queued.next) (λ p. p.observer.count) mutator.Learn (λ p e. counts_observer p.observer e) (λ p e. refl) (λ p n l. l)
+    (queued.start first) others before behind (mutator.SawAck a items) (λ front. a ≡ (observed front).acked) refl (swapped queued.legal queued.next (queued.start first) (before ++ mutator.SawAck a items ∷ behind) others h)
+    (λ es l. l.0 ∙ ap (λ (o : ObserverPoint Item). o.acked) (swapped_half (queued.start first) es))
+
+-- ## The report
+
+writes_counted : (p : newest.CellPoint Report) (e : WriterEvent Report) → (newest.next p (one e)).writes ≡ p.writes + 1
+writes_counted p (writes.Store x) = refl
+writes_counted p (writes.Learn n) = refl
+
+stored_after : (p : newest.CellPoint Report) (es : List (Event (WriterEvent Report) (ReaderEvent Report))) → (after newest.legal newest.next p es).number ≡ p.number + stored (ones es)
+stored_after p [] = omega arith
+stored_after p (one (writes.Store x) ∷ es) = let rest = stored_after (newest.next p (one (writes.Store x))) es in omega arith
+stored_after p (one (writes.Learn n) ∷ es) = let rest = stored_after (newest.next p (one (writes.Learn n))) es in omega arith
+stored_after p (two e ∷ es) = stored_after (newest.next p (two e)) es
+
+pub load_seen : (before behind : List (ReaderEvent Report)) (others : List (WriterEvent Report)) (n : ℕ) (x : Report) → LoadIsSeen before behind others n x
+load_seen before behind others n x h =
+    sees_first newest.legal newest.next (λ p. p.writes) reads.Learn writes_counted (λ p e. refl) (λ p k l. l)
+    (newest.start no_report) others before behind (reads.Load n x) (λ front. n ≡ stored front) refl h
+    (λ es l. let is = l.0 in let now = stored_after (newest.start no_report) es in omega arith)
+
+-- ## The pipe
+
+pub puts_counted : (p : piped.PipePoint) (e : ClientEvent) → (piped.next p (one e)).puts ≡ p.puts + 1
+puts_counted p (client.Release count) = refl
+puts_counted p client.Flush = refl
+puts_counted p (client.SetGain word) = refl
+puts_counted p (client.ClearFlags old) = refl
+puts_counted p (client.SawFlags flags) = refl
+puts_counted p (client.SawFront front) = refl
+puts_counted p (client.SawStatus word) = refl
+puts_counted p (client.Poke word value) = refl
+puts_counted p (client.Learn n) = refl
+
+pub takes_counted : (p : piped.PipePoint) (e : ServerEvent) → (piped.next p (two e)).takes ≡ p.takes + 1
+takes_counted p (server.SawGain word) = refl
+takes_counted p (server.SawFlush flush) = refl
+takes_counted p (server.SawRear rear) = refl
+takes_counted p (server.SawFront front) = refl
+takes_counted p (server.Drop to) = refl
+takes_counted p (server.Take count) = refl
+takes_counted p (server.Tally missing) = refl
+takes_counted p (server.SetFlags bits) = refl
+takes_counted p (server.SetStatus word) = refl
+takes_counted p (server.Learn n) = refl
+
+pub puts_take_none : (p : piped.PipePoint) (e : ClientEvent) → (piped.next p (one e)).takes ≡ p.takes
+puts_take_none p (client.Release count) = refl
+puts_take_none p client.Flush = refl
+puts_take_none p (client.SetGain word) = refl
+puts_take_none p (client.ClearFlags old) = refl
+puts_take_none p (client.SawFlags flags) = refl
+puts_take_none p (client.SawFront front) = refl
+puts_take_none p (client.SawStatus word) = refl
+puts_take_none p (client.Poke word value) = refl
+puts_take_none p (client.Learn n) = refl
+
+pub takes_put_none : (p : piped.PipePoint) (e : ServerEvent) → (piped.next p (two e)).puts ≡ p.puts
+takes_put_none p (server.SawGain word) = refl
+takes_put_none p (server.SawFlush flush) = refl
+takes_put_none p (server.SawRear rear) = refl
+takes_put_none p (server.SawFront front) = refl
+takes_put_none p (server.Drop to) = refl
+takes_put_none p (server.Take count) = refl
+takes_put_none p (server.Tally missing) = refl
+takes_put_none p (server.SetFlags bits) = refl
+takes_put_none p (server.SetStatus word) = refl
+takes_put_none p (server.Learn n) = refl
+
+pub put_more : (p : piped.PipePoint) (e : ClientEvent) → (piped.next p (one e)).put ≡ p.put + put_by e
+put_more p (client.Release count) = refl
+put_more p client.Flush = omega arith
+put_more p (client.SetGain word) = omega arith
+put_more p (client.ClearFlags old) = omega arith
+put_more p (client.SawFlags flags) = omega arith
+put_more p (client.SawFront front) = omega arith
+put_more p (client.SawStatus word) = omega arith
+put_more p (client.Poke word value) = omega arith
+put_more p (client.Learn n) = omega arith
+
+pub put_same : (p : piped.PipePoint) (e : ServerEvent) → (piped.next p (two e)).put ≡ p.put
+put_same p (server.SawGain word) = refl
+put_same p (server.SawFlush flush) = refl
+put_same p (server.SawRear rear) = refl
+put_same p (server.SawFront front) = refl
+put_same p (server.Drop to) = refl
+put_same p (server.Take count) = refl
+put_same p (server.Tally missing) = refl
+put_same p (server.SetFlags bits) = refl
+put_same p (server.SetStatus word) = refl
+put_same p (server.Learn n) = refl
+
+pub taken_more : (p : piped.PipePoint) (e : ServerEvent) → (piped.next p (two e)).taken ≡ p.taken + taken_by e
+taken_more p (server.SawGain word) = omega arith
+taken_more p (server.SawFlush flush) = omega arith
+taken_more p (server.SawRear rear) = omega arith
+taken_more p (server.SawFront front) = omega arith
+taken_more p (server.Drop to) = omega arith
+taken_more p (server.Take count) = refl
+taken_more p (server.Tally missing) = omega arith
+taken_more p (server.SetFlags bits) = omega arith
+taken_more p (server.SetStatus word) = omega arith
+taken_more p (server.Learn n) = omega arith
+
+pub taken_same : (p : piped.PipePoint) (e : ClientEvent) → (piped.next p (one e)).taken ≡ p.taken
+taken_same p (client.Release count) = refl
+taken_same p client.Flush = refl
+taken_same p (client.SetGain word) = refl
+taken_same p (client.ClearFlags old) = refl
+taken_same p (client.SawFlags flags) = refl
+taken_same p (client.SawFront front) = refl
+taken_same p (client.SawStatus word) = refl
+taken_same p (client.Poke word value) = refl
+taken_same p (client.Learn n) = refl
+
+module _ (size : ℕ) where
+  pub put_after : (p : piped.PipePoint) (es : List (Event ClientEvent ServerEvent)) → (after (piped.legal size) piped.next p es).put ≡ p.put + frames_put (ones es)
+  put_after p [] = omega arith
+  put_after p (one e ∷ es) = let rest = put_after (piped.next p (one e)) es in let now = put_more p e in omega arith
+  put_after p (two e ∷ es) = let rest = put_after (piped.next p (two e)) es in let now = put_same p e in omega arith
+
+  pub taken_after : (p : piped.PipePoint) (es : List (Event ServerEvent ClientEvent))
+      → (after (legal_swapped (piped.legal size) piped.next) (next_swapped (piped.legal size) piped.next) p es).taken ≡ p.taken + frames_taken (ones es)
+  taken_after p [] = omega arith
+  taken_after p (one e ∷ es) = let rest = taken_after (piped.next p (two e)) es in let now = taken_more p e in omega arith
+  taken_after p (two e ∷ es) = let rest = taken_after (piped.next p (one e)) es in let now = taken_same p e in omega arith
+
+pub rear_seen : (size : ℕ) (before behind : List ServerEvent) (others : List ClientEvent) (rear : ℕ) → RearIsSeen size before behind others rear
+rear_seen size before behind others rear h =
+    sees_first (piped.legal size) piped.next (λ p. p.puts) server.Learn puts_counted takes_put_none (λ p n l. l)
+    piped.start others before behind (server.SawRear rear) (λ seen. rear ≡ wrapped (frames_put seen)) refl h
+    (λ es l. l ∙ ap wrapped (let now = put_after size piped.start es in omega arith))
+
+pub room_seen : (size : ℕ) (before behind : List ClientEvent) (others : List ServerEvent) (front : ℕ) → RoomIsSeen size before behind others front
+room_seen size before behind others front h =
+    sees_first (legal_swapped (piped.legal size) piped.next) (next_swapped (piped.legal size) piped.next) (λ p. p.takes) client.Learn takes_counted puts_take_none (λ p n l. l)
+    piped.start others before behind (client.SawFront front) (λ seen. front ≡ wrapped (frames_taken seen)) refl (swapped (piped.legal size) piped.next piped.start (before ++ client.SawFront front ∷ behind) others h)
+    (λ es l. l.0 ∙ ap wrapped (let now = taken_after size piped.start es in omega arith))

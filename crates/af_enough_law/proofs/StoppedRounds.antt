@@ -1,0 +1,313 @@
+-- A round of a stopped track: its turn doesn't hear that its stream is shut, wherever its proxy is, and leaves the proxy in such a place. What isn't told by the history of this round is told by that of the next one.
+use Rattle.std.proofs.Common.{◌≡◌, ◌⊎◌, inl, inr, ℕ, ◌≤◌, ◌<◌, ◌==◌, unwrap_or, is_some, Bool, true, false, true≢false, All, Option, Some, ◌++◌, length, length-append, refl, sym, ap, ◌∙◌, subst, arith}
+use Rattle.std.specs.Prelude.{max}
+use Rattle.af_base.specs.declared.report.SlotReport.{SlotReport}
+use Rattle.af_base.specs.declared.state.FastState.{FastState}
+use Rattle.af_base.specs.declared.state.FastTrack.{FastTrack}
+use Rattle.af_base.specs.Log.{slots}
+use Rattle.af_life.specs.declared.kept.Holder.TheVariants.{Home, Returning}
+use Rattle.af_life.specs.declared.kept.Setting.{Setting}
+use Rattle.af_life.specs.declared.kept.TrackKept.{TrackKept}
+use Rattle.af_life.specs.Heard.{learnt, heard, slot_reported}
+use Rattle.af_life.specs.Kept.{NormalKept, Learnt, track_at, plays, is_home, is_returning, slot_number, number_of}
+use Rattle.af_life.specs.Turn.{turn_after}
+use Rattle.af_life.proofs.Lives.{turn_len}
+use Rattle.af_model.specs.Cycles.{state_of}
+use Rattle.af_model.specs.Journals.{RoundSeen}
+use Rattle.af_model.specs.Reports.{report_at}
+use Rattle.af_model.specs.StateQueue.{carries}
+use Rattle.af_runs.specs.Blocks.{Marks}
+use Rattle.af_runs.specs.Rounds.{LegalRound, met_after, after_round}
+use Rattle.af_runs.specs.Runs.{Run, told_at, with_calls, with_cycles, report_of, takes_part}
+use Rattle.af_runs.specs.Sessions.{Session, track_count, setup_of, cycle_frames}
+use Rattle.af_enough_law.specs.Acks.{KnowsAcked}
+use Rattle.af_enough_law.specs.Carried.{SessionCarried}
+use Rattle.af_enough_law.specs.Drafts.{next_holder, is_busy, PushMade}
+use Rattle.af_enough_law.specs.Ends.{IsInOrder}
+use Rattle.af_enough_law.specs.FastFlows.{Plays, LastCarries, IsTold, slot_told}
+use Rattle.af_enough_law.specs.NormalRounds.{TurnMade}
+use Rattle.af_enough_law.proofs.Acks.{turn_sees_ack}
+use Rattle.af_enough_law.proofs.CommandsGo.{OpenTurn}
+use Rattle.af_enough_law.proofs.Commanding.{le_cases}
+use Rattle.af_enough_law.proofs.Drafts.{holder_turned}
+use Rattle.af_enough_law.proofs.EndRounds.{order_round}
+use Rattle.af_enough_law.proofs.Ends.{greeted_home, silent}
+use Rattle.af_enough_law.proofs.EntryCounts.{found_within}
+use Rattle.af_enough_law.proofs.FastFound.{state_none}
+use Rattle.af_enough_law.proofs.FastMixes.{state_more}
+use Rattle.af_enough_law.proofs.FastPolls.{round_states, turn_more}
+use Rattle.af_enough_law.proofs.FastRounds.{ends_part}
+use Rattle.af_enough_law.proofs.Following.{greeted_in, greeted_alike}
+use Rattle.af_enough_law.proofs.Foreseen.{Foreseen, KeepsTo, keeps_to, part_seen, seen_earlier}
+use Rattle.af_enough_law.proofs.Generations.{greeted_same, attached_away}
+use Rattle.af_enough_law.proofs.LastStates.{round_last}
+use Rattle.af_enough_law.proofs.LeftEntries.{IsOut, SaysOpen}
+use Rattle.af_enough_law.proofs.LeftFound.{Flowing, FoundOpen, found_open}
+use Rattle.af_enough_law.proofs.LeftRounds.{some_away, draft_out}
+use Rattle.af_enough_law.proofs.LentRounds.{heard_away, state_last}
+use Rattle.af_enough_law.proofs.LentTurns.{turn_leaves}
+use Rattle.af_enough_law.proofs.Lookahead.{Coming, missed, greeted_coming, home_then, seen_before, ended_then, round_later}
+use Rattle.af_enough_law.proofs.QueueRounds.{queue_stands}
+use Rattle.af_enough_law.proofs.RestTurns.{low_or}
+use Rattle.af_enough_law.proofs.SessionRounds.{turn_of, turn_runs, push_of, states_few, session_carried}
+use Rattle.af_enough_law.proofs.Slots.{course_opened, slot_stays}
+use Rattle.af_enough_law.proofs.StoppedPlaces.{Place, at_home, comes, waits, unpushed, home_is, greeted_or, greeted_stays}
+use Rattle.af_enough_law.proofs.StoppedReports.{AllOut, SameSlot, slot_untouched}
+use Rattle.af_enough_law.proofs.StoppedTracks.{StoppedCarried, home_open}
+use Rattle.af_enough_law.proofs.TurnLives.{shut_turned}
+
+not_zero : (n : ℕ) → 3 ≤ n → (n == 0) ≡ false
+not_zero n some = search (arith, some)
+
+some_is : (x y : FastState) → Some x ≡ Some y → x ≡ y
+some_is x y e = ap (λ (o : Option FastState). unwrap_or o x) e
+
+module _ (s : Session) (marks : Marks) (scales : All (λ (x : Setting). x.scale ≤ 4096) (setup_of s).settings) (long : length (setup_of s).settings ≡ track_count s) (run : Run) (round : RoundSeen) (legal : LegalRound false s marks run round) (c : SessionCarried s run)
+    (i most total : ℕ) (named : i < track_count s) (lawful : marks.commands i ≡ true) (z : StoppedCarried run i most total) (two : 2 ≤ (track_at run.normal.tracks i).life.retries)
+    (slot : ℕ) (item : FastTrack) (low_slot : slot < slots) (item_is : item.track ≡ i) (slot_is : (track_at run.normal.tracks i).slot ≡ Some slot) (next : RoundSeen) (legal_next : LegalRound false s marks (after_round s run round) next) where
+  abbrev t : TurnMade s marks run round
+  t = turn_of s marks scales long run round legal c.stands
+
+  abbrev after : Run
+  after = after_round s run round
+
+  abbrev g : TrackKept
+  g = greeted_in run.normal t.turn i
+
+  abbrev n : ℕ
+  n = length run.states
+
+  runs : t.turn.ended ≡ false
+  runs = turn_runs s marks scales long run round legal c.stands
+
+  low : i < length run.tracks
+  low = let a = c.stands.tracks in omega (arith, a, named)
+
+  there : i < length run.normal.tracks
+  there = let a = c.stands.kept in omega (arith, a, named)
+
+  few : length run.normal.tracks ≤ length (setup_of s).settings
+  few = let a = c.stands.kept in omega (arith, a, long)
+
+  order_then : IsInOrder after.normal
+  order_then = order_round s marks scales run round legal c.stands.runs t runs few c.stands.order
+
+  some_slot : 0 < slot
+  some_slot = let a = ((c.stands.order.sound.slotted i).slot (ap is_some slot_is)).0 in let b = ap number_of slot_is in omega (arith, a, b)
+
+  slot_turned : (track_at (turn_after (setup_of s) (learnt t.by.outside) run.normal t.turn).tracks i).slot ≡ Some slot
+  slot_turned = slot_stays (setup_of s) (learnt t.by.outside) run.normal t.turn i there runs (course_opened z.on.count z.on.told (track_at run.normal.tracks i).life z.on.follows.course (not_zero z.on.told z.told)) ∙ slot_is
+
+  -- its slot stays
+  pub stopped_slot : (track_at after.normal.tracks i).slot ≡ Some slot
+  stopped_slot = ap (λ (m : NormalKept). (track_at m.tracks i).slot) t.after ∙ slot_turned
+
+  number_g : slot_number g ≡ slot
+  number_g = ap number_of ((greeted_alike t.turn.ack run.normal.last (track_at run.normal.tracks i)).slot ∙ slot_is)
+
+  made : PushMade run.normal after.normal t.turn.push
+  made = push_of s marks scales long run round legal c.stands
+
+  first : 1 ≤ n → state_of run.states n ≡ Some run.normal.last
+  first some = state_last run.states (cycle_frames s) run.normal.last some c.stands.last
+
+  -- ## A proxy that stays away
+
+  module _ (back : g.holder ≡ Returning) where
+    away : is_home g.holder ≡ false
+    away = ap is_home back
+
+    back_then : (track_at after.normal.tracks i).holder ≡ Returning
+    back_then = let u : TrackKept = track_at (turn_after (setup_of s) (learnt t.by.outside) run.normal t.turn).tracks i in
+        ap (λ (m : NormalKept). (track_at m.tracks i).holder) t.after ∙ holder_turned (setup_of s) (learnt t.by.outside) run.normal t.turn i there runs ∙ ap (next_holder (plays u.life) (is_some u.slot)) back
+
+    out_then : IsOut slot i after.normal.draft
+    out_then = draft_out after.normal i slot order_then back_then (ap number_of stopped_slot)
+
+    generation_then : item.generation ≡ (track_at run.normal.tracks i).generation → item.generation ≡ (track_at after.normal.tracks i).generation
+    generation_then same = same ∙ sym (attached_away (setup_of s) (learnt t.by.outside) run.normal t.turn i there runs away).generation ∙ ap (λ (m : NormalKept). (track_at m.tracks i).generation) (sym t.after)
+
+    same_g : item.generation ≡ (track_at run.normal.tracks i).generation → item.generation ≡ g.generation
+    same_g same = same ∙ sym (greeted_same t.turn.ack run.normal.last (track_at run.normal.tracks i)).generation
+
+    -- what the turn pushes has nothing of the track
+    pushed_out : (m : ℕ) (y : FastState) → n < m → state_of after.states m ≡ Some y → IsOut slot i y
+    pushed_out m y above is = by (low_or m (length after.states))
+      where
+        by_push : (b : Bool) → is_busy t.turn.push ≡ b → n < length after.states → IsOut slot i after.normal.last
+        by_push true busy more =
+            let same = (made.busy busy).2 in
+            let now = (queue_stands s marks run round legal c.stands.queue).pushed in
+            let before = c.stands.queue.pushed in
+            absurd (let z : ⊥ = omega (arith, same, now, before, more) in z)
+        by_push false pushed more = subst (IsOut slot i) (sym (made.done pushed).1) out_then
+
+        by : (m ≤ length after.states) ⊎ (length after.states < m) → IsOut slot i y
+        by (inr far) = absurd (true≢false (sym (ap is_some is) ∙ ap is_some (state_none after.states m far)))
+        by (inl high) =
+            let count = states_few s marks scales long run round legal c.stands in
+            let at : m ≡ length after.states = omega (arith, above, high, count) in
+            let some : 1 ≤ length after.states = omega (arith, above, high) in
+            let last = state_last after.states (cycle_frames s) after.normal.last some (round_last s marks run round legal c.stands.last) in
+            subst (IsOut slot i) (some_is after.normal.last y (sym last ∙ ap (λ (m : ℕ). state_of after.states m) (sym at) ∙ is)) (by_push (is_busy t.turn.push) refl (omega (arith, above, high)))
+
+    last_out : IsOut slot i run.normal.last → IsOut slot i after.normal.last
+    last_out out = by (is_busy t.turn.push) refl
+      where
+        by : (b : Bool) → is_busy t.turn.push ≡ b → IsOut slot i after.normal.last
+        by true busy = subst (IsOut slot i) (sym (made.busy busy).3) out
+        by false free = subst (IsOut slot i) (sym (made.done free).1) out_then
+
+    more_states : 1 ≤ n → 1 ≤ length after.states
+    more_states some = let a = ap length (round_states s run round ∙ (turn_more s run round).whole) in let b = length-append run.states (turn_more s run round).more in omega (arith, a, b, some)
+
+    -- ## Where the last state has nothing of it
+
+    module _ (same : item.generation ≡ (track_at run.normal.tracks i).generation) (some : 1 ≤ n) (out : IsOut slot i run.normal.last) (says : SaysOpen (slot_told run slot) item) where
+      all_before : AllOut slot i n run
+      all_before m y high is = by (le_cases n m high)
+        where
+          by : (m ≡ n) ⊎ (n < m) → IsOut slot i y
+          by (inl at) = subst (IsOut slot i) (some_is run.normal.last y (sym (first some) ∙ ap (state_of run.states) (sym at) ∙ is)) out
+          by (inr above) = absurd (true≢false (sym (ap is_some is) ∙ ap is_some (state_none run.states m above)))
+
+      all_after : AllOut slot i n after
+      all_after m y high is = by (le_cases n m high)
+        where
+          whole : after.states ≡ run.states ++ (turn_more s run round).more
+          whole = round_states s run round ∙ (turn_more s run round).whole
+
+          by : (m ≡ n) ⊎ (n < m) → IsOut slot i y
+          by (inl at) =
+              let there : state_of after.states n ≡ Some run.normal.last = ap (λ l. state_of l n) whole ∙ state_more run.states (turn_more s run round).more n (omega arith) ∙ first some in
+              subst (IsOut slot i) (some_is run.normal.last y (sym there ∙ ap (state_of after.states) (sym at) ∙ is)) out
+          by (inr above) = pushed_out m y above is
+
+      kept : SameSlot s run round slot
+      kept = slot_untouched s marks run round i slot legal c.stands.going c.states some_slot low_slot some all_after all_before
+
+      report : slot_reported (learnt t.by.outside) g ≡ slot_told run slot
+      report =
+          let within = found_within s run round marks false t.turn legal c.stands.stored c.reports t.is runs c.stands.logged in
+          let m : ℕ = max (length (with_calls round run).entries) t.turn.cycle in
+          ap (λ (k : Learnt). slot_reported k g) t.sees
+          ∙ ap (λ (j : ℕ). report_at (report_of (with_cycles s round.entries (with_calls round run)).reports m).slots j) number_g ∙ kept.found m within.0 within.1
+
+      waits_open : OpenTurn s marks run round i t
+      waits_open = record {
+        low = low;
+        named = named;
+        there = there;
+        lawful = lawful;
+        runs = runs;
+        unshut = λ alive. heard_away ((learnt t.by.outside).own i) (slot_reported (learnt t.by.outside) g) g away (ap (λ (r : SlotReport). r.generation) report ∙ says.generation ∙ same_g same) (ap (λ (r : SlotReport). r.shut) report ∙ says.unshut);
+      }
+
+      waits_then : Place s after i slot item
+      waits_then = waits back_then (generation_then same) (more_states some) (last_out out) (subst (λ (r : SlotReport). SaysOpen r item) (sym kept.last) says)
+
+    -- ## Where the last state still carries it, and is known to be acknowledged
+
+    module _ (same : item.generation ≡ (track_at run.normal.tracks i).generation) (acked : KnowsAcked run) (some : 1 ≤ n) (last : Plays slot item run.normal.last) (used : LastCarries run slot) (told : IsTold run i slot item) where
+      free : is_busy t.turn.push ≡ false
+      free = (turn_sees_ack false s marks run round legal c.stands.runs acked t).1 runs
+
+      keeps : KeepsTo run i
+      keeps = record { few = z.few; spelled = z.commands.spelled; pokeless = z.commands.pokeless; flushless = z.commands.flushless }
+
+      keeps_then : KeepsTo after i
+      keeps_then = keeps_to false s marks run round t i low named legal keeps
+
+      there_then : i < length after.normal.tracks
+      there_then = let a = ap (λ (m : NormalKept). length m.tracks) t.after in let b = turn_len (setup_of s) (learnt t.by.outside) run.normal t.turn in let d = there in omega (arith, a, b, d)
+
+      session : SessionCarried s after
+      session = session_carried s marks scales long run round legal c.stands (some_away after.normal.tracks i there_then (ap is_home back_then))
+
+      flowing : Foreseen (told_at after i).stream → Flowing s run i slot item
+      flowing seen = record {
+        there = low;
+        some = some_slot;
+        low = low_slot;
+        is = item_is;
+        states = some;
+        last = first some;
+        plays = last;
+        used = used;
+        told = told;
+        quiet = z.quiet (seen_earlier (told_at run i).stream (told_at after i).stream (round_later s run round i low) seen);
+        current = c.stands.queue.current;
+        going = c.stands.going;
+        knows = c.states;
+      }
+
+      missing : takes_part s (met_after s run round) i ≡ false → Coming after slot
+      missing none = record { acked = (missed_by none).acked; free = ap (λ (x : FastState). carries x slot) (made.done free).1 ∙ out_then.free }
+        where
+          missed_by : takes_part s (met_after s run round) i ≡ false → Coming after slot
+          missed_by none = missed s marks scales long run round legal c i slot item last low_slot item_is some (first some) out_then.free (ends_part s (met_after s run round) i ∙ none)
+
+      ended_seen : (track_at after.normal.tracks i).life.ended ≡ true → Foreseen (told_at after i).stream
+      ended_seen ended = by (takes_part s (met_after s run round) i) refl
+        where
+          by : (b : Bool) → takes_part s (met_after s run round) i ≡ b → Foreseen (told_at after i).stream
+          by true part = part_seen false s marks run round t i low named legal keeps part
+          by false none =
+              let home = greeted_coming s marks scales long after next legal_next session i named slot (missing none) (ap is_returning back_then) (ap number_of stopped_slot) in
+              let still = ended_then s marks scales long after next legal_next session i named ended in
+              seen_before s marks scales long after next legal_next session i named keeps_then (home_then s marks scales long after next legal_next session i named home (silent (track_at (after_round s after next).normal.tracks i).life still))
+
+      open_by : Foreseen (told_at after i).stream → FoundOpen s run round i slot item
+      open_by seen = found_open s marks run round i slot item legal (flowing seen) pushed_out (turn_leaves s marks run round t i low there runs away (ap is_some slot_turned)) seen
+
+      report_open : Foreseen (told_at after i).stream → SaysOpen (slot_reported (learnt t.by.outside) g) item
+      report_open seen =
+          let within = found_within s run round marks false t.turn legal c.stands.stored c.reports t.is runs c.stands.logged in
+          let m : ℕ = max (length (with_calls round run).entries) t.turn.cycle in
+          subst (λ (r : SlotReport). SaysOpen r item)
+          (ap (λ (j : ℕ). report_at (report_of (with_cycles s round.entries (with_calls round run)).reports m).slots j) (sym number_g) ∙ ap (λ (k : Learnt). slot_reported k g) (sym t.sees))
+          ((open_by seen).found m within.0 within.1)
+
+      unpushed_open : OpenTurn s marks run round i t
+      unpushed_open = record { low = low; named = named; there = there; lawful = lawful; runs = runs; unshut = λ alive. by alive (heard (learnt t.by.outside) i g).known.shut refl }
+        where
+          heard_open : Foreseen (told_at after i).stream → (heard (learnt t.by.outside) i g).known.shut ≡ false
+          heard_open seen = let r = report_open seen in heard_away ((learnt t.by.outside).own i) (slot_reported (learnt t.by.outside) g) g away (r.generation ∙ same_g same) r.unshut
+
+          by : g.life.ended ≡ false → (b : Bool) → (heard (learnt t.by.outside) i g).known.shut ≡ b → (heard (learnt t.by.outside) i g).known.shut ≡ false
+          by alive false is = is
+          by alive true is =
+              let ended = ap (λ (m : NormalKept). (track_at m.tracks i).life.ended) t.after ∙ shut_turned (setup_of s) (learnt t.by.outside) run.normal t.turn i there runs alive is in
+              absurd (true≢false (sym is ∙ heard_open (ended_seen ended)))
+
+      unpushed_then : Place s after i slot item
+      unpushed_then = by (takes_part s (met_after s run round) i) refl
+        where
+          by : (b : Bool) → takes_part s (met_after s run round) i ≡ b → Place s after i slot item
+          by true part = waits back_then (generation_then same) (more_states some) (subst (IsOut slot i) (sym (made.done free).1) out_then) (open_by (part_seen false s marks run round t i low named legal keeps part)).last
+          by false none = comes back_then (missing none)
+
+  -- ## All places
+
+  -- what a round makes of a place: the turn doesn't hear that the stream is shut, and leaves the proxy in a place
+  pub record PlaceGone : Type 0 where
+    pub turn : OpenTurn s marks run round i t
+    pub place : plays (track_at after.normal.tracks i).life ≡ false → Place s after i slot item
+
+  home_gone : g.holder ≡ Home → PlaceGone
+  home_gone home = record {
+    turn = home_open s marks scales long run round legal c i most total named lawful z two home;
+    place = λ out. at_home (home_is (track_at after.normal.tracks i).holder (home_then s marks scales long run round legal c i named home out));
+  }
+
+  pub place_gone : Place s run i slot item → PlaceGone
+  place_gone (at_home home) = home_gone (home_is g.holder (greeted_home t.turn.ack run.normal.last (track_at run.normal.tracks i) (ap is_home home)))
+  place_gone (comes back coming) = home_gone (greeted_coming s marks scales long run round legal c i named slot coming (ap is_returning back) (ap number_of slot_is))
+  place_gone (waits back same some out says) = by (greeted_or t.turn.ack run.normal.last (track_at run.normal.tracks i) back)
+    where
+      by : (g.holder ≡ Home) ⊎ (g.holder ≡ Returning) → PlaceGone
+      by (inl home) = home_gone home
+      by (inr away) = record { turn = waits_open away same some out says; place = λ silent. waits_then away same some out says }
+  place_gone (unpushed back same acked some last used told) =
+      let away : g.holder ≡ Returning = greeted_stays t.turn.ack run.normal.last (track_at run.normal.tracks i) (ap (carries run.normal.last) (ap number_of slot_is) ∙ last.carried) ∙ back in
+      record { turn = unpushed_open away same acked some last used told; place = λ silent. unpushed_then away same acked some last used told }

@@ -1,0 +1,82 @@
+-- A turn that leaves no track to be heard puts nothing into the pipe.
+use Rattle.std.proofs.Common.{◌≡◌, ℕ, zero, suc, ◌&&◌, ◌||◌, not, nat_le, Bool, true, false, true≢false, List, [], ◌∷◌, length, map, filter, is_some, if◌then◌else◌, refl, sym, ap, ◌∙◌, arith}
+use Rattle.std.specs.List.{range_with_len, list_any}
+use Rattle.af_base.specs.Turn.{Turn, TakeSeen}
+use Rattle.af_life.specs.declared.kept.TrackKept.{TrackKept}
+use Rattle.af_life.specs.Heard.{learnt}
+use Rattle.af_life.specs.Kept.{Setup, asked as buffer, NormalKept, Learnt, track_at, plays}
+use Rattle.af_life.specs.Plays.{is_mixed_here, mixed_here, tracks_due, put_by}
+use Rattle.af_life.specs.Turn.{after_edits, turn_after}
+use Rattle.af_judge.proofs.NormalKept.{goes_on_so}
+use Rattle.af_judge.proofs.TurnEdits.{due_after}
+use Rattle.af_model.specs.Journals.{RoundSeen}
+use Rattle.af_runs.specs.Blocks.{Marks}
+use Rattle.af_runs.specs.Rounds.{after_round}
+use Rattle.af_runs.specs.Runs.{Run}
+use Rattle.af_runs.specs.Sessions.{Session, setup_of}
+use Rattle.af_enough_law.specs.Ends.{AllOver}
+use Rattle.af_enough_law.specs.NormalRounds.{TurnMade}
+use Rattle.af_enough_law.specs.PipeFlows.{put_in}
+use Rattle.af_enough_law.proofs.Ends.{silent}
+
+-- some track is to be heard
+abbrev pub some_heard : List TrackKept → Bool
+some_heard tracks = list_any (λ (s : TrackKept). plays s.life) tracks
+
+-- ## Tracks
+
+or_none : (a b : Bool) → (a || b) ≡ false → (a ≡ false) × (b ≡ false)
+or_none true b is = absurd (true≢false is)
+or_none false b is = (refl, is)
+
+unheard_at : (tracks : List TrackKept) (i : ℕ) → some_heard tracks ≡ false → plays (track_at tracks i).life ≡ false
+unheard_at [] i none = refl
+unheard_at (s ∷ tracks) zero none = (or_none (plays s.life) (some_heard tracks) none).0
+unheard_at (s ∷ tracks) (suc i) none = unheard_at tracks i (or_none (plays s.life) (some_heard tracks) none).1
+
+-- where every life has ended none is to be heard
+pub over_unheard : (tracks : List TrackKept) → AllOver tracks → some_heard tracks ≡ false
+over_unheard [] over = refl
+over_unheard (s ∷ tracks) over = ap (λ (b : Bool). b || some_heard tracks) (silent s.life (over 0 (omega arith))) ∙ over_unheard tracks (λ i lt. over (suc i) (omega (arith, lt)))
+
+-- ## What is put
+
+none_of : (p : ℕ → Bool) (xs : List ℕ) → ((i : ℕ) → p i ≡ false) → filter p xs ≡ []
+none_of p [] h = refl
+none_of p (x ∷ xs) h = ap (λ (b : Bool). if b then x ∷ filter p xs else filter p xs) (h x) ∙ none_of p xs h
+
+quiet : (a b : Bool) → b ≡ false → (a && b) ≡ false
+quiet true b is = is
+quiet false b is = refl
+
+no_takes : (takes : List TakeSeen) → map (λ (take : TakeSeen). take.track) takes ≡ [] → takes ≡ []
+no_takes [] is = refl
+no_takes (take ∷ takes) is = let n : suc (length (map (λ (take : TakeSeen). take.track) takes)) ≡ 0 = ap length is in absurd (let z : ⊥ = omega (arith, n) in z)
+
+same_list : (l : List ℕ) (b : Bool) → (if b then l else l) ≡ l
+same_list l true = refl
+same_list l false = refl
+
+unheard_due : (c : Setup) (k : Learnt) (m : NormalKept) (e : Turn) → e.ended ≡ false → some_heard (turn_after c k m e).tracks ≡ false → tracks_due c e.room (after_edits c k e m).tracks ≡ []
+unheard_due c k m e runs none = ap (λ (l : List ℕ). if nat_le (buffer c) e.room then l else []) (sym same ∙ here) ∙ same_list [] (nat_le (buffer c) e.room)
+  where
+    tracks : List TrackKept
+    tracks = (turn_after c k m e).tracks
+
+    same : mixed_here tracks ≡ mixed_here (after_edits c k e m).tracks
+    same = ap (λ (x : NormalKept). mixed_here x.tracks) (goes_on_so c k m e runs) ∙ due_after (buffer c) e.mixes e.push (after_edits c k e m)
+
+    here : mixed_here tracks ≡ []
+    here = none_of (λ i. is_mixed_here (track_at tracks i)) (range_with_len 0 (length tracks)) (λ i. quiet (not (is_some (track_at tracks i).slot)) (plays (track_at tracks i).life) (unheard_at tracks i none))
+
+-- a turn that leaves no track to be heard puts nothing
+pub unheard_puts : (s : Session) (marks : Marks) (run : Run) (round : RoundSeen) (t : TurnMade s marks run round) → (t.turn.ended ≡ false → some_heard (after_round s run round).normal.tracks ≡ false) → put_in s round.turn ≡ 0
+unheard_puts s marks run round t none = ap (put_in s) t.is ∙ by t.turn.ended refl
+  where
+    by : (b : Bool) → t.turn.ended ≡ b → (if t.turn.ended then 0 else length (put_by (setup_of s) t.turn.mixes)) ≡ 0
+    by true is = ap (λ (b : Bool). if b then 0 else length (put_by (setup_of s) t.turn.mixes)) is
+    by false is =
+        let goes = t.by.legal.goes_on is in
+        let unheard = ap (λ (m : NormalKept). some_heard m.tracks) (sym t.after) ∙ none is in
+        let takes : t.turn.mixes ≡ [] = no_takes t.turn.mixes (goes.due ∙ unheard_due (setup_of s) (learnt t.by.outside) run.normal t.turn is unheard) in
+        ap (λ (b : Bool). if b then 0 else length (put_by (setup_of s) t.turn.mixes)) is ∙ ap (λ l. length (put_by (setup_of s) l)) takes

@@ -1,0 +1,41 @@
+-- What is carried of the whole session from round to round, while some track still has a life.
+use Rattle.std.specs.Prelude.{◌≡◌, ◌≤◌, false, length}
+use Rattle.af_life.specs.Edits.{is_exit}
+use Rattle.af_runs.specs.Runs.{Run, fast_ended}
+use Rattle.af_runs.specs.Sessions.{Session, track_count, setup_of, cycle_frames}
+use Rattle.af_runs.specs.Told.{state_at}
+use Rattle.af_enough_law.specs.EndPhases.{NoExits}
+use Rattle.af_enough_law.specs.Ends.{IsInOrder}
+use Rattle.af_enough_law.specs.FastFlows.{KnowsStates, CountsStates, KnowsReports, CountsReports}
+use Rattle.af_enough_law.specs.Items.{AreItems}
+use Rattle.af_enough_law.specs.QueueRounds.{QueueStands}
+
+-- what holds before the first round too
+pub record SessionStands (s : Session) (run : Run) : Type 0 where
+  -- both mixers go on
+  pub runs : run.normal.ended ≡ false
+  pub going : fast_ended run ≡ false
+  -- each track is there, in the run and in the mixer
+  pub tracks : length run.tracks ≡ track_count s
+  pub kept : length run.normal.tracks ≡ track_count s
+  -- the slots, the draft and what is to be pushed fit together, and the draft tells each track that is lent as it is
+  pub order : IsInOrder run.normal
+  pub items : AreItems (setup_of s) run.normal
+  -- the queue's two ends, and the last state pushed
+  pub queue : QueueStands run
+  pub last : state_at (cycle_frames s) run.states (length run.states) ≡ run.normal.last
+  pub counts : CountsStates s run
+  pub stored : CountsReports run
+  -- one report for each entry, and no state is adopted that wasn't pushed
+  pub logged : length run.reports ≡ length run.entries
+  pub adopted : run.current ≤ length run.states
+  -- no Exit was ordered or pushed
+  pub draft_goes : is_exit run.normal.draft ≡ false
+  pub last_goes : is_exit run.normal.last ≡ false
+  pub exits : NoExits run.states
+
+-- and once there was a meeting: each mixer knows what the other one did
+pub record SessionCarried (s : Session) (run : Run) : Type 0 where
+  pub stands : SessionStands s run
+  pub states : KnowsStates s run
+  pub reports : KnowsReports run

@@ -1,0 +1,44 @@
+-- What a turn of the normal mixer makes of one track, step by step.
+use Rattle.std.specs.Prelude.{◌≡◌, ℕ, ◌==◌, Bool, true, false, if◌then◌else◌, List, [], ◌∷◌, Option}
+use Rattle.af_base.specs.declared.state.FastState.{FastState}
+use Rattle.af_base.specs.declared.turn.CommandLook.{CommandLook}
+use Rattle.af_base.specs.Turn.{Turn, TakeSeen}
+use Rattle.af_life.specs.declared.kept.Counts.{Counts}
+use Rattle.af_life.specs.declared.kept.Heard.{Heard}
+use Rattle.af_life.specs.declared.kept.Holder.TheVariants.{Returning}
+use Rattle.af_life.specs.declared.kept.TrackKept.{TrackKept}
+use Rattle.af_life.specs.Edits.{welcomed, must_leave, must_enter, lent_by}
+use Rattle.af_life.specs.Heard.{heard, ready}
+use Rattle.af_life.specs.Kept.{Setup, asked as buffer, NormalKept, Learnt, track_at, track_in}
+use Rattle.af_life.specs.Obeys.{slot_for}
+use Rattle.af_life.specs.Plays.{counted}
+use Rattle.af_life.specs.Serves.{after_part}
+use Rattle.af_life.specs.Turn.{turn_after}
+use Rattle.af_life.specs.TurnEvents.{tracks_at}
+
+-- the track once the acknowledgement was looked at
+abbrev pub greeted : Bool → FastState → TrackKept → TrackKept
+greeted ack last s = if ack then welcomed last s else s
+
+-- and once it was served; one that had ended is passed over
+abbrev pub attended : Option ℕ → Learnt → ℕ → List CommandLook → TrackKept → TrackKept
+attended given k i looks s = if s.life.ended then s else after_part given (heard k i s) looks (ready k i s)
+
+-- what the edits of the draft make of it
+pub data Edited (own : Heard) (s : TrackKept) : TrackKept → Type 0 where
+  stays : must_leave s ≡ false → must_enter s ≡ false → Edited own s s
+  leaves : must_leave s ≡ true → Edited own s (record s { holder = Returning })
+  enters : (draft : FastState) → must_enter s ≡ true → Edited own s (lent_by draft own s)
+
+-- the mixer's own looks at the track i, added to these
+abbrev pub own_after : ℕ → ℕ → Counts → List TakeSeen → Counts
+own_after asked i counts [] = counts
+own_after asked i counts (take ∷ takes) = own_after asked i (if take.track == i then counted asked take.slot.seen counts else counts) takes
+
+-- The track i after a turn: greeted, served, edited, and with the looks of the mix. No other track changes anything of it but the slot that an OPEN gives
+pub record TrackTurned (c : Setup) (k : Learnt) (m : NormalKept) (e : Turn) (i : ℕ) : Type 0 where
+  pub given : Option ℕ
+  pub free : given ≡ slot_for c (tracks_at c k m e i) i
+  pub edited : TrackKept
+  pub edit : Edited (k.own i) (attended given k i (track_in e i).looks (greeted e.ack m.last (track_at m.tracks i))) edited
+  pub after : track_at (turn_after c k m e).tracks i ≡ record edited { own = own_after (buffer c) i edited.own e.mixes }
