@@ -10,7 +10,7 @@ use Rattle.af_player.specs.declared.status.Status.TheVariants as status
 use Rattle.af_player.specs.declared.status.Stop.{Stop}
 use Rattle.af_player.specs.declared.status.Stop.TheVariants.{Over}
 use Rattle.af_player.specs.Asked.{Job, Work, Exact, Session, Rounds, Judge, Traced}
-use Rattle.af_player.specs.Ends.{AsksEnding, EndsAsAsked, EndsWork, IsCutOff, IsEnded, IsOver, LeavesWork, Printed, Prints, PrintsFront, PrintsOwnLine, PrintsSomeLine, Renders, Works, work_limit}
+use Rattle.af_player.specs.Ends.{AsksEnding, EndsAsAsked, EndsWork, IsCutOff, IsEnded, IsOver, LeavesWork, MayBeCut, Printed, Prints, PrintsFront, PrintsOwnLine, PrintsSomeLine, Renders, Works}
 use Rattle.af_player.specs.Line.{ending_text, limit_text}
 use Rattle.af_words.specs.Requests.{Request}
 use Rattle.af_player.specs.Status.{JudgesWords, RefusesWords, ended_status}
@@ -47,12 +47,12 @@ pub Prints-end_cut : (ending : Ending) (asked : Result Job Refusal) (old new : F
 Prints-end_cut ending (Ok job) old new before after ended front = inr (ending_text ending, inr (ending, refl, ended), front)
 Prints-end_cut ending (Err refusal) old new before after ended front = absurd ended
 
-limit_is : (cycles : ℕ) (work : Work) (target : List ℕ) (old new : Files) → EndsWork (Limit cycles) work target old new → work_limit work ≡ Some cycles
-limit_is cycles (Exact bytes line) target old new none = absurd none
-limit_is cycles (Session script files) target old new none = absurd none
-limit_is cycles (Judge script files pcm text) target old new none = absurd none
-limit_is cycles (Rounds script files journal) target old new limited = ap Some (sym limited.0)
-limit_is cycles (Traced script files journal log room) target old new limited = ap Some (sym limited.0)
+may_be_cut : (cycles : ℕ) (work : Work) (target : List ℕ) (old new : Files) → EndsWork (Limit cycles) work target old new → MayBeCut cycles work
+may_be_cut cycles (Exact bytes line) target old new none = absurd none
+may_be_cut cycles (Session script files) target old new none = absurd none
+may_be_cut cycles (Judge script files pcm text) target old new none = absurd none
+may_be_cut cycles (Rounds script files journal) target old new (is, (bytes, text, play, set)) = (is, play.legal.1)
+may_be_cut cycles (Traced script files journal log room) target old new (is, (bytes, text, play, set)) = (is, play.legal.1)
 
 -- ## The status of an ending
 
@@ -74,7 +74,7 @@ JudgesWords-ended (Limit cycles) names some = some
 JudgesWords-ended (Judged refusal) names some = some
 
 refuses : (work : Work) (target : List ℕ) (old new : Files) → (ending : Ending) → EndsWork ending work target old new → EndsAsAsked (ended_status ending) (Ok (record { first = []; target = target; work = work }))
-refuses work target old new (Limit cycles) ended = inr (limit_is cycles work target old new ended)
+refuses work target old new (Limit cycles) ended = inr (may_be_cut cycles work target old new ended)
 refuses (Judge script files pcm text) target old new (Judged refusal) ended = inr ended.0
 refuses (Rounds script files journal) target old new (Judged refusal) none = absurd none
 refuses (Traced script files journal log room) target old new (Judged refusal) none = absurd none
