@@ -1,5 +1,5 @@
 -- A work that is over and isn't done: a play that was cut off at its limit, whose files are both whole, or a judgement that refuses. Its line is printed or not.
-use Rattle.std.proofs.Common.{◌≡◌, ℕ, ◌++◌, List, [], Option, Some, Result, Ok, Err, IsTrue, is_some, false, ap, arith, inl, inr, length, refl, subst, sym}
+use Rattle.std.proofs.Common.{◌≡◌, ℕ, ◌++◌, List, [], Option, Some, Result, Ok, Err, IsTrue, is_some, false, arith, inl, inr, length, refl, subst, sym}
 use Rattle.std.proofs.lemmas.List.{take_all}
 use Rattle.af_io.specs.Files.{Files, SetsFile, LeavesFront}
 use Rattle.af_io.specs.Outputs.{with_files}
