@@ -1,0 +1,110 @@
+-- A script without pokes has one turn run that ends with all stream proxies met.
+use Rattle.std.proofs.Common.{◌≡◌, ℕ, zero, suc, ◌+◌, ◌<◌, true, List, [], ◌∷◌, ◌++◌, length, All, refl, sym, ◌∙◌, subst, arith}
+use Rattle.std.specs.Prelude.{slice_index_or}
+use Rattle.std.proofs.lemmas.List.FromFn.{get_or-map-range_with_len, length-map-range_with_len}
+use Rattle.std.proofs.lemmas.List.Elements.{All-head, All-tail}
+use Rattle.af_base.specs.declared.frame.Frame.{Frame}
+use Rattle.af_model.specs.JournalForm.{IsRound, AreEntries}
+use Rattle.af_model.specs.Journals.{EntrySeen, RoundSeen, JournalData, entries_of, taken_by}
+use Rattle.af_script.specs.Data.{ScriptData}
+use Rattle.af_script.specs.Form.{IsScript}
+use Rattle.af_script.specs.declared.track.TrackSpec.{TrackSpec}
+use Rattle.af_runs.specs.Blocks.{Marks, new_block, IsHistoryAsTold}
+use Rattle.af_runs.specs.LegalRuns.{session_of, marks_of}
+use Rattle.af_runs.specs.Runs.{TrackTold, told_at, no_track, new_run, new_track}
+use Rattle.af_runs.specs.Sessions.{Session, no_spec, track_count, file_words}
+use Rattle.af_runs.specs.TurnRuns.{AreTurns, IsTurnRun}
+use Rattle.af_model.specs.declared.shape.Shape.{Shape}
+use Rattle.af_judge.proofs.StatesRuns.{kept_new}
+use Rattle.af_one_turn_run.specs.Growing.{takes_in}
+use Rattle.af_one_turn_run.specs.MetLast.{AllMetLast}
+use Rattle.af_one_turn_run.specs.NoPokes.{PlainOps, PlainTracks, HasNoPokes}
+use Rattle.af_one_turn_run.proofs.AllTold.{AllForms, all_told}
+use Rattle.af_one_turn_run.proofs.OneFast.{AreForms}
+use Rattle.af_one_turn_run.proofs.OneRounds.{AllTold, one_rounds}
+use Rattle.af_one_turn_run.proofs.PlainRuns.{IsTrackPlain, IsRunPlain, rounds_plain, all_lawful}
+use Rattle.af_one_turn_run.proofs.RoundFollows.{RoundReady}
+use Rattle.af_one_turn_run.proofs.RunFiles.{IsOfFile, AreOfFiles}
+
+-- ## Before the first round
+
+-- each track of a number is new
+new_at : (s : Session) (n : ℕ) → n < track_count s → told_at (new_run s) n ≡ new_track s n
+new_at s n low = get_or-map-range_with_len (new_track s) 0 (track_count s) n n no_track low (omega arith)
+
+new_long : (s : Session) → length (new_run s).tracks ≡ track_count s
+new_long s = length-map-range_with_len (new_track s) 0 (track_count s)
+
+-- a block on which nothing was done has its history as told
+new_history : (k : Shape) → IsHistoryAsTold (new_block k)
+new_history k = (record { order = []; legal = tt; client_is = refl; server_is = refl; hand_is = refl; released_is = omega arith; taken_is = refl }, refl)
+
+new_ready : (s : Session) → RoundReady s (track_count s) (new_run s)
+new_ready s = record {
+  tracks = new_long s;
+  count = refl;
+  kept = kept_new s;
+  counted = λ n low. subst (λ (t : TrackTold). length t.stream.taken ≡ takes_in t.stream.told) (sym (new_at s n low)) refl;
+  commands = λ n low. subst (λ (t : TrackTold). IsHistoryAsTold t.commands) (sym (new_at s n low)) (new_history _);
+}
+
+new_files : (s : Session) → AreOfFiles s (new_run s)
+new_files s n low = subst (IsOfFile (file_words s n)) (sym (new_at s n (let l = new_long s in omega (arith, l, low)))) (record { file_is = refl; first = refl })
+
+plain_at : (tracks : List TrackSpec) (n : ℕ) → PlainTracks tracks → PlainOps (slice_index_or tracks n no_spec).ops
+plain_at [] n h = tt
+plain_at (track ∷ tracks) zero h = h.0
+plain_at (track ∷ tracks) (suc n) h = plain_at tracks n h.1
+
+new_plain : (s : Session) → HasNoPokes s.script → IsRunPlain (new_run s)
+new_plain s h n low = subst IsTrackPlain (sym (new_at s n (let l = new_long s in omega (arith, l, low)))) (record { client = record { due = tt; ops = plain_at s.script.tracks n h }; stream = refl; commands = refl })
+
+-- ## The form of a journal
+
+record FormedParts (xs ys : List EntrySeen) : Type 0 where
+  first : AreForms xs
+  place : ℕ
+  rest : AreEntries place ys
+
+formed_parts : (place : ℕ) (xs ys : List EntrySeen) → AreEntries place (xs ++ ys) → FormedParts xs ys
+unfolding taken_by
+formed_parts place [] ys h = record { first = tt; place = place; rest = h }
+formed_parts place (e ∷ xs) ys h = let r = formed_parts (place + length e.frames) xs ys h.3 in record { first = (h.1, h.2, r.first); place = r.place; rest = r.rest }
+
+formed : (s : Session) (form : IsScript s.script) (many : ℕ) (marks : Marks) (rounds : List RoundSeen) (place : ℕ) → All (IsRound many) rounds → AreEntries place (entries_of rounds) → AllForms s form many marks rounds
+formed s form many marks [] place h entries = tt
+formed s form many marks (round ∷ rounds) place h entries =
+    let parts = formed_parts place round.entries (entries_of rounds) entries in
+    (record { form = All-head (IsRound many) round rounds h; entries = parts.first }, formed s form many marks rounds parts.place (All-tail (IsRound many) round rounds h) parts.rest)
+
+-- ## The law
+
+abbrev all_marks : Marks
+all_marks = record { streams = λ n. true; commands = λ n. true }
+
+-- all that is needed of a turn run
+record Shown (script : ScriptData) (files : List (List Frame)) (form : IsScript script) (j : JournalData) : Type 0 where
+  turns : AreTurns (session_of script files) all_marks (new_run (session_of script files)) script.turns j.rounds
+  told : AllTold (session_of script files) form (length script.tracks) (file_words (session_of script files)) (new_run (session_of script files)) script.turns j.rounds
+
+shown : (script : ScriptData) (files : List (List Frame)) (form : IsScript script) (j : JournalData) → HasNoPokes script → IsTurnRun script files j → AllMetLast script files j → Shown script files form j
+shown script files form j plain run met =
+    let s = session_of script files in
+    let many = length script.tracks in
+    let marks = marks_of j.rounds in
+    let forms = formed s form many marks j.rounds 0 (subst (λ n. All (IsRound n) j.rounds) run.tracks run.form.rounds) run.form.entries in
+    let are = rounds_plain s form many marks (new_run s) script.turns j.rounds (new_long s) (new_plain s plain) forms run.turns in
+    record {
+      turns = subst (λ m. AreTurns s m (new_run s) script.turns j.rounds) (all_lawful j.rounds are.0) run.turns;
+      told = all_told s form many marks (new_run s) script.turns j.rounds (new_ready s) (new_files s) forms run.turns are.1 met;
+    }
+
+-- two turn runs of one script without pokes, in each of which each stream proxy takes part in the last meeting, are the same journal
+pub one_turn_run : (script : ScriptData) (files : List (List Frame)) (j k : JournalData) → IsScript script → HasNoPokes script → IsTurnRun script files j → IsTurnRun script files k → AllMetLast script files j → AllMetLast script files k → j ≡ k
+one_turn_run script files j k form plain run run_k met met_k =
+    let s = session_of script files in
+    let h = shown script files form j plain run met in
+    let g = shown script files form k plain run_k met_k in
+    let rounds = one_rounds s form (length script.tracks) (file_words s) all_marks (λ n. refl) (λ n. refl) (new_run s) script.turns j.rounds k.rounds (new_ready s) h.turns g.turns h.told g.told in
+    let tracks : j.tracks ≡ k.tracks = run.tracks ∙ sym run_k.tracks in
+    λ i. let z : JournalData = record { tracks = tracks i; rounds = rounds i } in z

@@ -1,0 +1,23 @@
+-- What a party's events see, one after the other, where no other party does anything between them.
+use Rattle.std.specs.Prelude.{ℕ, fold, List, [], ◌∷◌}
+use Rattle.af_base.specs.declared.event.ClientEvent.{ClientEvent}
+use Rattle.af_base.specs.declared.event.ServerEvent.{ServerEvent}
+use Rattle.af_model.specs.declared.point.TrackPoint.{TrackPoint}
+use Rattle.af_model.specs.Point.{ClientMay, ServerMay, after_client, after_server}
+
+-- the point of a block after some events of its client, and of its server
+abbrev pub after_clients : TrackPoint → List ClientEvent → TrackPoint
+after_clients p events = fold after_client p events
+
+abbrev pub after_servers : TrackPoint → List ServerEvent → TrackPoint
+after_servers p events = fold after_server p events
+
+-- each event of the client is legal where it stands, after so many events of the server
+abbrev pub ClientSees : TrackPoint → ℕ → List ClientEvent → Type 0
+ClientSees p others [] = Unit {0}
+ClientSees p others (e ∷ es) = ClientMay p others e × ClientSees (after_client p e) others es
+
+-- each event of the server is, after so many of the client
+abbrev pub ServerSees : TrackPoint → ℕ → List ServerEvent → Type 0
+ServerSees p others [] = Unit {0}
+ServerSees p others (e ∷ es) = ServerMay p others e × ServerSees (after_server p e) others es

@@ -1,0 +1,19 @@
+-- Blocks that are told in a legal order.
+use Rattle.std.specs.Prelude.{fold, List, ◌∷◌}
+use Rattle.af_model.specs.History.{Moment, IsLegal}
+use Rattle.af_model.specs.Point.{start}
+use Rattle.af_runs.specs.Blocks.{BlockTold}
+use Rattle.af_runs.specs.Runs.{TrackTold}
+
+-- some moments more, the oldest of them first
+abbrev pub told_more : List Moment → List Moment → List Moment
+told_more told moments = fold (λ (sofar : List Moment) (m : Moment). m ∷ sofar) told moments
+
+-- the order in which a block is told is legal
+abbrev pub IsToldLegally : BlockTold → Type 0
+IsToldLegally b = IsLegal (start b.shape) b.told
+
+-- those of both blocks of a track are
+pub record IsTrackLegal (t : TrackTold) : Type 0 where
+  pub stream : IsToldLegally t.stream
+  pub commands : IsToldLegally t.commands
