@@ -13,7 +13,7 @@ mod NewRun
 mod PartiesEnded
 mod FirstFault
 mod RoundFollows
-mod SidesKept
+pub mod SidesKept
 mod RoundEnds
 mod TrackThere
 mod RoundJudged
@@ -34,16 +34,16 @@ mod MixerRounds
 mod PipeDrains
 mod PipeRounds
 mod DropsNoticed
-mod FileReleased
-mod TrackStands
+pub mod FileReleased
+pub mod TrackStands
 mod RunStands
 mod TakenRecorded
 pub mod FatesTold
 pub mod EmptiedTold
 mod CallsUnshut
 mod LooksUnshut
-mod RearsSeen
-mod TrackUnshut
+pub mod RearsSeen
+pub mod TrackUnshut
 mod RunUnshut
 pub mod SparedTold
 mod Sending

@@ -104,6 +104,7 @@ module _ (x y z : NormalState) (o : Outside) (b : BegunBy x y) where
   begun_grows : (c : Setup) (m : NormalKept) (e : Turn) → Grows c m o e y z → Grows c m o e x z
   begun_grows c m e g = record {
     commands = (λ i s is. g.commands i s (ap (λ (w : NormalState). slice_get w.commands i) b.same ∙ is));
+    whole = (λ i s t is. g.whole i s t (ap (λ (w : NormalState). slice_get w.commands i) b.same ∙ is));
     hands = (λ i. g.hands i ∙ ap (λ (es : List HandEvent). es ++ hand_list e i) (b.hands i));
     streams = g.streams;
     reader = (g.reader.0, g.reader.1 ∙ ap (λ (w : NormalState). w.reader.events ++ going e (Load g.reader.0 o.report ∷ [])) b.same);

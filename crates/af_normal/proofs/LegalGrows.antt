@@ -120,6 +120,15 @@ module _ (links : Links) (t : ℕ) (x : NormalState) (ack : Bool) (report : Repo
             (λ j. (same j, sym (ap listed_at part.has_command) j, at_is i j)) part.commanded,
       )
 
+  pub commands_whole : (i : ℕ) (r v : ServerState) → slice_get x.commands i ≡ Some r → slice_get y.commands i ≡ Some v → v.pass.has_hand ≡ r.pass.has_hand
+  commands_whole i r v is is' =
+      let there : slice_get l.commands i ≡ Some r = ap (λ (rs : List ServerState). slice_get rs i) commands_l ∙ is in
+      let lt : i < length l.tracks = (let w = slice_get_within l.commands i r there in let n = (going_l links t x ack report room push y made).tied.sizes.commands_are in omega arith) in
+      let part = (done links t x ack report room push y made).parts i lt in
+      let same : part.command ≡ r = same_proxy part.command r (sym part.has_command ∙ there) in
+      let same' : part.command' ≡ v = same_proxy part.command' v (sym (ap (λ (rs : List ServerState). slice_get rs i) commands_y ∙ part.has_command') ∙ is') in
+      subst (λ (d : ServerState × ServerState). d.1.pass.has_hand ≡ d.0.pass.has_hand) (λ j. (same j, same' j)) part.whole
+
   abbrev Events : Option HandSide → List HandEvent
   Events h = elim h as (λ w. List HandEvent) [ None ↦ [] | Some f ↦ f.part.events ]
 

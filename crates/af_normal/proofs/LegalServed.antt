@@ -45,6 +45,7 @@ pub record Part (c : Setup) (k : Learnt) (x z : Serving) (j : ℕ) (fronts : Lis
   pub has_command' : slice_get z.commands j ≡ Some command'
   pub looks : LegalLooks (listed command) seen.looks fronts
   pub commanded : Adds command (all_command_events (listed command) seen.looks fronts ++ invalid k seen tracks j ++ status_events seen.status) (words_taken seen.looks) command'
+  pub whole : command'.pass.has_hand ≡ command.pass.has_hand
   pub flag : HandSide
   pub has_flag : slice_get x.hands j ≡ Some flag
   pub flag' : HandSide
@@ -68,6 +69,7 @@ still_part c k x z y j fronts seen tracks u p = record {
   has_command' = u.command ∙ p.has_command';
   looks = p.looks;
   commanded = p.commanded;
+  whole = p.whole;
   flag = p.flag;
   has_flag = p.has_flag;
   flag' = p.flag';
@@ -183,6 +185,7 @@ module _ (c : Setup) (k : Learnt) where
             has_command' = u.command ∙ command.1;
             looks = tt;
             commanded = adds_none command.0 (invalid k nothing_seen z.tracks i ++ []) (ap (λ (es : List ServerEvent). es ++ []) none);
+            whole = refl;
             flag = flag.0;
             has_flag = flag.1;
             flag' = flag.0;
@@ -233,6 +236,7 @@ module _ (c : Setup) (k : Learnt) where
             has_command' = get_set_same z.commands i s.command' (slice_get_within z.commands i s.command s.has_command);
             looks = s.attends.looks;
             commanded = subst (λ (es : List ServerEvent). Adds s.command (all_command_events (listed s.command) s.seen.looks s.attends.fronts ++ es ++ status_events s.seen.status) (words_taken s.seen.looks) s.command') (found_is s.seen lives) s.attends.commanded;
+            whole = s.attends.whole;
             flag = s.flag;
             has_flag = sym u.flag ∙ s.has_flag;
             flag' = s.flag';

@@ -91,6 +91,7 @@ module _ (x y : NormalState) (stops : Stops x y) where
       ap (λ (w : NormalState). slice_get w.commands i) stops.leaves ∙ is,
       record { list = sym (append-nil s.pass.part.events); took = sym (append-nil s.pass.part.frames); shape = refl },
     ));
+    whole = (λ i s t is is'. ap (λ (r : ServerState). r.pass.has_hand) (some_same t s (sym is' ∙ ap (λ (w : NormalState). slice_get w.commands i) stops.leaves ∙ is)));
     hands = (λ i. ap (λ (w : NormalState). hand_events w.hands i) stops.leaves ∙ sym (append-nil (hand_events x.hands i)));
     streams = (λ i t is. let there : stream_at x.streams i ≡ Some t = sym (ap (λ (w : NormalState). stream_at w.streams i) stops.leaves) ∙ is in (
       sym (append-nil t.pass.part.events) ∙ ap (λ (o : Option ServerState). (listed_at o).events ++ []) (sym there),

@@ -86,8 +86,8 @@ own_events s look front = if is_some (kept (listed s)).shut then [] else look_ev
 
 -- it showed no command
 pub missed : (s u : ServerState) (look : CommandLook) (front : ℕ) → shows_command look.seen ≡ false → look.code ≡ 0 → look.argument ≡ 0 → LooksBy 2 (listed s) (as_slot look) front
-    → u.pass.part.events ≡ s.pass.part.events ++ own_events s look front → u.pass.part.frames ≡ s.pass.part.frames → u.pass.part.shape ≡ s.pass.part.shape → LooksOnce s look u
-missed s u look front h code argument by list frames shape = record {
+    → u.pass.part.events ≡ s.pass.part.events ++ own_events s look front → u.pass.part.frames ≡ s.pass.part.frames → u.pass.part.shape ≡ s.pass.part.shape → u.pass.has_hand ≡ s.pass.has_hand → LooksOnce s look u
+missed s u look front h code argument by list frames shape hand = record {
   front = front;
   looks = by;
   words = subst (λ (b : Bool). MatchBool b (Unit {0}) ((look.code ≡ 0) × (look.argument ≡ 0))) (sym h) (code, argument);
@@ -95,13 +95,14 @@ missed s u look front h code argument by list frames shape = record {
       ∙ ap (λ (b : Bool). s.pass.part.events ++ (own_events s look front ++ (if b then server.Take 2 ∷ [] else []))) (sym h);
   took = frames ∙ sym (append-nil s.pass.part.frames) ∙ ap (λ (b : Bool). s.pass.part.frames ++ ((if b then look.code ∷ look.argument ∷ [] else []) ++ [])) (sym h);
   shape = shape;
+  hand = hand;
 }
 
 -- its two words were taken
 pub taken : (s u v : ServerState) (look : CommandLook) (front : ℕ) → shows_command look.seen ≡ true → LooksBy 2 (listed s) (as_slot look) front
     → u.pass.part.events ≡ s.pass.part.events ++ own_events s look front → u.pass.part.frames ≡ s.pass.part.frames
-    → v.pass.part.events ≡ u.pass.part.events ++ server.Take 2 ∷ [] → v.pass.part.frames ≡ u.pass.part.frames ++ look.code ∷ look.argument ∷ [] → v.pass.part.shape ≡ s.pass.part.shape → LooksOnce s look v
-taken s u v look front h by list frames took words shape = record {
+    → v.pass.part.events ≡ u.pass.part.events ++ server.Take 2 ∷ [] → v.pass.part.frames ≡ u.pass.part.frames ++ look.code ∷ look.argument ∷ [] → v.pass.part.shape ≡ s.pass.part.shape → v.pass.has_hand ≡ s.pass.has_hand → LooksOnce s look v
+taken s u v look front h by list frames took words shape hand = record {
   front = front;
   looks = by;
   words = subst (λ (b : Bool). MatchBool b (Unit {0}) ((look.code ≡ 0) × (look.argument ≡ 0))) (sym h) tt;
@@ -109,6 +110,7 @@ taken s u v look front h by list frames took words shape = record {
       ∙ ap (λ (b : Bool). s.pass.part.events ++ (own_events s look front ++ (if b then server.Take 2 ∷ [] else []))) (sym h);
   took = words ∙ ap (λ (ws : List ℕ). ws ++ look.code ∷ look.argument ∷ []) frames ∙ ap (λ (b : Bool). s.pass.part.frames ++ ((if b then look.code ∷ look.argument ∷ [] else []) ++ [])) (sym h);
   shape = shape;
+  hand = hand;
 }
 
 -- so many frames were shown

@@ -19,7 +19,7 @@ words-push (l ∷ looks) look = ap (λ (ws : List ℕ). (if shows_command l.seen
     ∙ sym (append_assoc (if shows_command l.seen then l.code ∷ l.argument ∷ [] else []) (words_taken looks) (words_taken (look ∷ [])))
 
 pub begin_made : (s : ServerState) → LooksMade s [] s
-begin_made s = record { fronts = []; legal = tt; list = sym (append-nil s.pass.part.events); took = sym (append-nil s.pass.part.frames); shape = refl }
+begin_made s = record { fronts = []; legal = tt; list = sym (append-nil s.pass.part.events); took = sym (append-nil s.pass.part.frames); shape = refl; hand = refl }
 
 pub push_made : (s t u : ServerState) (looks : List CommandLook) (look : CommandLook) → LooksMade s looks t → LooksOnce t look u → LooksMade s (looks ++ look ∷ []) u
 push_made s t u looks look m o =
@@ -37,6 +37,7 @@ push_made s t u looks look m o =
       took = o.took ∙ ap (λ (ws : List ℕ). ws ++ words_taken (look ∷ [])) m.took ∙ append_assoc s.pass.part.frames (words_taken looks) (words_taken (look ∷ []))
           ∙ ap (λ (ws : List ℕ). s.pass.part.frames ++ ws) (sym (words-push looks look));
       shape = o.shape ∙ m.shape;
+      hand = o.hand ∙ m.hand;
     }
 
 module _ (given : Option ℕ) (flush_seen : ℕ) where

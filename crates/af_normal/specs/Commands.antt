@@ -14,6 +14,7 @@ pub record LooksOnce (s : ServerState) (look : CommandLook) (t : ServerState) : 
   pub list : t.pass.part.events ≡ s.pass.part.events ++ command_events (listed s) look front
   pub took : t.pass.part.frames ≡ s.pass.part.frames ++ words_taken (look ∷ [])
   pub shape : t.pass.part.shape ≡ s.pass.part.shape
+  pub hand : t.pass.has_hand ≡ s.pass.has_hand
 
 -- some looks, each by some front
 pub record LooksMade (s : ServerState) (looks : List CommandLook) (t : ServerState) : Type 0 where
@@ -22,3 +23,4 @@ pub record LooksMade (s : ServerState) (looks : List CommandLook) (t : ServerSta
   pub list : t.pass.part.events ≡ s.pass.part.events ++ all_command_events (listed s) looks fronts
   pub took : t.pass.part.frames ≡ s.pass.part.frames ++ words_taken looks
   pub shape : t.pass.part.shape ≡ s.pass.part.shape
+  pub hand : t.pass.has_hand ≡ s.pass.has_hand

@@ -54,10 +54,11 @@ served_tracks c k m e = (after_tracks c k e (after_ack e.ack m)).tracks
 abbrev pub GoesOnFrom : Listed → List ServerEvent → ServerState → Type 0
 GoesOnFrom s events t = (t.pass.part.events ≡ s.events ++ events) × (t.pass.part.shape ≡ s.shape)
 
--- The list of each party after the turn e, from what m kept and by what the turn saw: the command proxies and the hands of its tracks, the mutator with the items that came by its looks and went by its push, the stream proxies, from the list that each had when it was home, both those that are home afterwards and those that were lent, the reader of the report, and the writing end of the pipe
+-- The list of each party after the turn e, from what m kept and by what the turn saw: the command proxies, which keep theirs, and the hands of its tracks, the mutator with the items that came by its looks and went by its push, the stream proxies, from the list that each had when it was home, both those that are home afterwards and those that were lent, the reader of the report, and the writing end of the pipe
 pub record Grows (c : Setup) (m : NormalKept) (o : Outside) (e : Turn) (x y : NormalState) : Type 0 where
   pub commands : (i : ℕ) (s : ServerState) → slice_get x.commands i ≡ Some s
       → (t : ServerState) × (slice_get y.commands i ≡ Some t) × Adds s (command_list c o e (tracks_at c (learnt o) m e i) i) (words_taken (track_in e i).looks) t
+  pub whole : (i : ℕ) (s t : ServerState) → slice_get x.commands i ≡ Some s → slice_get y.commands i ≡ Some t → t.pass.has_hand ≡ s.pass.has_hand
   pub hands : (i : ℕ) → hand_events y.hands i ≡ hand_events x.hands i ++ hand_list e i
   pub back : List (Option ServerState)
   pub again : List (Option ServerState)

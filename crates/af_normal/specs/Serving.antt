@@ -55,12 +55,13 @@ pub record Serving : Type 0 where
   pub hands : List HandSide
   pub turns : List TrackSeen
 
--- A track's proxies and its hand do their part: h is what was heard of its stream, s the track once that was noted, and seen what the entry holds of it
+-- A track's proxies and its hand do their part: h is what was heard of its stream, s the track once that was noted, and seen what the entry holds of it. The command proxy keeps its hand
 pub record Attends (given : Option ℕ) (h : Heard) (s : TrackKept) (command : ServerState) (stream : Option ServerState) (flag : HandSide) (seen : TrackSeen) (command' : ServerState) (stream' : Option ServerState) (flag' : HandSide) : Type 0 where
   pub fronts : List ℕ
   pub legal : IsServed given h seen s
   pub looks : LegalLooks (listed command) seen.looks fronts
   pub commanded : Adds command (all_command_events (listed command) seen.looks fronts ++ shut_events (is_found_shut h seen.looks) ++ status_events seen.status) (words_taken seen.looks) command'
+  pub whole : command'.pass.has_hand ≡ command.pass.has_hand
   pub streamed : StreamAdds stream (shut_events (is_found_shut h seen.looks)) stream'
   pub disabled : HandAdds flag (disabled_events seen.disabled) flag'
 

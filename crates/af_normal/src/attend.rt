@@ -92,6 +92,7 @@ fn mark<L: Ledger>(server: &mut Server, block: &Block, shut: bool, steps: &mut S
     requires server { IsServerOf block.now server.old }
     ensures server { IsServerOf block.now server.new }
     ensures list { Adds server.old (shut_events shut) [] server.new }
+    ensures whole { server.new.pass.has_hand ≡ server.old.pass.has_hand }
 {
     if shut {
         server.set_flags(block, INVALID, steps);
@@ -124,6 +125,7 @@ fn store_status<L: Ledger>(
     requires server { IsServerOf block.now command.old }
     ensures server { IsServerOf block.now command.new }
     ensures list { Adds command.old (status_events status) [] command.new }
+    ensures whole { command.new.pass.has_hand ≡ command.old.pass.has_hand }
 {
     if let Some(word) = status {
         command.set_status(block, word, steps);

@@ -11,7 +11,7 @@ ghost use Rattle.af_normal.specs.declared.turn.Turn.TheVariants.{Turned, Ended};
 ghost use Rattle.af_life.specs.Kept.{Outside};
 ghost use Rattle.af_normal.specs.LegalTurned.{IsLegal};
 ghost use Rattle.af_normal.specs.Order.{IsGoing, IsInOrder};
-ghost use Rattle.af_normal.specs.TurnMade.{Does, WentOn, answer_of, has_mixed};
+ghost use Rattle.af_normal.specs.TurnMade.{Does, TurnMade, WentOn, answer_of, has_mixed};
 ghost use Rattle.af_normal.specs.Turning.{Begins, Hands, HasHands, HandsTo, HasWhole, Learns};
 
 use crate::mixer::{NormalMixer, TrackHand};
@@ -171,13 +171,14 @@ impl NormalMixer {
 
     /// One turn. The acknowledgement is looked for, and what comes by it comes home; the report is loaded and the pipe's room read; each track has its part; the draft is edited and pushed; and where the pipe has room for a buffer, the tracks without a slot are mixed into it. Where a pushed Exit is seen acknowledged the mixer has ended, and so it has in each turn after that.
     ///
-    /// The turn that its entry tells is a legal one, by what it saw; what the mixer keeps is what that turn leaves; and the list of each of its parties grows by just what the entry tells. It takes no memory and waits for nobody.
+    /// It goes by the steps of a turn, in their order. The turn that its entry tells is a legal one, by what it saw; what the mixer keeps is what that turn leaves; and the list of each of its parties grows by just what the entry tells. It takes no memory and waits for nobody.
     pub fn turn<L: Ledger>(&mut self, links: &Links<'_>, steps: &mut Steps<L>) -> Turn
         requires order { IsInOrder links.now self.old }
         requires few { self.old.turns < 131072 }
         ensures order { IsInOrder links.now self.new }
         ensures turns { self.new.turns ≡ self.old.turns + 1 }
         ensures answer { result ≡ answer_of (turn_of self.new.entry) }
+        ensures made { TurnMade result self.old self.new }
         ensures legal { (o : Outside) × IsLegal o self.old self.new }
     {
         self.begin();

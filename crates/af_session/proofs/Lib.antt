@@ -1,69 +1,69 @@
-mod EndsMeet
-mod MetAway
-mod MetSlots
-mod MetSpot
-mod MetStays
-mod MetTracks
-mod FastAdds
-mod FastChains
+pub mod EndsMeet
+pub mod MetAway
+pub mod MetSlots
+pub mod MetSpot
+pub mod MetStays
+pub mod MetTracks
+pub mod FastAdds
+pub mod FastChains
 pub mod Sizes
 pub mod NewLines
 pub mod NewWork
 pub mod MoreTracks
 pub mod Begins
 pub mod Ready
-mod ClientRounds
-mod NormalRounds
-mod MapMore
+pub mod ClientRounds
+pub mod NormalRounds
+pub mod MapMore
 pub mod RunMore
 pub mod Outgoing
 pub mod FirstRound
-mod NotedCalls
-mod RoundTold
-mod LogGoes
-mod RoundForms
-mod JournalSound
-mod NotedRounds
-mod FilesGiven
+pub mod NotedCalls
+pub mod RoundTold
+pub mod LogGoes
+pub mod RoundForms
+pub mod JournalSound
+pub mod NotedRounds
+pub mod FilesGiven
 pub mod AloneTurns
 pub mod Zips
 pub mod ReadyOfAll
 pub mod NotedOfAll
-mod Following
-mod FollowingRounds
+pub mod Following
+pub mod FollowingRounds
 pub mod NotedTurns
-mod ShownWhole
-mod Quiet
-mod PushedRuns
-mod LastExit
-mod ExitSeen
-mod RoundsLeft
-mod RunOfAll
-mod RoundsOfAll
-mod GoingOn
-mod PlayAnswers
-mod ClientsSpelled
-mod RunSpelled
-mod RunPushed
-mod NeverOlder
-mod OpenCalls
-mod OpenLooks
-mod OneTake
-mod MetOpen
-mod SparedTurns
-mod SparedRounds
-mod SparedOfAll
-mod QueueSeen
-mod QueueSteps
-mod Leads
-mod NormalSteps
-mod EntrySpared
-mod SparedCycles
-mod SparedFast
-mod SparedEntries
-mod Spared
-mod LogNotes
-mod ScribeTurns
-mod LogRounds
-mod LogMeets
-mod LogEnds
+pub mod ShownWhole
+pub mod Quiet
+pub mod PushedRuns
+pub mod LastExit
+pub mod ExitSeen
+pub mod RoundsLeft
+pub mod RunOfAll
+pub mod RoundsOfAll
+pub mod GoingOn
+pub mod PlayAnswers
+pub mod ClientsSpelled
+pub mod RunSpelled
+pub mod RunPushed
+pub mod NeverOlder
+pub mod OpenCalls
+pub mod OpenLooks
+pub mod OneTake
+pub mod MetOpen
+pub mod SparedTurns
+pub mod SparedRounds
+pub mod SparedOfAll
+pub mod QueueSeen
+pub mod QueueSteps
+pub mod Leads
+pub mod NormalSteps
+pub mod EntrySpared
+pub mod SparedCycles
+pub mod SparedFast
+pub mod SparedEntries
+pub mod Spared
+pub mod LogNotes
+pub mod ScribeTurns
+pub mod LogRounds
+pub mod LogMeets
+pub mod LogEnds

@@ -6,6 +6,7 @@ use Rattle.af_life.specs.Kept.{Outside}
 use Rattle.af_model.specs.Journals.{RoundNoted}
 use Rattle.af_normal.specs.LegalTurned.{IsLegal}
 use Rattle.af_normal.specs.State.{NormalState}
+use Rattle.af_normal.specs.TurnMade.{TurnMade, answer_of}
 use Rattle.af_script.specs.declared.op.TurnSpec.TheVariants as spec
 use Rattle.af_session.specs.FastTurns.{IsFastTurn}
 use Rattle.af_session.specs.Rounds.{Given, Turns, fast_round, normal_round, still_round}
@@ -18,8 +19,8 @@ of_false : (P Q : Type 0) (b : Bool) → b ≡ false → Q → MatchBool b P Q
 of_false P Q b is q = subst (λ (x : Bool). MatchBool x P Q) (sym is) q
 
 -- the normal mixer goes on
-pub goes_on : (g : Given) (s : SessionState) (m : NormalState) → s.normal.ended ≡ false → (o : Outside) → IsLegal o s.normal m → (r : RoundNoted) × Turns g spec.Normal s r [] (record s { normal = m })
-goes_on g s m going o legal = (normal_round s (turn_of m.entry), (refl, of_false _ _ s.normal.ended going (turn_of m.entry, refl, record { outside = o; legal = legal; told = refl; leaves = refl })))
+pub goes_on : (g : Given) (s : SessionState) (m : NormalState) → s.normal.ended ≡ false → (o : Outside) → IsLegal o s.normal m → TurnMade (answer_of (turn_of m.entry)) s.normal m → (r : RoundNoted) × Turns g spec.Normal s r [] (record s { normal = m })
+goes_on g s m going o legal made = (normal_round s (turn_of m.entry), (refl, of_false _ _ s.normal.ended going (turn_of m.entry, refl, record { outside = o; legal = legal; told = refl; made = made; leaves = refl })))
 
 -- it has ended
 pub stays_ended : (g : Given) (s : SessionState) → s.normal.ended ≡ true → (r : RoundNoted) × Turns g spec.Normal s r [] s

@@ -11,9 +11,9 @@ use Rattle.af_fast.specs.Mixing.{Adopts, MixesOnce}
 use Rattle.af_session.specs.Met.{Met}
 use Rattle.af_tally.specs.Sound.{Grows, IsMixed}
 use Rattle.af_runs.specs.Pcm.{written}
-use Rattle.af_session.specs.Together.{SessionState}
+use Rattle.af_session.specs.Together.{AreTogether, SessionState, StayTogether}
 
--- One cycle among the parties: the fast mixer polls, all meet, and it mixes into a buffer, in order all the while. Else nothing changes
+-- One cycle among the parties: the fast mixer polls, all meet, and it mixes into a buffer, in order and together all the while. Else nothing changes
 pub record IsCycle (s : SessionState) (out : List Frame) (answer : Cycle) (s' : SessionState) (out' : List Frame) : Type 0 where
   pub polled : MixerState
   pub met : SessionState
@@ -23,6 +23,8 @@ pub record IsCycle (s : SessionState) (out : List Frame) (answer : Cycle) (s' : 
   pub sizes : (s'.fast.frames ≡ met.fast.frames) × (s'.fast.cycles ≡ met.fast.cycles)
   pub others : s' ≡ record met { fast = s'.fast }
   pub order : IsFastInOrder polled × IsFastInOrder met.fast × IsFastInOrder s'.fast
+  pub together : StayTogether s (record s { fast = polled }) met
+  pub mixed : AreTogether together.links s'
 
 -- the same with some buffer that has the frames of a cycle, and the bytes of what was mixed
 pub record WritesCycle (s : SessionState) (answer : Cycle) (bytes : List ℕ) (s' : SessionState) : Type 0 where

@@ -1,6 +1,7 @@
 -- What a session is before its first turn.
 use Rattle.std.specs.Prelude.{◌≡◌, ℕ, ◌*◌, [], length, map}
 use Rattle.af_cblk.specs.Rule.{new_client, new_server}
+use Rattle.af_cblk.specs.Shape.{IsShape}
 use Rattle.af_model.specs.Draft.{initial}
 use Rattle.af_server.specs.Order.{ServerState}
 use Rattle.af_stateq.specs.Mutates.{Mutates, IsNewMutator}
@@ -43,6 +44,7 @@ pub record AreNewEnds (frames normal : ℕ) (shared : SharedState) (e : EndState
   pub observer : IsNewObserver names (initial frames) e.observer × InOrder stream_fits e.observer
   pub reports : (e.reader.events ≡ []) × (e.writer.events ≡ [])
   pub pipe : (shared.pipe.shape.frames ≡ 4 * (normal * frames)) × (shared.pipe.shape.base ≡ 0) × (shared.pipe.shape.wrap ≡ 0)
+  pub shape : IsShape shared.pipe.shape
   pub from : (e.from.pass.part ≡ new_client shared.pipe.shape) × (e.from.room ≡ 4 * (normal * frames))
   pub to : (e.to.pass.part ≡ new_server shared.pipe.shape) × (e.to.shown ≡ 0)
 

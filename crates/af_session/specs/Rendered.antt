@@ -5,6 +5,7 @@ use Rattle.af_io.specs.Causes.{Rose}
 use Rattle.af_io.specs.Files.{Files, SameFiles, LeavesFront}
 use Rattle.af_io.specs.declared.store.StoreError.{StoreError}
 use Rattle.af_io.specs.declared.store.StoreError.TheVariants as store
+use Rattle.af_model.specs.JournalForm.{IsJournal}
 use Rattle.af_model.specs.Journals.{JournalData, RoundNoted, journal_of}
 use Rattle.af_script.specs.Data.{ScriptData}
 use Rattle.af_script.specs.declared.op.Op.{Op}
@@ -75,11 +76,12 @@ pub record HasStoreCause {T : Type 0} (before now : ℕ) (result : Result T Sess
 
 -- ## What a run hands back
 
--- The journal and the ends of the parties that have played all turns, with a client for each track: the journal has the rounds of the turn run, and the entries of the fast mixer's log
+-- The journal and the ends of the parties that have played all turns, with a client for each track: the journal has the rounds of the turn run, and the entries of the fast mixer's log, and its form
 pub record HandsBack (script : ScriptData) (files : List (List Frame)) (journal : JournalData) (ends : EndsState) : Type 0 where
   pub parties : SessionState
   pub rounds : List RoundNoted
   pub rendered : Renders script files script.turns rounds parties
   pub journal_is : journal ≡ journal_of (record { tracks = length script.tracks; rounds = rounds }) parties.fast.log
+  pub form : IsJournal journal
   pub ends_are : ends ≡ ends_from parties
   pub count : length ends.clients ≡ length script.tracks

@@ -7,6 +7,7 @@ use Rattle.af_runs.specs.ClientTurns.{LegalClientTurn, after_calls}
 use Rattle.af_life.specs.Kept.{Outside}
 use Rattle.af_model.specs.Journals.{RoundNoted}
 use Rattle.af_normal.specs.LegalTurned.{IsLegal}
+use Rattle.af_normal.specs.TurnMade.{TurnMade, answer_of}
 use Rattle.af_link.specs.declared.links.Links.{Links}
 use Rattle.af_script.specs.declared.op.Op.{Op}
 use Rattle.af_script.specs.declared.op.TurnSpec.{TurnSpec}
@@ -16,7 +17,7 @@ use Rattle.af_session.specs.FastTurns.{IsFastTurn}
 use Rattle.af_session.specs.Met.{Met}
 use Rattle.af_party.specs.Parties.{PartyState, track_of}
 use Rattle.af_tally.specs.Sound.{IsWhole}
-use Rattle.af_session.specs.Together.{SessionState, AreTogether}
+use Rattle.af_session.specs.Together.{SessionState, AreTogether, StayTogether}
 use Rattle.af_party.specs.Works.{CanWork}
 
 -- what the clients are given: the tracks of the script, and the frames of their files
@@ -47,11 +48,12 @@ pub record ClientTurned (g : Given) (i : ℕ) (s t : SessionState) (calls : List
   pub turned : track_of (ops_at g i) (file_at g i) after ≡ after_calls (track_of (ops_at g i) (file_at g i) before) calls
   pub leaves : t ≡ record s { clients = slice_set s.clients i after }
 
--- the normal mixer made a legal turn; all else stays
+-- the normal mixer made a legal turn, by its steps; all else stays
 pub record NormalTurned (s t : SessionState) (e : Turn) : Type 0 where
   pub outside : Outside
   pub legal : IsLegal outside s.normal t.normal
   pub told : e ≡ turn_of t.normal.entry
+  pub made : TurnMade (answer_of e) s.normal t.normal
   pub leaves : t ≡ record s { normal = t.normal }
 
 -- no client made a call
@@ -87,13 +89,14 @@ end_party p = record p { client = record p.client { ended = true } }
 abbrev pub with_ends : SessionState → SessionState
 with_ends s = if s.normal.ended then record s { clients = map end_party s.clients } else s
 
--- the turn, then the meetings of all, and then the ends
+-- the turn, then the meetings of all, and then the ends; the parties belong together all the while
 pub record IsRound (g : Given) (turn : TurnSpec) (s : SessionState) (r : RoundNoted) (bytes : List ℕ) (t : SessionState) : Type 0 where
   pub turned : SessionState
   pub met : SessionState
   pub turns : Turns g turn s r bytes turned
   pub meets : Met turned met
   pub ends : t ≡ with_ends met
+  pub together : StayTogether s turned met
 
 -- the calls of the last turn of a client
 abbrev pub calls_in : Option PartyState → List ClientCall

@@ -20,3 +20,10 @@ pub record AreTogether (links : Links) (s : SessionState) : Type 0 where
   pub count : length s.clients ≡ length s.normal.tracks
   pub tracks : (i : ℕ) (p : PartyState) → slice_get s.clients i ≡ Some p → p.track ≡ i
   pub clients : (i : ℕ) (p : PartyState) → slice_get s.clients i ≡ Some p → AreClientsOf links i p.stream p.command
+
+-- Over the same links the parties belong together before a turn or a poll, x, after it, y, and after the meetings that follow, z
+pub record StayTogether (x y z : SessionState) : Type 0 where
+  pub links : Links
+  pub before : AreTogether links x
+  pub turned : AreTogether links y
+  pub met : AreTogether links z

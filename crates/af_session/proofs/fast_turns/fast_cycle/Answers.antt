@@ -29,4 +29,11 @@ returns-clause-cycle g c = record {
   sizes = c.mix_noted-cycle.ensures.sizes;
   others = refl;
   order = (c.adopt.ensures.order, c.meet.ensures.together.fast.0, c.mix_noted-cycle.ensures.order);
+  together = let t = c.requires.together in record {
+    links = c.args.links.now;
+    before = t;
+    turned = record { normal = t.normal; fast = (c.adopt.ensures.order, c.adopt.ensures.linked); count = t.count; tracks = t.tracks; clients = t.clients };
+    met = c.meet.ensures.together;
+  };
+  mixed = let t = c.meet.ensures.together in record { normal = t.normal; fast = (c.mix_noted-cycle.ensures.order, c.mix_noted-cycle.ensures.linked); count = t.count; tracks = t.tracks; clients = t.clients };
 }

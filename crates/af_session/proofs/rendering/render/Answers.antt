@@ -2,6 +2,7 @@ use Rattle.std.proofs.Common.{◌≡◌, ◌*◌, ℕ, List, Some, inl, refl, sy
 use Rattle.af_base.specs.Log.{Logged}
 use Rattle.af_base.specs.Roomy.{Roomy}
 use Rattle.af_io.specs.Files.{SetsFile}
+use Rattle.af_model.specs.JournalForm.{IsJournal}
 use Rattle.af_model.specs.Journals.{RoundsNoted, journal_of}
 use Rattle.af_session.specs.Ends.{EndsState}
 use Rattle.af_session.specs.Rendered.{LeavesSound}
@@ -57,6 +58,7 @@ returns-clause-played g c =
       rounds = noted.rounds;
       rendered = c.in_ok-play_new.ensures.all;
       journal_is = c.hand_back.ensures.journal ∙ ap (λ (n : ℕ). journal_of (record { tracks = n; rounds = noted.rounds }) log) c.in_ok-play_new.ensures.tracks;
+      form = subst IsJournal (sym c.hand_back.ensures.journal) c.in_ok-play_new.ensures.form;
       ends_are = c.hand_back.ensures.ends;
       count = ap (λ (e : EndsState). length e.clients) c.hand_back.ensures.ends ∙ c.in_ok-play_new.ensures.count;
     }

@@ -67,6 +67,7 @@ returns-then-self g c =
       order = stopped links x.turns h going y stops c.stop.ensures.rooms.0 c.stop.ensures.rooms.1;
       turns = ap (λ (v : NormalState). v.turns) stops.leaves ∙ going.next;
       answer = answer_is c.stop.result h y (subst (λ r. Does r h y) (sym c.stop.ensures.ended) stops);
+      made = record { begun = b; begins = e.begins; handed = h; hands = c.make_hands.ensures.hands; does = subst (λ r. Does r h y) (sym c.stop.ensures.ended) stops };
       legal = ended_legally x b h y e.begins c.make_hands.ensures.hands stops;
     }
 
@@ -84,5 +85,6 @@ returns g c =
       order = d.order;
       turns = d.turns ∙ going.next;
       answer = answer_is c.look.result h y d.does;
+      made = record { begun = b; begins = e.begins; handed = h; hands = c.make_hands.ensures.hands; does = d.does };
       legal = (d.legal.0, begun_legally x h y d.legal.0 (begun_by x b h e.begins c.make_hands.ensures.hands) d.legal.1);
     }

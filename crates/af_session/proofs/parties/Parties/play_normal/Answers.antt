@@ -3,6 +3,8 @@ use Rattle.af_base.specs.declared.turn.TurnEntry.{TurnEntry}
 use Rattle.af_base.specs.Turn.{turn_of}
 use Rattle.af_model.specs.Journals.{RoundNoted}
 use Rattle.af_script.specs.declared.op.TurnSpec.TheVariants as spec
+use Rattle.af_normal.specs.declared.turn.Turn.{Turn as Answer}
+use Rattle.af_normal.specs.TurnMade.{TurnMade}
 use Rattle.af_session.specs.Rounds.{Given, IsReady, Turns, round_told}
 use Rattle.af_session.specs.Shown.{FollowsRound}
 use Rattle.af_tally.specs.Summaries.{Shown, with_turn}
@@ -24,7 +26,8 @@ returns-then-not-has_ended-clause-turns g c =
     let given : Given = record { tracks = c.args.tracks.now; files = c.args.files.now } in
     let was : SessionState = record { clients = c.self.inside.clients.items; normal = c.self.inside.normal; fast = c.self.inside.fast } in
     subst (λ (s : SessionState). (r : RoundNoted) × Turns given spec.Normal s r [] (record was { normal = c.turn.new.self })) c.self.view_is
-    (goes_on given was c.turn.new.self (sym c.has_ended.ensures ∙ c.if-not-has_ended.true) c.turn.ensures.legal.0 c.turn.ensures.legal.1)
+    (goes_on given was c.turn.new.self (sym c.has_ended.ensures ∙ c.if-not-has_ended.true) c.turn.ensures.legal.0 c.turn.ensures.legal.1
+    (subst (λ (a : Answer). TurnMade a was.normal c.turn.new.self) c.turn.ensures.answer c.turn.ensures.made))
 
 pub returns-else-not-has_ended-clause-turns : goal.returns-else-not-has_ended-clause-turns
 returns-else-not-has_ended-clause-turns g c =

@@ -28,3 +28,22 @@ returns-clause-places g c = λ rounds held.
     let after = c.meet_all.ensures.ready (n + 1) before in
     places_round c.args.turn c.args.self.now c.play.new.self c.meet_all.new.self c.end_clients.new.self c.meet_all.ensures.met (sym after.given.0 ∙ before.given.0) c.end_clients.ensures (rounds + 1) c.play.new.tally
     (c.play.ensures.places rounds held)
+
+pub returns-clause-round : goal.returns-clause-round
+returns-clause-round g c =
+    let n = c.requires.ready.0 in
+    let before = c.play.ensures.ready n c.requires.ready.2 in
+    let after = c.meet_all.ensures.ready (n + 1) before in
+    let played = c.play.ensures.turns in (
+      played.0,
+      played.1,
+      played.2,
+      record {
+        turned = c.play.new.self;
+        met = c.meet_all.new.self;
+        turns = played.3;
+        meets = c.meet_all.ensures.met;
+        ends = c.end_clients.ensures;
+        together = record { links = c.args.links.now; before = c.requires.ready.2.together; turned = before.together; met = after.together };
+      },
+    )
