@@ -56,7 +56,7 @@ plain_at [] n h = tt
 plain_at (track ∷ tracks) zero h = h.0
 plain_at (track ∷ tracks) (suc n) h = plain_at tracks n h.1
 
-new_plain : (s : Session) → HasNoPokes s.script → IsRunPlain (new_run s)
+pub new_plain : (s : Session) → HasNoPokes s.script → IsRunPlain (new_run s)
 new_plain s h n low = subst IsTrackPlain (sym (new_at s n (let l = new_long s in omega (arith, l, low)))) (record { client = record { due = tt; ops = plain_at s.script.tracks n h }; stream = refl; commands = refl })
 
 -- ## The form of a journal

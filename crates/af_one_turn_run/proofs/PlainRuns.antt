@@ -109,7 +109,7 @@ next_plain : (cut : Bool) (c : Client) → IsPlain c → IsPlain (at_next_turn c
 next_plain cut c h = either_plain (c.waiting || c.ended || cut) (record c { waiting = false }) (record (begun c) { due = rested (begun c).due }) (record { due = h.due; ops = h.ops }) (let g = begun_plain c h in record { due = rested_plain (begun c).due g.due; ops = g.ops })
 
 -- after the calls of a legal turn, none of which is a poke
-called_plain : (t : TrackTold) (calls : List ClientCall) → IsTrackPlain t → LegalClientTurn (sides_of t) calls → PlainCalls calls × IsTrackPlain (called calls t)
+pub called_plain : (t : TrackTold) (calls : List ClientCall) → IsTrackPlain t → LegalClientTurn (sides_of t) calls → PlainCalls calls × IsTrackPlain (called calls t)
 called_plain t calls h legal =
     let turn = by_end t.client.ended legal in
     let last = fold after_call (sides_of t) calls in (
@@ -143,11 +143,11 @@ met_lawful true false t h = both_lawful (client_of t.stream.told) _ h refl
 met_lawful false true t h = h
 met_lawful false false t h = h
 
-met_plain : (s : Session) (run : Run) → IsRunPlain run → IsRunPlain (met s run)
+pub met_plain : (s : Session) (run : Run) → IsRunPlain run → IsRunPlain (met s run)
 unfolding met
 met_plain s run = each_plain (track_met s run) run (met s run) refl (λ n low h. record { client = h.client; stream = met_lawful (takes_part s run n) run.handed (told_at run n) h.stream; commands = both_lawful (client_of (told_at run n).commands.told) _ h.commands refl })
 
-ends_plain : (run : Run) → IsRunPlain run → IsRunPlain (with_ends run)
+pub ends_plain : (run : Run) → IsRunPlain run → IsRunPlain (with_ends run)
 unfolding with_ends
 ends_plain run h = by_end run.normal.ended
   where
@@ -155,11 +155,11 @@ ends_plain run h = by_end run.normal.ended
     by_end true = each_plain (λ track t. record t { client = ends t.client }) run (each_track (λ track t. record t { client = ends t.client }) run) refl (λ n low is. record { client = record { due = is.client.due; ops = is.client.ops }; stream = is.stream; commands = is.commands }) h
     by_end false = h
 
-poll_plain : (s : Session) (k : ℕ) (run : Run) → IsRunPlain run → IsRunPlain (with_poll s k run)
+pub poll_plain : (s : Session) (k : ℕ) (run : Run) → IsRunPlain run → IsRunPlain (with_poll s k run)
 unfolding with_poll
 poll_plain s k run h = h
 
-mix_plain : (s : Session) (e : EntrySeen) (run : Run) → IsRunPlain run → IsRunPlain (with_mix s e run)
+pub mix_plain : (s : Session) (e : EntrySeen) (run : Run) → IsRunPlain run → IsRunPlain (with_mix s e run)
 unfolding with_mix
 mix_plain s e run = each_plain (mixed_track s (state_for s run e.entry.state) e) run (with_mix s e run) refl (λ n low h. by_slot (slot_for (state_for s run e.entry.state) e.entry n) (told_at run n) h)
   where
@@ -167,11 +167,11 @@ mix_plain s e run = each_plain (mixed_track s (state_for s run e.entry.state) e)
     by_slot None t h = h
     by_slot (Some i) t h = record { client = h.client; stream = ap is_lawful (server_client t.stream.told (cycle_events (cycle_frames s) (listed t.stream) (entry_slot e.entry i) (front_of (cycle_frames s) (listed t.stream) (entry_slot e.entry i)))) ∙ h.stream; commands = h.commands }
 
-cycles_plain : (s : Session) (entries : List EntrySeen) (run : Run) → IsRunPlain run → IsRunPlain (fold (cycle_alone s) run entries)
+pub cycles_plain : (s : Session) (entries : List EntrySeen) (run : Run) → IsRunPlain run → IsRunPlain (fold (cycle_alone s) run entries)
 cycles_plain s [] run h = h
 cycles_plain s (e ∷ entries) run h = let polled = with_poll s e.entry.state run in cycles_plain s entries (cycle_alone s run e) (mix_plain s e (met s polled) (met_plain s polled (poll_plain s e.entry.state run h)))
 
-turned_plain : (s : Session) (f : TurnFound) (e : Turn) (run : Run) → IsRunPlain run → IsRunPlain (with_load e (with_turn s f e run))
+pub turned_plain : (s : Session) (f : TurnFound) (e : Turn) (run : Run) → IsRunPlain run → IsRunPlain (with_load e (with_turn s f e run))
 unfolding with_load with_turn
 turned_plain s f e run =
     let c = setup_of s in
@@ -198,7 +198,7 @@ none_plain : (calls : List ClientCall) → calls ≡ [] → PlainCalls calls
 none_plain calls none = subst PlainCalls (sym none) tt
 
 module _ (s : Session) (marks : Marks) (run : Run) where
-  one_plain : (turn : TurnSpec) (round : RoundSeen) → length round.calls ≡ length run.tracks → IsRunPlain run → IsMadeBy s marks run turn round → IsRoundPlain round × IsRunPlain (made_alone s run turn round)
+  pub one_plain : (turn : TurnSpec) (round : RoundSeen) → length round.calls ≡ length run.tracks → IsRunPlain run → IsMadeBy s marks run turn round → IsRoundPlain round × IsRunPlain (made_alone s run turn round)
   one_plain (makes.Client track) round long h made = (each, after_is)
     where
       each : IsRoundPlain round

@@ -1,0 +1,17 @@
+pub mod Marked
+pub mod TwoForced
+pub mod SharedForced
+pub mod BlockSwaps
+pub mod BlockPulls
+pub mod BlockForced
+pub mod BlockSteps
+pub mod PlainLists
+pub mod EndsSteps
+pub mod RunShared
+pub mod RunBlocks
+pub mod RunTurns
+pub mod RunPolls
+pub mod MixedHome
+pub mod TurnActs
+pub mod TurnsForced
+pub mod RunBegins

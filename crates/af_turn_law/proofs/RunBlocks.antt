@@ -1,0 +1,224 @@
+-- The blocks of a turn run are told in phases: what each step leaves of them.
+use Rattle.std.proofs.Common.{◌≡◌, inl, inr, ℕ, zero, suc, ◌+◌, ◌<◌, ◌==◌, ◌&&◌, ◌||◌, nat_le, Bool, true, false, true≢false, if◌then◌else◌, unwrap_or, is_some, map, length, drop, Option, Some, None, refl, sym, ap, ◌∙◌, subst, arith}
+use Rattle.std.specs.List.{find, list_any, range_with_len}
+use Rattle.std.proofs.lemmas.Bool.{cases_lt}
+use Rattle.af_base.specs.declared.state.FastState.{FastState}
+use Rattle.af_base.specs.Log.{slots, entry_slot}
+use Rattle.af_life.specs.Kept.{is_home, track_at}
+use Rattle.af_model.proofs.Logic.{is_le}
+use Rattle.af_model.specs.Cycles.{cycle_events, state_of}
+use Rattle.af_model.specs.History.{by_server}
+use Rattle.af_model.specs.Journals.{EntrySeen, RoundSeen}
+use Rattle.af_model.specs.StateQueue.{slot_of, carries}
+use Rattle.af_runs.specs.Blocks.{client_list, listed}
+use Rattle.af_runs.specs.Clients.{ends}
+use Rattle.af_runs.specs.ClientTurns.{after_calls}
+use Rattle.af_runs.specs.Fronts.{front_of, is_shown}
+use Rattle.af_runs.specs.Runs.{Run, TrackTold, told_at, each_from, each_track, called, calls_in, sides_of, with_poll, with_mix, with_ends, met, takes_part, state_for, plays, slot_for, played, mixed_track}
+use Rattle.af_runs.specs.Sessions.{Session, cycle_frames}
+use Rattle.af_runs.specs.Told.{state_at}
+use Rattle.af_runs.specs.TurnRuns.{cycle_alone, calls_alone}
+use Rattle.af_judge.proofs.BlocksMeet.{met_at, met_many}
+use Rattle.af_judge.proofs.EachTrack.{each_long, told_each}
+use Rattle.af_judge.proofs.StatesAt.{state_outside}
+use Rattle.af_turn_law.proofs.BlockSteps.{Ready, Done, told_more, rest_done, client_done, server_done, block_met}
+use Rattle.af_turn_law.proofs.PlainLists.{plain_turn, plain_cycle}
+
+-- all blocks between two rounds
+pub record RunReady (s : Session) (run : Run) : Type 0 where
+  pub streams : (n : ℕ) → n < length run.tracks → Ready (takes_part s run n) run.handed (told_at run n).stream.told
+  pub commands : (n : ℕ) → n < length run.tracks → Ready true false (told_at run n).commands.told
+
+-- before the meetings
+pub record RunDone (s : Session) (run : Run) : Type 0 where
+  pub streams : (n : ℕ) → n < length run.tracks → Done (takes_part s run n) run.handed (told_at run n).stream.told
+  pub commands : (n : ℕ) → n < length run.tracks → Done true false (told_at run n).commands.told
+
+pub nothing_done : (s : Session) (run : Run) → RunReady s run → RunDone s run
+nothing_done s run h = record {
+  streams = λ n low. rest_done (takes_part s run n) (takes_part s run n) run.handed (told_at run n).stream.told (h.streams n low);
+  commands = λ n low. rest_done true true false (told_at run n).commands.told (h.commands n low);
+}
+
+-- ## Meetings
+
+pub run_met : (s : Session) (run : Run) → RunDone s run → RunReady s (met s run)
+unfolding met
+run_met s run h = record {
+  streams = λ n low. streams_met n (let m = met_many s run in omega (arith, low, m));
+  commands = λ n low. commands_met n (let m = met_many s run in omega (arith, low, m));
+}
+  where
+    streams_met : (n : ℕ) → n < length run.tracks → Ready (takes_part s (met s run) n) (met s run).handed (told_at (met s run) n).stream.told
+    streams_met n low = subst (λ (t : TrackTold). Ready (takes_part s run n) run.handed t.stream.told) (sym (met_at s run n low)) (block_met (takes_part s run n) run.handed (told_at run n).stream (h.streams n low))
+
+    commands_met : (n : ℕ) → n < length run.tracks → Ready true false (told_at (met s run) n).commands.told
+    commands_met n low = subst (λ (t : TrackTold). Ready true false t.commands.told) (sym (met_at s run n low)) (block_met true false (told_at run n).commands (h.commands n low))
+
+pub run_ends : (s : Session) (run : Run) → RunReady s run → RunReady s (with_ends run)
+unfolding with_ends
+run_ends s run h = by_end run.normal.ended
+  where
+    change : ℕ → TrackTold → TrackTold
+    change track t = record t { client = ends t.client }
+
+    many : length (each_from change 0 run.tracks) ≡ length run.tracks
+    many = each_long change 0 run.tracks
+
+    by_end : (b : Bool) → RunReady s (if b then each_track (λ track t. record t { client = ends t.client }) run else run)
+    by_end true = record {
+      streams = λ n low. subst (λ (t : TrackTold). Ready (takes_part s run n) run.handed t.stream.told) (sym (told_each change run n (let m = many in omega (arith, low, m)))) (h.streams n (let m = many in omega (arith, low, m)));
+      commands = λ n low. subst (λ (t : TrackTold). Ready true false t.commands.told) (sym (told_each change run n (let m = many in omega (arith, low, m)))) (h.commands n (let m = many in omega (arith, low, m)));
+    }
+    by_end false = h
+
+-- ## A client's turn
+
+module _ (s : Session) (track : ℕ) (round : RoundSeen) (run : Run) (h : RunReady s run) where
+  abbrev called_track : ℕ → TrackTold → TrackTold
+  called_track number t = if number == track then called (calls_in round track) t else t
+
+  stream_called : (n : ℕ) (b : Bool) (t : TrackTold) → Ready (takes_part s run n) run.handed t.stream.told → Done (takes_part s run n) run.handed (if b then called (calls_in round track) t else t).stream.told
+  stream_called n true t ready =
+      client_done (takes_part s run n) (takes_part s run n) run.handed (drop (length (client_list t.stream)) (after_calls (sides_of t) (calls_in round track)).stream.events) t.stream.told
+      (plain_turn (sides_of t) t.stream t.commands (calls_in round track) refl refl).0 ready
+  stream_called n false t ready = rest_done (takes_part s run n) (takes_part s run n) run.handed t.stream.told ready
+
+  commands_called : (b : Bool) (t : TrackTold) → Ready true false t.commands.told → Done true false (if b then called (calls_in round track) t else t).commands.told
+  commands_called true t ready =
+      client_done true true false (drop (length (client_list t.commands)) (after_calls (sides_of t) (calls_in round track)).commands.events) t.commands.told
+      (plain_turn (sides_of t) t.stream t.commands (calls_in round track) refl refl).1 ready
+  commands_called false t ready = rest_done true true false t.commands.told ready
+
+  many_called : length (calls_alone track round run).tracks ≡ length run.tracks
+  many_called = each_long called_track 0 run.tracks
+
+  pub run_calls : RunDone s (calls_alone track round run)
+  run_calls = record {
+    streams = λ n low. (let below : n < length run.tracks = (let m = many_called in omega (arith, low, m)) in
+        subst (λ (t : TrackTold). Done (takes_part s run n) run.handed t.stream.told) (sym (told_each called_track run n below)) (stream_called n (n == track) (told_at run n) (h.streams n below)));
+    commands = λ n low. (let below : n < length run.tracks = (let m = many_called in omega (arith, low, m)) in
+        subst (λ (t : TrackTold). Done true false t.commands.told) (sym (told_each called_track run n below)) (commands_called (n == track) (told_at run n) (h.commands n below)));
+  }
+
+-- ## A fast cycle
+
+-- the first poll may change who takes part
+poll_first : (s : Session) (k : ℕ) (run : Run) → RunReady s run → RunDone s (with_poll s k run)
+unfolding with_poll
+poll_first s k run h = record {
+  streams = λ n low. rest_done (takes_part s run n) (takes_part s (with_poll s k run) n) run.handed (told_at run n).stream.told (h.streams n low);
+  commands = λ n low. rest_done true true false (told_at run n).commands.told (h.commands n low);
+}
+
+-- who takes part where the observer has the state of a number
+abbrev pub part_at : Session → Run → ℕ → ℕ → Bool
+part_at s run n c = is_home (track_at run.normal.tracks n).holder || (let x = state_at (cycle_frames s) run.states c in list_any (λ i. carries x i && ((slot_of x i).track == n)) (range_with_len 0 slots))
+
+-- a later one finds the same state
+poll_again : (s : Session) (k : ℕ) (run : Run) → (with_poll s k run).current ≡ run.current → RunDone s run → RunDone s (with_poll s k run)
+unfolding with_poll
+poll_again s k run same h = record {
+  streams = λ n low. subst (λ part. Done part run.handed (told_at run n).stream.told) (sym (ap (part_at s run n) same)) (h.streams n low);
+  commands = h.commands;
+}
+
+-- whoever is played takes part
+abbrev pub PlaysParts : Session → EntrySeen → Run → Type 0
+PlaysParts s e run = (n i : ℕ) → slot_for (state_for s run e.entry.state) e.entry n ≡ Some i → takes_part s run n ≡ true
+
+run_mix : (s : Session) (e : EntrySeen) (run : Run) → PlaysParts s e run → RunReady s run → RunDone s (with_mix s e run)
+unfolding with_mix
+run_mix s e run parts h = record {
+  streams = λ n low. (let below : n < length run.tracks = (let m = many in omega (arith, low, m)) in
+      subst (λ (t : TrackTold). Done (takes_part s run n) run.handed t.stream.told) (sym (told_each (mixed_track s x e) run n below)) (stream_mixed n (slot_for x e.entry n) (parts n) (told_at run n) (h.streams n below)));
+  commands = λ n low. (let below : n < length run.tracks = (let m = many in omega (arith, low, m)) in
+      subst (λ (t : TrackTold). Done true false t.commands.told) (sym (told_each (mixed_track s x e) run n below)) (commands_mixed (slot_for x e.entry n) (told_at run n) (h.commands n below)));
+}
+  where
+    x : FastState
+    x = state_for s run e.entry.state
+
+    many : length (each_from (mixed_track s x e) 0 run.tracks) ≡ length run.tracks
+    many = each_long (mixed_track s x e) 0 run.tracks
+
+    with_slot : Option ℕ → TrackTold → TrackTold
+    with_slot o t = elim o as (λ o. TrackTold) [ None ↦ t | Some i ↦ record t { stream = played (cycle_frames s) e i t.stream } ]
+
+    stream_mixed : (n : ℕ) (o : Option ℕ) → ((i : ℕ) → o ≡ Some i → takes_part s run n ≡ true) → (t : TrackTold) → Ready (takes_part s run n) run.handed t.stream.told → Done (takes_part s run n) run.handed (with_slot o t).stream.told
+    stream_mixed n None part t ready = rest_done (takes_part s run n) (takes_part s run n) run.handed t.stream.told ready
+    stream_mixed n (Some i) part t ready =
+        let slot = entry_slot e.entry i in
+        let es = cycle_events (cycle_frames s) (listed t.stream) slot (front_of (cycle_frames s) (listed t.stream) slot) in
+        subst (λ part. Done part run.handed (told_more t.stream.told (map by_server es))) (sym (part i refl))
+        (server_done run.handed es t.stream.told (plain_cycle (cycle_frames s) (listed t.stream) slot (front_of (cycle_frames s) (listed t.stream) slot)) (subst (λ part. Ready part run.handed t.stream.told) (part i refl) ready))
+
+    commands_mixed : (o : Option ℕ) (t : TrackTold) → Ready true false t.commands.told → Done true false (with_slot o t).commands.told
+    commands_mixed None t ready = rest_done true true false t.commands.told ready
+    commands_mixed (Some i) t ready = rest_done true true false t.commands.told ready
+
+-- ## What a cycle plays is held
+
+found_any : (p q : ℕ → Bool) (a n k : ℕ) → ((i : ℕ) → p i ≡ true → q i ≡ true) → find p (range_with_len a n) ≡ Some k → list_any q (range_with_len a n) ≡ true
+found_any p q a zero k imp is = absurd (true≢false (sym (ap is_some is)))
+found_any p q a (suc n) k imp is = by_first (p a) refl is (found_any p q (a + 1) n k imp)
+  where
+    by_rest : (b c : Bool) → c ≡ true → (b || c) ≡ true
+    by_rest true c h = refl
+    by_rest false c h = h
+
+    by_true : (b c : Bool) → b ≡ true → (b || c) ≡ true
+    by_true true c h = refl
+    by_true false c h = absurd (true≢false (sym h))
+
+    by_first : (b : Bool) → p a ≡ b → (if b then Some a else find p (range_with_len (a + 1) n)) ≡ Some k → (find p (range_with_len (a + 1) n) ≡ Some k → list_any q (range_with_len (a + 1) n) ≡ true) → (q a || list_any q (range_with_len (a + 1) n)) ≡ true
+    by_first true is e rest = by_true (q a) (list_any q (range_with_len (a + 1) n)) (imp a is)
+    by_first false is e rest = by_rest (q a) (list_any q (range_with_len (a + 1) n)) (rest e)
+
+not_le : (k n : ℕ) → nat_le k n ≡ false → n < k
+not_le k n is = elim (cases_lt n k) [
+  | inl more ↦ more
+  | inr le ↦ absurd (true≢false (sym (is_le k n le) ∙ is))
+]
+
+-- after a poll the state of that number is the one that the observer has
+polled_state : (s : Session) (k : ℕ) (run : Run) → state_for s (with_poll s k run) k ≡ state_at (cycle_frames s) run.states (with_poll s k run).current
+unfolding with_poll
+polled_state s k run = by_low (nat_le k (length run.states)) refl
+  where
+    same_or : (o : Option FastState) (d : FastState) → unwrap_or o (unwrap_or o d) ≡ unwrap_or o d
+    same_or None d = refl
+    same_or (Some x) d = refl
+
+    by_low : (b : Bool) → nat_le k (length run.states) ≡ b
+        → unwrap_or (state_of run.states k) (state_at (cycle_frames s) run.states (if b then k else run.current)) ≡ state_at (cycle_frames s) run.states (if b then k else run.current)
+    by_low true is = same_or (state_of run.states k) _
+    by_low false is = ap (λ o. unwrap_or o (state_at (cycle_frames s) run.states run.current)) (sym (state_outside run.states k (inr (not_le k (length run.states) is))))
+
+pub holds_played : (s : Session) (e : EntrySeen) (run : Run) → PlaysParts s e (met s (with_poll s e.entry.state run))
+unfolding met with_poll
+holds_played s e run n i is =
+    let k = e.entry.state in
+    let x = state_for s (with_poll s k run) k in
+    let y = state_at (cycle_frames s) run.states (with_poll s k run).current in
+    let any : list_any (λ i. carries x i && ((slot_of x i).track == n)) (range_with_len 0 slots) ≡ true =
+    found_any (λ i. plays x e.entry i && ((slot_of x i).track == n)) (λ i. carries x i && ((slot_of x i).track == n)) 0 slots i
+    (λ i h. weaker (carries x i) (is_shown (entry_slot e.entry i).seen) ((slot_of x i).track == n) h) is in
+    right (is_home (track_at run.normal.tracks n).holder) _ (subst (λ (z : FastState). list_any (λ i. carries z i && ((slot_of z i).track == n)) (range_with_len 0 slots) ≡ true) (polled_state s k run) any)
+  where
+    weaker : (a b c : Bool) → ((a && b) && c) ≡ true → (a && c) ≡ true
+    weaker true true c h = h
+    weaker true false c h = absurd (true≢false (sym h))
+    weaker false b c h = absurd (true≢false (sym h))
+
+    right : (a b : Bool) → b ≡ true → (a || b) ≡ true
+    right true b h = refl
+    right false b h = h
+
+-- the first cycle of a turn
+pub cycle_first : (s : Session) (run : Run) (e : EntrySeen) → RunReady s run → RunDone s (cycle_alone s run e)
+cycle_first s run e h = run_mix s e (met s (with_poll s e.entry.state run)) (holds_played s e run) (run_met s (with_poll s e.entry.state run) (poll_first s e.entry.state run h))
+
+-- a later one, which finds the same state
+pub cycle_again : (s : Session) (run : Run) (e : EntrySeen) → (with_poll s e.entry.state run).current ≡ run.current → RunDone s run → RunDone s (cycle_alone s run e)
+cycle_again s run e same h = run_mix s e (met s (with_poll s e.entry.state run)) (holds_played s e run) (run_met s (with_poll s e.entry.state run) (poll_again s e.entry.state run same h))

@@ -1,0 +1,80 @@
+-- A turn of the normal mixer leaves the blocks of a turn run in phases, where its proxies act where they met.
+use Rattle.std.proofs.Common.{◌≡◌, ◌⊎◌, inl, inr, ℕ, ◌<◌, Bool, true, false, true≢false, if◌then◌else◌, map, List, [], ◌∷◌, length, Option, Some, None, refl, sym, ap, ◌∙◌, subst, arith}
+use Rattle.af_base.specs.declared.event.HandEvent.{HandEvent}
+use Rattle.af_base.specs.declared.event.HandEvent.TheVariants as hand
+use Rattle.af_base.specs.Turn.{Turn}
+use Rattle.af_life.specs.Heard.{learnt}
+use Rattle.af_life.specs.Kept.{Setup, Outside, track_in}
+use Rattle.af_life.specs.TurnEvents.{tracks_at, hand_list, stream_list, command_list}
+use Rattle.af_model.specs.History.{Moment, by_hand}
+use Rattle.af_model.specs.Journals.{RoundSeen}
+use Rattle.af_runs.specs.Found.{TurnFound, outside_of}
+use Rattle.af_runs.specs.Rounds.{loaded, turned}
+use Rattle.af_runs.specs.Runs.{Run, TrackTold, told_at, no_track, with_turn, with_load, found_before, takes_part, turned_track}
+use Rattle.af_runs.specs.Sessions.{Session, setup_of}
+use Rattle.af_runs.specs.TurnRuns.{turn_alone}
+use Rattle.af_judge.proofs.EachTrack.{each_at, each_long}
+use Rattle.af_turn_law.specs.Acting.{ActsWhereMet}
+use Rattle.af_turn_law.specs.Phased.{IsBlockPhased}
+use Rattle.af_turn_law.proofs.BlockSteps.{Ready, Done, ClientKnows, ServerKnows, told_more, server_done, hand_ready, turn_done}
+use Rattle.af_turn_law.proofs.PlainLists.{plain_stream_list, plain_command_list}
+use Rattle.af_turn_law.proofs.RunBlocks.{RunReady, RunDone, nothing_done}
+
+-- what holds once the hand did something
+abbrev AfterHand : Bool → List HandEvent → List Moment → Type 0
+AfterHand part hs told = IsBlockPhased (told_more told (map by_hand hs)) × ClientKnows (told_more told (map by_hand hs)) × (part ≡ true → ServerKnows (told_more told (map by_hand hs)))
+
+hands_done : (part handed off : Bool) (told : List Moment) → ((if off then hand.SetFlags 8 ∷ [] else []) ≡ []) ⊎ (handed ≡ true) → Ready part handed told → AfterHand part (if off then hand.SetFlags 8 ∷ [] else []) told
+hands_done part handed false told there h = (h.phased, h.client, h.server)
+hands_done part handed true told (inl none) h = absurd (let z : ⊥ = (let n : length (hand.SetFlags 8 ∷ []) ≡ 0 = ap length none in omega (arith, n)) in z)
+hands_done part handed true told (inr is) h = let r = hand_ready part 8 told (subst (λ there. Ready part there told) is h) in (r.1, r.2, r.0)
+
+hand_done : (part handed : Bool) (e : Turn) (n : ℕ) (told : List Moment) → (hand_list e n ≡ []) ⊎ (handed ≡ true) → Ready part handed told → AfterHand part (hand_list e n) told
+hand_done part handed e n told there h = by_end e.ended there
+  where
+    by_end : (b : Bool) → ((if b then [] else (if (track_in e n).disabled then hand.SetFlags 8 ∷ [] else [])) ≡ []) ⊎ (handed ≡ true) → AfterHand part (if b then [] else (if (track_in e n).disabled then hand.SetFlags 8 ∷ [] else [])) told
+    by_end true there = (h.phased, h.client, h.server)
+    by_end false there = hands_done part handed (track_in e n).disabled told there h
+
+none_by : {E : Type 0} (part : Bool) (es : List E) (Other : Type 0) → (es ≡ []) ⊎ ((part ≡ true) × Other) → part ≡ false → es ≡ []
+none_by part es Other (inl none) off = none
+none_by part es Other (inr on) off = absurd (true≢false (sym on.0 ∙ off))
+
+pub also_by : {E : Type 0} (part : Bool) (es : List E) (Other : Type 0) → (es ≡ []) ⊎ (Other × (part ≡ true)) → part ≡ false → es ≡ []
+also_by part es Other (inl none) off = none
+also_by part es Other (inr on) off = absurd (true≢false (sym on.1 ∙ off))
+
+run_turned : (s : Session) (f : TurnFound) (e : Turn) (run : Run) → ActsWhereMet s run f e → RunReady s run → RunDone s (with_load e (with_turn s f e run))
+unfolding with_load with_turn
+run_turned s f e run acts h = record {
+  streams = λ n low. (let below : n < length run.tracks = (let m = many in omega (arith, low, m)) in
+      let es = stream_list c o e (tracks_at c (learnt o) run.normal e n) n in
+      let after = takes_part s (with_turn s f e run) n in
+      let by_the_hand = hand_done (takes_part s run n) run.handed e n (told_at run n).stream.told (acts.hands n) (h.streams n below) in
+      subst (λ (t : TrackTold). Done after true t.stream.told) (sym (told n below))
+      (turn_done (takes_part s run n) after (hand_list e n) es (told_at run n).stream.told by_the_hand.0 by_the_hand.1 by_the_hand.2 (plain_stream_list c o e (tracks_at c (learnt o) run.normal e n) n)
+      (also_by after es (takes_part s run n ≡ true) (acts.streams n below)) (none_by (takes_part s run n) es (after ≡ true) (acts.streams n below))));
+  commands = λ n low. (let below : n < length run.tracks = (let m = many in omega (arith, low, m)) in
+      subst (λ (t : TrackTold). Done true false t.commands.told) (sym (told n below))
+      (server_done false (command_list c o e (tracks_at c (learnt o) run.normal e n) n) (told_at run n).commands.told (plain_command_list c o e (tracks_at c (learnt o) run.normal e n) n) (h.commands n below)));
+}
+  where
+    c : Setup
+    c = setup_of s
+
+    o : Outside
+    o = outside_of c f e
+
+    many : length (with_turn s f e run).tracks ≡ length run.tracks
+    many = each_long (turned_track c o run.normal e) 0 run.tracks
+
+    told : (n : ℕ) → n < length run.tracks → told_at (with_turn s f e run) n ≡ turned_track c o run.normal e n (told_at run n)
+    told n low = each_at (turned_track c o run.normal e) 0 run.tracks n n no_track low (omega arith)
+
+-- the turn of a round
+pub run_turn : (s : Session) (round : RoundSeen) (run : Run) → ((e : Turn) → round.turn ≡ Some e → ActsWhereMet s run (found_before s run [] e) e) → RunReady s run → RunDone s (turn_alone s run round)
+run_turn s round run acts h = by_turn round.turn acts
+  where
+    by_turn : (o : Option Turn) → ((e : Turn) → o ≡ Some e → ActsWhereMet s run (found_before s run [] e) e) → RunDone s (loaded o (turned s (found_before s run []) o run))
+    by_turn None acts = nothing_done s run h
+    by_turn (Some e) acts = run_turned s (found_before s run [] e) e run (acts e refl) h

@@ -1,0 +1,159 @@
+-- In a legal turn that finds no block shut, hands and stream proxies act where they met.
+use Rattle.std.proofs.Common.{◌≡◌, ◌⊎◌, inl, inr, ℕ, ◌<◌, ◌≤◌, ◌==◌, ◌&&◌, ◌||◌, nat_lt, Bool, true, false, true≢false, MatchBool, if◌then◌else◌, filter, List, [], ◌∷◌, ◌++◌, length, map, All, refl, sym, ap, ◌∙◌, subst, arith}
+use Rattle.std.specs.List.{flat_map}
+use Rattle.std.proofs.lemmas.Bool.{cases_lt}
+use Rattle.std.proofs.lemmas.List.{get_or_past}
+use Rattle.af_base.specs.declared.event.HandEvent.TheVariants as hand
+use Rattle.af_base.specs.declared.event.ServerEvent.{ServerEvent}
+use Rattle.af_base.specs.Turn.{Turn, TakeSeen, TrackSeen}
+use Rattle.af_life.specs.declared.kept.Setting.{Setting}
+use Rattle.af_life.specs.declared.kept.TrackKept.{TrackKept}
+use Rattle.af_life.specs.declared.track.Known.{Known}
+use Rattle.af_life.specs.declared.track.Life.{Life}
+use Rattle.af_life.specs.Edits.{welcomed, after_ack}
+use Rattle.af_life.specs.Heard.{learnt, heard, heard_by, ready}
+use Rattle.af_life.specs.Kept.{Setup, asked, NormalKept, Outside, Learnt, new_normal, new_track, nothing_seen, track_at, track_in, is_home}
+use Rattle.af_life.specs.Obeys.{slot_for}
+use Rattle.af_life.specs.Plays.{tracks_due}
+use Rattle.af_life.specs.Reports.{Case, reports, first_told, told_by_report, no_retries_left}
+use Rattle.af_life.specs.Serves.{served_to, IsServed, LegalTrack, after_commands}
+use Rattle.af_life.specs.Turn.{after_edits, turn_after, GoesOn}
+use Rattle.af_life.specs.TurnEvents.{tracks_at, invalid, hand_list, mix_events, stream_list}
+use Rattle.af_life.proofs.Lives.{not_yet}
+use Rattle.af_model.specs.Cycles.{cycle_events}
+use Rattle.af_runs.specs.Blocks.{Marks}
+use Rattle.af_runs.specs.Found.{TurnFound, LegalTurnBy, outside_of}
+use Rattle.af_runs.specs.Runs.{Run, with_turn, holds, takes_part}
+use Rattle.af_runs.specs.Sessions.{Session, setup_of}
+use Rattle.af_judge.proofs.SoundTurns.{Sound, welcomed_at, at_new}
+use Rattle.af_turn_law.specs.Acting.{ActsWhereMet, FindsNoneShut}
+use Rattle.af_turn_law.proofs.MixedHome.{mixed_home}
+
+-- what is kept of the normal mixer between two rounds: before it made its hands it is new
+pub record NormalReady (s : Session) (run : Run) : Type 0 where
+  pub sound : Sound run.normal
+  pub long : length run.normal.tracks ≡ length (setup_of s).settings
+  pub new : run.handed ≡ false → run.normal ≡ new_normal (setup_of s)
+
+-- ## No track is disabled that heard of no empty look
+
+neither : (b x y : Bool) → x ≡ false → y ≡ false → (if b then x else y) ≡ false
+neither true x y f g = f
+neither false x y f g = g
+
+and_false : (a b : Bool) → a ≡ false → (a && b) ≡ false
+and_false true b h = absurd (true≢false h)
+and_false false b h = refl
+
+-- no row tells anything
+abbrev AllQuiet : List Case → Known → Life → Type 0
+AllQuiet [] known life = Unit {0}
+AllQuiet (row ∷ rows) known life = (row.tells known life ≡ false) × AllQuiet rows known life
+
+quiet_rows : (rows : List Case) (known : Known) (life : Life) → AllQuiet rows known life → first_told rows known life ≡ false
+quiet_rows [] known life h = refl
+quiet_rows (row ∷ rows) known life h = neither (row.applies known life) (row.tells known life) (first_told rows known life) h.0 (quiet_rows rows known life h.1)
+
+told_none : (known : Known) (life : Life) → known.empties ≡ 0 → told_by_report known life ≡ false
+unfolding told_by_report
+told_none known life none =
+    let dry : no_retries_left known life ≡ false = and_false (nat_lt 0 known.empties) _ (ap (λ n. nat_lt 0 n) none) in
+    quiet_rows reports known life (refl, (refl, (refl, (refl, (refl, (refl, (refl, (dry, (refl, (refl, (refl, tt)))))))))))
+
+module _ (c : Setup) (k : Learnt) (e : Turn) (n : ℕ) where
+  -- the tracks before the first turn, once proxies came home
+  first_acked : (ack : Bool) → track_at (after_ack ack (new_normal c)).tracks n ≡ new_track
+  unfolding welcomed
+  first_acked true = welcomed_at (new_normal c).last (new_normal c).tracks n ∙ ap (welcomed (new_normal c).last) (at_new (length c.settings) n)
+  first_acked false = at_new (length c.settings) n
+
+  first_track : track_at (served_to c k e.tracks (after_ack e.ack (new_normal c)).tracks n) n ≡ new_track
+  first_track = not_yet c k e.tracks (after_ack e.ack (new_normal c)).tracks n n (omega arith) ∙ first_acked e.ack
+
+  first_empties : (heard k n new_track).known.empties ≡ 0
+  unfolding heard_by
+  first_empties = refl
+
+  -- the first turn disables none
+  first_able : LegalTrack c k (track_in e n) (served_to c k e.tracks (after_ack e.ack (new_normal c)).tracks n) n → (track_in e n).disabled ≡ false
+  first_able legal =
+      let given = slot_for c (served_to c k e.tracks (after_ack e.ack (new_normal c)).tracks n) n in
+      let is : IsServed given (heard k n new_track) (track_in e n) (ready k n new_track) =
+      subst (λ (t : TrackKept). MatchBool t.life.ended (track_in e n ≡ nothing_seen) (IsServed given (heard k n t) (track_in e n) (ready k n t))) first_track legal in
+      is.disabled ∙ told_none (heard k n new_track).known (after_commands given (heard k n new_track) (track_in e n).looks (ready k n new_track)).life first_empties
+
+-- ## The turn
+
+part_home : (s : Session) (run : Run) (n : ℕ) → is_home (track_at run.normal.tracks n).holder ≡ true → takes_part s run n ≡ true
+part_home s run n home = either (is_home (track_at run.normal.tracks n).holder) (holds s run n) home
+  where
+    either : (a b : Bool) → a ≡ true → (a || b) ≡ true
+    either true b h = refl
+    either false b h = absurd (true≢false (sym h))
+
+part_turned : (s : Session) (f : TurnFound) (e : Turn) (run : Run) (n : ℕ) → is_home (track_at (turn_after (setup_of s) (learnt (outside_of (setup_of s) f e)) run.normal e).tracks n).holder ≡ true → takes_part s (with_turn s f e run) n ≡ true
+unfolding with_turn
+part_turned s f e run n home = part_home s (with_turn s f e run) n home
+
+module _ (s : Session) (marks : Marks) (run : Run) (f : TurnFound) (e : Turn) (scales : All (λ (x : Setting). x.scale ≤ 4096) (setup_of s).settings) (t : LegalTurnBy (setup_of s) marks f run.normal e) (kept : NormalReady s run) (unshut : FindsNoneShut s run f e) where
+  abbrev c : Setup
+  c = setup_of s
+
+  abbrev o : Outside
+  o = outside_of c f e
+
+  -- the rule for the fronts changes nothing of what is learnt
+  same_learnt : learnt t.outside ≡ learnt o
+  same_learnt = ap learnt t.found
+
+  abbrev StreamActs : ℕ → List ServerEvent → Type 0
+  StreamActs n es = (es ≡ []) ⊎ ((takes_part s run n ≡ true) × (takes_part s (with_turn s f e run) n ≡ true))
+
+  streams_act : (n : ℕ) → n < length run.tracks → StreamActs n (stream_list c o e (tracks_at c (learnt o) run.normal e n) n)
+  streams_act n low = by_end e.ended refl
+    where
+      tracks : List TrackKept
+      tracks = tracks_at c (learnt o) run.normal e n
+
+      events : List ServerEvent
+      events = (if is_home (track_at tracks n).holder then invalid (learnt o) (track_in e n) tracks n else []) ++ mix_events c o e.mixes n
+
+      -- it does nothing where nothing was taken
+      still : (h : Bool) → (h ≡ true → invalid (learnt o) (track_in e n) tracks n ≡ []) → filter (λ (take : TakeSeen). take.track == n) e.mixes ≡ [] → (if h then invalid (learnt o) (track_in e n) tracks n else []) ++ mix_events c o e.mixes n ≡ []
+      still true none nothing = (λ i. none refl i ++ mix_events c o e.mixes n) ∙ ap (flat_map (λ (take : TakeSeen). cycle_events (asked c) (o.streams n) take.slot (o.stream_front n))) nothing
+      still false none nothing = ap (flat_map (λ (take : TakeSeen). cycle_events (asked c) (o.streams n) take.slot (o.stream_front n))) nothing
+
+      by_end : (b : Bool) → e.ended ≡ b → StreamActs n (if b then [] else events)
+      by_end true is = inl refl
+      by_end false is =
+          let due : map (λ (take : TakeSeen). take.track) e.mixes ≡ tracks_due c e.room (after_edits c (learnt o) e run.normal).tracks =
+          (t.legal.goes_on is).due ∙ ap (λ k. tracks_due c e.room (after_edits c k e run.normal).tracks) same_learnt in
+          elim (mixed_home c scales (learnt o) run.normal e n (let l = kept.long in omega (arith, l)) kept.sound is due) [
+            | inl nothing ↦ inl (still (is_home (track_at tracks n).holder) (unshut is n low) nothing)
+            | inr home ↦ inr (part_home s run n home.0, part_turned s f e run n home.1)
+          ]
+
+  hands_act : (n : ℕ) → (hand_list e n ≡ []) ⊎ (run.handed ≡ true)
+  hands_act n = by_hand run.handed refl
+    where
+      by_disabled : (b : Bool) → b ≡ false → (if b then hand.SetFlags 8 ∷ [] else []) ≡ []
+      by_disabled true is = absurd (true≢false is)
+      by_disabled false is = refl
+
+      able : run.normal ≡ new_normal c → e.ended ≡ false → (track_in e n).disabled ≡ false
+      able new is = elim (cases_lt n (length run.normal.tracks)) [
+        | inl low ↦ (let g : GoesOn c t.outside (new_normal c) e = subst (λ (m : NormalKept). GoesOn c t.outside m e) new (t.legal.goes_on is) in
+            first_able c (learnt t.outside) e n (g.tracks n (subst (λ (m : NormalKept). n < length m.tracks) new low)))
+        | inr high ↦ ap (λ (seen : TrackSeen). seen.disabled) (get_or_past e.tracks n nothing_seen (let w = (t.legal.goes_on is).whole in omega (arith, w, high)))
+      ]
+
+      by_end : (b : Bool) → e.ended ≡ b → run.normal ≡ new_normal c → (if b then [] else (if (track_in e n).disabled then hand.SetFlags 8 ∷ [] else [])) ≡ []
+      by_end true is new = refl
+      by_end false is new = by_disabled (track_in e n).disabled (able new is)
+
+      by_hand : (b : Bool) → run.handed ≡ b → (hand_list e n ≡ []) ⊎ (run.handed ≡ true)
+      by_hand true is = inr is
+      by_hand false is = inl (by_end e.ended refl (kept.new is))
+
+  pub acts : ActsWhereMet s run f e
+  acts = record { hands = hands_act; streams = streams_act }

@@ -1,0 +1,4 @@
+pub mod TrackCalm
+pub mod RunCalm
+pub mod NoneShut
+pub mod TurnsTame
