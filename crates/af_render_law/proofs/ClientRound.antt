@@ -1,0 +1,73 @@
+-- A round of a client, from what it finds to what it leaves.
+use Rattle.std.proofs.Common.{◌≡◌, ◌⊎◌, inl, inr, ℕ, zero, suc, ◌<◌, take, replicate, List, [], length, refl, sym, ap, ◌∙◌, subst, arith, get_or-set_other, get_or-set_same}
+use Rattle.std.specs.Prelude.{slice_index_or}
+use Rattle.std.proofs.lemmas.Bool.{cases_eq}
+use Rattle.std.proofs.lemmas.List.{length-replicate}
+use Rattle.std.proofs.lemmas.Option.{slice_get_within}
+use Rattle.af_base.specs.declared.event.ClientCall.{ClientCall}
+use Rattle.af_link.specs.declared.links.Links.{Links}
+use Rattle.af_model.specs.Journals.{EntrySeen, RoundNoted, RoundSeen}
+use Rattle.af_runs.specs.Blocks.{Marks}
+use Rattle.af_runs.specs.ClientTurns.{LegalClientTurn, Track}
+use Rattle.af_runs.specs.Runs.{Run, calls_in}
+use Rattle.af_runs.specs.Sessions.{Session}
+use Rattle.af_runs.specs.TurnRuns.{IsMadeBy, OnlyCalls, calls_alone}
+use Rattle.af_script.specs.declared.op.TurnSpec.TheVariants as makes
+use Rattle.af_session.specs.Rounds.{ClientTurned, IsRound, client_round, no_calls}
+use Rattle.af_session.specs.Together.{AreTogether, SessionState}
+use Rattle.af_render_law.specs.Laws.{StepIsTold, round_of}
+use Rattle.af_render_law.specs.Tells.{Tells, given_of}
+use Rattle.af_render_law.proofs.AllMeet.{met_histories, tells_met}
+use Rattle.af_render_law.proofs.ClientTold.{client_told}
+use Rattle.af_render_law.proofs.EndsTold.{ends_told}
+
+pub none_else : (n j : ℕ) → slice_index_or (replicate n (let none : List ClientCall = [] in none)) j [] ≡ []
+none_else zero j = refl
+none_else (suc n) zero = refl
+none_else (suc n) (suc j) = none_else n j
+
+module _ (links : Links) (s : Session) (marks : Marks) (run : Run) (i : ℕ) (x : SessionState) (r : RoundNoted) (bytes : List ℕ) (y : SessionState) (entries : List EntrySeen) (h : Tells s run x)
+    (w : IsRound (given_of s) (makes.Client i) x r bytes y) (turned : AreTogether links w.turned) (met : AreTogether links w.met) where
+  abbrev calls : List ClientCall
+  calls = w.turns.1
+
+  abbrev round : RoundSeen
+  round = round_of r entries
+
+  abbrev turn : ClientTurned (given_of s) i x w.turned calls
+  turn = w.turns.3
+
+  is_round : r ≡ client_round x i calls
+  is_round = w.turns.2
+
+  within : i < length x.clients
+  within = slice_get_within x.clients i turn.before turn.was
+
+  here : calls_in round i ≡ calls
+  here = ap (λ (n : RoundNoted). slice_index_or n.calls i []) is_round ∙ get_or-set_same (no_calls x) i calls [] (let n = length-replicate (length x.clients) (let none : List ClientCall = [] in none) in let l = within in omega (arith, n, l))
+
+  only : OnlyCalls (λ t. t ≡ i) round
+  only j = by_number (cases_eq j i)
+    where
+      by_number : (j ≡ i) ⊎ (j ≡ i → ⊥) → (j ≡ i) ⊎ (calls_in round j ≡ [])
+      by_number (inl e) = inl e
+      by_number (inr ne) = inr (ap (λ (n : RoundNoted). slice_index_or n.calls j []) is_round ∙ get_or-set_other (no_calls x) i j calls [] ne ∙ none_else (length x.clients) j)
+
+  made : IsMadeBy s marks run (makes.Client i) round
+  made = (
+    only,
+    ap (λ (n : RoundNoted). n.turn) is_round,
+    ap (λ (n : RoundNoted). take n.cycles entries) is_round,
+    subst (λ (z : Track × List ClientCall). LegalClientTurn z.0 z.1) (λ j. (sym (h.tracks i turn.before turn.was).client j, sym here j)) turn.legal,
+  )
+
+  told : Tells s (calls_alone i round run) w.turned
+  told = client_told s run i round x w.turned h (subst (ClientTurned (given_of s) i x w.turned) (sym here) turn)
+
+  -- it is made legally, leaves the histories, and is told
+  pub client_step : StepIsTold s marks run (makes.Client i) round y
+  client_step = record {
+    made = made;
+    histories = met_histories links s (calls_alone i round run) w.turned w.met turned met told w.meets;
+    told = subst (Tells s _) (sym w.ends) (ends_told s _ w.met (tells_met links s (calls_alone i round run) w.turned w.met turned met told w.meets));
+  }

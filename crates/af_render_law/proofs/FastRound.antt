@@ -1,0 +1,86 @@
+-- A round of the fast mixer, from what it finds to what it leaves.
+use Rattle.std.proofs.Common.{◌≡◌, inr, ℕ, ◌+◌, ◌≤◌, Bool, true, false, fold, map, take, drop, if◌then◌else◌, MatchBool, List, [], length, sym, ap, ◌∙◌, subst, arith}
+use Rattle.std.specs.Prelude.{slice_index_or}
+use Rattle.std.proofs.Math.Seq.{drop-append_seam}
+use Rattle.std.proofs.lemmas.Bool.{MatchBool-at_false}
+use Rattle.af_base.specs.declared.log.CycleEntry.{CycleEntry}
+use Rattle.af_model.specs.Journals.{EntrySeen, RoundNoted, RoundSeen, entries_seen}
+use Rattle.af_runs.specs.Blocks.{Marks}
+use Rattle.af_runs.specs.Rounds.{IsFastTurn}
+use Rattle.af_runs.specs.Runs.{Run, fast_ended}
+use Rattle.af_runs.specs.Sessions.{Session}
+use Rattle.af_runs.specs.TurnRuns.{IsMadeBy, LegalAlone, OnlyCalls, cycle_alone}
+use Rattle.af_script.specs.declared.op.TurnSpec.TheVariants as makes
+use Rattle.af_session.specs.FastTurns as parties
+use Rattle.af_session.specs.Rounds.{IsRound, fast_round, still_round}
+use Rattle.af_session.specs.Rounds as rounds
+use Rattle.af_session.specs.Together.{SessionState}
+use Rattle.af_render_law.specs.FastRound.{IsTameRun, MixesAreTold}
+use Rattle.af_render_law.specs.Laws.{IsBetween, StepIsTold, round_of}
+use Rattle.af_render_law.specs.Tells.{Tells, given_of}
+use Rattle.af_render_law.proofs.AllMeet.{met_histories, tells_met}
+use Rattle.af_render_law.proofs.ClientRound.{none_else}
+use Rattle.af_render_law.proofs.EndsTold.{ends_told}
+use Rattle.af_render_law.proofs.FastForm.{form_seen}
+use Rattle.af_render_law.proofs.FastTurnTold.{TurnTold, turn_told}
+use Rattle.af_render_law.proofs.IdlePoll.{between_after}
+
+module _ (s : Session) (marks : Marks) (run : Run) (count : ℕ) (x : SessionState) (r : RoundNoted) (bytes : List ℕ) (y : SessionState) (entries : List EntrySeen) (mixes : MixesAreTold s marks) (lawful : (track : ℕ) → marks.streams track ≡ true) (h : Tells s run x) (tame : IsTameRun run)
+    (between : IsBetween x) (runs : x.fast.exited ≡ false) (some : 1 ≤ count) (room : length run.entries + count ≤ s.script.cycles) (w : IsRound (given_of s) (makes.Fast count) x r bytes y)
+    (dealt : take r.cycles entries ≡ entries_seen (drop (length x.fast.log.frames) w.turned.fast.log.frames) (drop (length x.fast.log.entries) w.turned.fast.log.entries)) where
+  abbrev round : RoundSeen
+  round = round_of r entries
+
+  turns : (r ≡ fast_round x w.turned) × parties.IsFastTurn count x bytes w.turned
+  turns = MatchBool-at_false ((r ≡ still_round x) × (bytes ≡ []) × (w.turned ≡ x)) ((r ≡ fast_round x w.turned) × parties.IsFastTurn count x bytes w.turned) runs w.turns
+
+  still_room : length x.fast.log.entries + count ≤ x.fast.cycles
+  still_room =
+      let cycles = h.fast.cycles in
+      let many : length x.fast.log.entries ≡ length run.entries = ap (λ (es : List CycleEntry). length es) h.fast.entries in
+      omega (arith, cycles, many, room)
+
+  turn : TurnTold w.together.links w.turned w.met w.together.turned w.together.met w.meets s marks mixes lawful count run x
+  turn = turn_told w.together.links w.turned w.met w.together.turned w.together.met w.meets s marks mixes lawful count run x bytes turns.1 h between tame runs still_room
+
+  -- the entries of the round are those that the turn added
+  entries_are : round.entries ≡ entries_seen (drop (length x.fast.log.frames) w.turned.fast.log.frames) turn.entries
+  entries_are = dealt ∙ ap (entries_seen (drop (length x.fast.log.frames) w.turned.fast.log.frames)) (ap (drop (length x.fast.log.entries)) turn.added ∙ drop-append_seam x.fast.log.entries turn.entries)
+
+  no_calls : OnlyCalls (λ t. ⊥) round
+  no_calls j = inr (ap (λ (n : RoundNoted). slice_index_or n.calls j []) turns.0 ∙ none_else (length x.clients) j)
+
+  form : IsFastTurn count false round.entries × LegalAlone s marks run round.entries
+  form = subst (λ (es : List EntrySeen). IsFastTurn count false es × LegalAlone s marks run es) (sym entries_are) (form_seen count (drop (length x.fast.log.frames) w.turned.fast.log.frames) turn.entries some turn.are, turn.legal)
+
+  not_over : fast_ended run ≡ false
+  not_over = sym h.fast.exited ∙ runs
+
+  made : IsMadeBy s marks run (makes.Fast count) round
+  made = (
+    no_calls,
+    ap (λ (n : RoundNoted). n.turn) turns.0,
+    subst (λ (b : Bool). MatchBool b (round.entries ≡ []) (IsFastTurn count false round.entries × LegalAlone s marks run round.entries)) (sym not_over) form,
+  )
+
+  told : Tells s (fold (cycle_alone s) run round.entries) w.turned
+  told = subst (λ (es : List EntrySeen). Tells s (fold (cycle_alone s) run es) w.turned) (sym entries_are) turn.told
+
+  -- it is made legally, leaves the histories, and is told
+  pub fast_step : StepIsTold s marks run (makes.Fast count) round y
+  fast_step = record {
+    made = made;
+    histories = met_histories w.together.links s (fold (cycle_alone s) run round.entries) w.turned w.met w.together.turned w.together.met told w.meets;
+    told = subst (Tells s _) (sym w.ends) (ends_told s _ w.met (tells_met w.together.links s (fold (cycle_alone s) run round.entries) w.turned w.met w.together.turned w.together.met told w.meets));
+  }
+
+  -- the ends of the queue are in step after it
+  pub fast_between : IsBetween y
+  fast_between = subst IsBetween (sym w.ends) (between_ends w.met (between_after w.together.links w.turned w.met w.together.met w.meets turn.between))
+    where
+      between_ends : (z : SessionState) → IsBetween z → IsBetween (rounds.with_ends z)
+      between_ends z b = by_end z.normal.ended
+        where
+          by_end : (o : Bool) → IsBetween (if o then record z { clients = map rounds.end_party z.clients } else z)
+          by_end true = record { step = b.step; history = b.history; state = b.state; last = b.last }
+          by_end false = b

@@ -1,0 +1,16 @@
+-- What the fast mixer reports of a proxy that it played is what its block tells of it.
+use Rattle.std.proofs.Common.{◌≡◌, is_some, Some, ◌∙◌}
+use Rattle.af_fast.specs.Known.{known_at}
+use Rattle.af_runs.specs.Blocks.{BlockTold, listed as told_list}
+use Rattle.af_runs.specs.Runs.{known_of}
+use Rattle.af_server.specs.Order.{IsInOrder, ServerState}
+use Rattle.af_server.specs.Slot.{listed}
+use Rattle.af_render_law.specs.Tells.{TellsServer}
+
+-- what a proxy in order keeps is what its list tells
+kept_known : (s : ServerState) → IsInOrder s → known_at (Some s) ≡ known_of (listed s)
+kept_known s order = λ j. record { consumed = order.consumed_is j; flush_seen = order.flushes_is j; shut = is_some (order.shut_is j) }
+
+-- so it is what its block tells
+pub block_known : (b : BlockTold) (s : ServerState) → IsInOrder s → TellsServer b s → known_at (Some s) ≡ known_of (told_list b)
+block_known b s order told = kept_known s order ∙ (λ j. known_of (record { shape = told.shape j; events = told.events j }))

@@ -1,0 +1,53 @@
+-- What the laws say.
+use Rattle.std.specs.Prelude.{◌≡◌, ℕ, drop, take, List, [], ◌∷◌}
+use Rattle.af_base.specs.declared.frame.Frame.{Frame}
+use Rattle.af_base.specs.declared.log.CycleEntry.{CycleEntry}
+use Rattle.af_script.specs.declared.op.TurnSpec.{TurnSpec}
+use Rattle.af_fast.specs.Mixer.{MixerState}
+use Rattle.af_model.specs.StateQueue.{HasHistory}
+use Rattle.af_base.specs.declared.event.ClientEvent.{ClientEvent}
+use Rattle.af_model.specs.Order.{ones, twos}
+use Rattle.af_runs.specs.Told.{PipeTold}
+use Rattle.af_model.specs.Journals.{EntrySeen, RoundNoted, RoundSeen, taken_by}
+use Rattle.af_runs.specs.Blocks.{Marks}
+use Rattle.af_runs.specs.Rounds.{HaveHistories}
+use Rattle.af_runs.specs.Runs.{Run, with_ends}
+use Rattle.af_runs.specs.Sessions.{Session}
+use Rattle.af_runs.specs.TurnRuns.{IsMadeBy, met_alone}
+use Rattle.af_session.specs.Leads.{InStep, LeadAway}
+use Rattle.af_session.specs.Together.{SessionState}
+use Rattle.af_render_law.specs.Tells.{Tells}
+
+-- a round as the journal has it, where these entries are left
+abbrev pub round_of : RoundNoted → List EntrySeen → RoundSeen
+round_of r entries = record { calls = r.calls; turn = r.turn; entries = take r.cycles entries }
+
+-- a turn of one party is made legally after this run, the lists have their histories after it, and the run after the round tells the session y
+pub record StepIsTold (s : Session) (marks : Marks) (run : Run) (turn : TurnSpec) (round : RoundSeen) (y : SessionState) : Type 0 where
+  pub made : IsMadeBy s marks run turn round
+  pub histories : HaveHistories s (met_alone s run turn round)
+  pub told : Tells s (with_ends (met_alone s run turn round)) y
+
+-- the rounds are such turns, one after the other, up to the session y
+abbrev pub AreSteps : Session → Marks → Run → List TurnSpec → List RoundSeen → SessionState → Type 0
+AreSteps s marks run [] rounds y = (rounds ≡ []) × Tells s run y
+AreSteps s marks run (turn ∷ turns) [] y = ⊥
+AreSteps s marks run (turn ∷ turns) (round ∷ rounds) y = (m : SessionState) × StepIsTold s marks run turn round m × AreSteps s marks (with_ends (met_alone s run turn round)) turns rounds y
+
+-- the queue's ends are in step, their lists have a history, and the slots of the observer's state, and of the last one pushed, lead to tracks whose proxies are away
+pub record IsBetween (x : SessionState) : Type 0 where
+  pub step : InStep x.normal.mutator.past x.fast.observer.past
+  pub history : HasHistory x.normal.mutator.past.first x.normal.mutator.past.events x.fast.observer.past.events
+  pub state : LeadAway x.fast.observer.past.state x.normal.tracks
+  pub last : LeadAway x.normal.mutator.past.last x.normal.tracks
+
+-- an entry as the journal has it, where the log had so many frames before
+abbrev pub entry_told : List Frame → ℕ → CycleEntry → EntrySeen
+entry_told frames place entry = record { entry = entry; frames = take (taken_by entry) (drop place frames) }
+
+-- the pipe's ends did and have what is told
+pub record PipeTells (p : PipeTold) (puts : List ClientEvent) (put : List ℕ) (f : MixerState) : Type 0 where
+  pub puts_are : puts ≡ ones p.told
+  pub put_is : put ≡ p.put
+  pub takes : f.pipe.pass.part.events ≡ twos p.told
+  pub taken : f.pipe.pass.part.frames ≡ p.taken

@@ -1,0 +1,13 @@
+pub mod Tells
+pub mod Laws
+pub mod Own
+pub mod Between
+pub mod QueueTurned
+pub mod Chain
+pub mod MixLaws
+pub mod FastRound
+pub mod Places
+pub mod Outsides
+pub mod Comers
+pub mod NormalLaws
+pub mod RenderLaws

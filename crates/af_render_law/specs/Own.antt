@@ -1,0 +1,27 @@
+-- What the meetings after a turn show of it: each front that a look saw is the server's own.
+use Rattle.std.specs.Prelude.{◌≡◌, ℕ, ◌<◌, true, length, slice_get, Some}
+use Rattle.af_link.specs.PipeEnds.{SeesTaken}
+use Rattle.af_model.specs.History.{is_lawful}
+use Rattle.af_model.specs.ServerCalls.{server_begins}
+use Rattle.af_model.specs.Spelled.{AllSeeOwn}
+use Rattle.af_normal.specs.Mixing.{stream_at}
+use Rattle.af_party.specs.Parties.{PartyState}
+use Rattle.af_server.specs.Order.{ServerState}
+use Rattle.af_session.specs.Met.{item_at, slot_for}
+use Rattle.af_session.specs.Together.{SessionState}
+
+-- each front that the proxy saw is its own
+abbrev pub SawOwn : ServerState → Type 0
+SawOwn s = AllSeeOwn s.pass.part.shape (server_begins s.pass.part.shape) s.pass.part.events
+
+-- so did the stream proxies that are home, those that the observer holds, and the command proxies; and each look at the pipe saw the number of frames taken before
+pub record SeesOwn (y : SessionState) : Type 0 where
+  pub homes : (i : ℕ) (s : ServerState) → i < length y.clients → stream_at y.normal.streams i ≡ Some s → SawOwn s
+  pub held : (i : ℕ) (s : ServerState) → i < length y.clients → item_at y.fast.observer.items (slot_for y.fast.observer.past.state i) ≡ Some s → SawOwn s
+  pub commands : (i : ℕ) (s : ServerState) → i < length y.clients → slice_get y.normal.commands i ≡ Some s → SawOwn s
+  pub pipe : SeesTaken 0 y.fast.pipe.pass.part.events
+
+-- no client of the session poked a block so far
+pub record AreTame (y : SessionState) : Type 0 where
+  pub streams : (i : ℕ) (p : PartyState) → slice_get y.clients i ≡ Some p → is_lawful p.stream.pass.part.events ≡ true
+  pub commands : (i : ℕ) (p : PartyState) → slice_get y.clients i ≡ Some p → is_lawful p.command.pass.part.events ≡ true
