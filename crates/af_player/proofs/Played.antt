@@ -1,9 +1,12 @@
 -- A session that was played, and its line.
-use Rattle.std.proofs.Common.{◌≡◌, ℕ, List, Some, Result, Ok, Err, IsErrAnd, String, string_bytes, refl, sym, ap, subst, inr}
+use Rattle.std.proofs.Common.{◌≡◌, ℕ, List, Some, Result, Ok, Err, IsErrAnd, String, string_bytes, refl, sym, ap, subst, ◌∙◌, inr}
 use Rattle.std.specs.declared.alloc.Global.{Global}
 use Rattle.af_model.specs.Journals.{JournalData}
 use Rattle.af_io.specs.Files.{Files, SetsFile}
 use Rattle.af_tally.specs.declared.summary.Summary.{Summary}
+use Rattle.af_one_turn_run.proofs.OneTurnRun.{one_turn_run}
+use Rattle.af_render_law.proofs.RendersTold.{render_told}
+use Rattle.af_script.specs.Form.{IsScript}
 use Rattle.af_session.specs.Ends.{EndsState}
 use Rattle.af_session.specs.Rendered.{HandsBack}
 use Rattle.af_session.specs.Shown.{summary_told}
@@ -26,9 +29,20 @@ pub no_usage-memory : (r : Result (String Global) Stop) → IsErrAnd r (λ stop.
 no_usage-memory (Ok line) memory = absurd memory
 no_usage-memory (Err stop) memory = subst (λ (s : Stop). IsNoUsage {X = String Global} (Err s)) (sym memory) tt
 
-module _ (l : Loaded) (journal : JournalData) (ends : EndsState) (back : HandsBack l.script l.files journal ends) (summary : Summary) (summary_is : summary ≡ summary_told l.script.frames journal ends) where
+module _ (l : Loaded) (journal : JournalData) (ends : EndsState) (back : HandsBack l.script l.files journal ends) (summary : Summary) (summary_is : summary ≡ summary_told l.script.frames journal ends) (accepted : IsScript l.script) where
   is_session : IsSession l.script l.files (journal_pcm l.script.frames journal) (summary_line summary)
-  is_session = record { journal = journal; ends = ends; back = back; bytes_are = refl; line_is = ap summary_line summary_is }
+  is_session = record {
+    journal = journal;
+    ends = ends;
+    back = back;
+    bytes_are = refl;
+    line_is = ap summary_line summary_is;
+    told = (λ plain. let told = render_told l.script l.files journal ends accepted plain back in record {
+      turns = told.turns;
+      line_is = ap summary_line (summary_is ∙ told.summary);
+      alone = (λ met other run also. one_turn_run l.script l.files other journal accepted plain run told.turns also met);
+    });
+  }
 
   pub some_line : (line : List ℕ) → line ≡ summary_line summary → IsSomeSessionLine line
   some_line line is = (l.script, l.files, journal_pcm l.script.frames journal, subst (λ (text : List ℕ). IsSession l.script l.files (journal_pcm l.script.frames journal) text) (sym is) is_session)

@@ -2,6 +2,10 @@
 use Rattle.std.specs.Prelude.{◌≡◌, ℕ, List, ◌++◌, codes}
 use Rattle.af_base.specs.declared.frame.Frame.{Frame}
 use Rattle.af_model.specs.Journals.{JournalData}
+use Rattle.af_one_turn_run.specs.MetLast.{AllMetLast}
+use Rattle.af_one_turn_run.specs.NoPokes.{HasNoPokes}
+use Rattle.af_render_law.specs.RenderLaws.{summary_alone}
+use Rattle.af_runs.specs.TurnRuns.{IsTurnRun}
 use Rattle.af_script.specs.Data.{ScriptData}
 use Rattle.af_tally.specs.declared.summary.Summary.{Summary}
 use Rattle.af_session.specs.Ends.{EndsState}
@@ -14,13 +18,20 @@ use Rattle.af_tally.specs.Summaries.{summary_text}
 abbrev pub summary_line : Summary → List ℕ
 summary_line summary = summary_text summary ++ codes "\n"
 
--- these bytes and this line are the sound of the journal of one turn run, and the line of its summary
+-- Where no op of the script is a poke: the journal is by itself a turn run, in which each event sees what all before it left, and the line is that of the summary that it tells. Any other turn run of this script and these files is this one, where in both each stream proxy takes part in the last meeting
+pub record IsTurnRunAlone (script : ScriptData) (files : List (List Frame)) (journal : JournalData) (line : List ℕ) : Type 0 where
+  pub turns : IsTurnRun script files journal
+  pub line_is : line ≡ summary_line (summary_alone script files journal)
+  pub alone : AllMetLast script files journal → (other : JournalData) → IsTurnRun script files other → AllMetLast script files other → other ≡ journal
+
+-- These bytes and this line are the sound of the journal of one turn run, and the line of its summary. Where no op is a poke, and each stream proxy takes part in the last meeting, they are a function of the script and the files
 pub record IsSession (script : ScriptData) (files : List (List Frame)) (bytes line : List ℕ) : Type 0 where
   pub journal : JournalData
   pub ends : EndsState
   pub back : HandsBack script files journal ends
   pub bytes_are : bytes ≡ journal_pcm script.frames journal
   pub line_is : line ≡ summary_line (summary_told script.frames journal ends)
+  pub told : HasNoPokes script → IsTurnRunAlone script files journal line
 
 -- this is the line of a turn run of some script with some files
 abbrev pub IsSomeSessionLine : List ℕ → Type 0

@@ -5,10 +5,12 @@ ghost use Rattle.af_player.specs.Ends.{Makes};
 ghost use Rattle.af_player.specs.Loading.{loaded_view, AreFilesFor};
 ghost use Rattle.af_player.specs.Sessions.{IsSomeSessionLine, summary_line};
 ghost use Rattle.af_player.specs.Status.{HasFault, IsNoUsage};
+ghost use Rattle.af_script.specs.Form.{IsScript};
 
 use crate::load::{Loaded, load_script};
 use crate::status::Stop;
 use af_io::Store;
+use af_script::Script;
 use af_tally::Summary;
 use std::alloc::{AllocError, Global};
 
@@ -19,7 +21,16 @@ pub fn summary_line(alloc: Global, summary: &Summary) -> Result<String, AllocErr
     format!(in alloc; "{summary}\n")
 }
 
+// What was read as a script keeps the rules of a script: its type says so.
+fn is_accepted(script: &Script)
+    ensures { IsScript script.now }
+{
+    let _version = script.version();
+}
+
 /// Plays what was loaded, and answers its line.
+///
+/// Where no op of the script is a poke, the journal behind the sound is by itself a turn run, in which each event sees what all before it left, and the line is that of its summary. If each stream proxy takes part in its last meeting, it is the only such turn run of this script and these files.
 pub fn play<S: Store>(
     alloc: Global,
     loaded: &Loaded,
@@ -32,6 +43,7 @@ pub fn play<S: Store>(
     ensures cause { HasFault (S.faults store.old) (S.faults store.new) result }
     ensures words { IsNoUsage result }
 {
+    is_accepted(&loaded.script);
     let played = af_session::render(alloc, &loaded.script, &loaded.files, store, target)?;
     Ok(summary_line(alloc, &played.summary)?)
 }

@@ -27,7 +27,7 @@ returns-in_err-summary_line-clause-made g c = λ told.
     let same : here ≡ loaded_view c.args.loaded.now = λ k. record { script = c.args.loaded.now.script; files = c.deref.ensures.value k } in
     Makes-memory c.from_residual-in_err-summary_line.result (Ok (session_job c.args.target.now (loaded_view c.args.loaded.now))) old new c.from_residual-in_err-summary_line.ensures.1
     (subst (λ (l : Loaded). IsCutOff (Ok (session_job c.args.target.now l)) old new) same
-    (cut_behind here p.journal p.ends c.in_ok-played.ensures.played p.summary c.in_ok-played.ensures.summary c.args.target.now old new (c.in_ok-played.ensures.written told)))
+    (cut_behind here p.journal p.ends c.in_ok-played.ensures.played p.summary c.in_ok-played.ensures.summary c.is_accepted.ensures c.args.target.now old new (c.in_ok-played.ensures.written told)))
 
 pub returns-clause-made : goal.returns-clause-made
 returns-clause-made g c = λ told.
@@ -38,13 +38,13 @@ returns-clause-made g c = λ told.
     let here : Loaded = record { script = c.args.loaded.now.script; files = c.deref.result.now } in
     let same : here ≡ loaded_view c.args.loaded.now = λ k. record { script = c.args.loaded.now.script; files = c.deref.ensures.value k } in
     subst (λ (l : Loaded). Makes (Ok line) (Ok (session_job c.args.target.now l)) old new) same
-    (Makes-played here p.journal p.ends c.in_ok-played.ensures.played p.summary c.in_ok-played.ensures.summary c.args.target.now old new (c.in_ok-played.ensures.written told) line c.in_ok-summary_line.ensures)
+    (Makes-played here p.journal p.ends c.in_ok-played.ensures.played p.summary c.in_ok-played.ensures.summary c.is_accepted.ensures c.args.target.now old new (c.in_ok-played.ensures.written told) line c.in_ok-summary_line.ensures)
 
 pub returns-clause-line : goal.returns-clause-line
 returns-clause-line g c =
     let p = c.in_ok-played.played in
     let here : Loaded = record { script = c.args.loaded.now.script; files = c.deref.result.now } in
-    some_line here p.journal p.ends c.in_ok-played.ensures.played p.summary c.in_ok-played.ensures.summary _ c.in_ok-summary_line.ensures
+    some_line here p.journal p.ends c.in_ok-played.ensures.played p.summary c.in_ok-played.ensures.summary c.is_accepted.ensures _ c.in_ok-summary_line.ensures
 
 pub returns-in_err-summary_line-clause-words : goal.returns-in_err-summary_line-clause-words
 returns-in_err-summary_line-clause-words g c = no_usage-memory c.from_residual-in_err-summary_line.result c.from_residual-in_err-summary_line.ensures.1
