@@ -29,6 +29,11 @@ suits outside.Memory request = tt
 pub suits_stopped : (r : Result (String Global) Stop) (e : StoreError) (request : Request) → IsErrAnd r (λ s. s ≡ stop_of e) → SuitsRequest r request
 suits_stopped r e request is = stopped (λ x. SuitsRequest x request) r e (suits e request) is
 
+-- so does want of memory
+pub suits_memory : (r : Result (String Global) Stop) (request : Request) → IsErrAnd r (λ s. s ≡ Memory) → SuitsRequest r request
+suits_memory (Ok line) request is = absurd is
+suits_memory (Err s) request is = subst (λ (x : Stop). SuitsRequest {X = String Global} (Err x) request) (sym is) tt
+
 -- ## Counts
 
 same_count : (before now : ℕ) → before ≤ now → (before < now → ⊥) → now ≡ before

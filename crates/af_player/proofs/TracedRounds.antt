@@ -12,7 +12,7 @@ use Rattle.af_runs.specs.Pcm.{journal_pcm}
 use Rattle.af_tally.specs.declared.summary.Summary.{Summary}
 use Rattle.af_session.specs.Ends.{EndsState}
 use Rattle.af_session.specs.Logging.{IsLogOf}
-use Rattle.af_session.specs.PlayedRuns.{HandsBackRun, IsLegalJournal}
+use Rattle.af_session.specs.PlayedRuns.{HandsBackRun, IsLegalJournal, LeavesRun}
 use Rattle.af_session.specs.Shown.{summary_told}
 use Rattle.af_player.specs.declared.status.Stop.TheVariants.{Over}
 use Rattle.af_player.specs.declared.status.Ending.TheVariants.{Limit}
@@ -29,6 +29,10 @@ use Rattle.af_player.proofs.PlayedRounds.{line_told, played, text_left}
 -- what a list that was empty holds behind what was appended
 pub appended : (held new empty more : List ℕ) → held ≡ new → new ≡ empty ++ more → empty ≡ [] → held ≡ more
 appended held new empty more is grown none = is ∙ grown ∙ ap (λ (xs : List ℕ). xs ++ more) none
+
+-- what a play leaves where the outside stopped it is what is left of the work
+pub trace_left : (l : Loaded) (room : ℕ) (target name log : List ℕ) (old new : Files) → LeavesRun l.script l.files target old new → IsCutOff (Ok (trace_job target name log room l)) old new
+trace_left l room target name log old new left = inl (inr (inl (inl left)))
 
 module _ (l : Loaded) (room : ℕ) (journal : JournalData) (ends : EndsState) (back : HandsBackRun true l.script l.files journal ends) (legal : IsLegalJournal true l.script l.files journal) (notes : List Note) (refused : ℕ) (log_of : IsLogOf l.script.frames room journal notes refused) where
   abbrev bytes : List ℕ

@@ -5,7 +5,7 @@ use Rattle.af_model.specs.Journals.{JournalData}
 use Rattle.af_nblog.specs.LogText.{log_text}
 use Rattle.af_session.specs.declared.rendering.SessionFault.{SessionFault}
 use Rattle.af_session.specs.Ends.{EndsState}
-use Rattle.af_session.specs.PlayedRuns.{AtLimit, HandsBackRun}
+use Rattle.af_session.specs.PlayedRuns.{AtFault, AtLimit, HandsBackRun, LeavesRun}
 use Rattle.af_runs.specs.LegalRuns.{IsCutRun}
 use Rattle.af_runs.specs.Pcm.{journal_pcm}
 use Rattle.af_player.specs.declared.status.Stop.TheVariants.{Over}
@@ -17,8 +17,8 @@ use Rattle.af_words.specs.Requests.{Trace}
 use Rattle.af_player.specs.Status.{stop_of}
 use Rattle.af_player.proofs.Played.{Makes-memory}
 use Rattle.af_player.proofs.PlayedRounds.{cut_short, promises, some_play_line}
-use Rattle.af_player.proofs.TracedRounds.{Makes-cut_log, Makes-traced, appended, journal_unwritten, log_unwritten, trace_behind}
-use Rattle.af_player.proofs.PlayedFaults.{calm_limit, calm_memory, cut_still, fault_behind, ok_still, stopped, suits_stopped, written_still}
+use Rattle.af_player.proofs.TracedRounds.{Makes-cut_log, Makes-traced, appended, journal_unwritten, log_unwritten, trace_behind, trace_left}
+use Rattle.af_player.proofs.PlayedFaults.{calm_limit, calm_memory, cut_still, fault_behind, ok_still, stopped, suits_memory, suits_stopped, written_still}
 use Rattle.af_player.proofs.tracing.trace.Goals as goal
 
 pub returns-in_err-write_journal-in-Ok-clause-made : goal.returns-in_err-write_journal-in-Ok-clause-made
@@ -172,3 +172,28 @@ returns-in-Err-CycleLimit-clause-cause g c =
     calm_limit c.cycles-cycles.result (g.S.Store.faults c.args.store.now) (g.S.Store.faults c.write_journal-in-Err-CycleLimit.new.store)
     (written_still c.in_ok-write_journal-in-Err-CycleLimit.field-0 (g.S.Store.faults c.play_logged.new.store) (g.S.Store.faults c.write_journal-in-Err-CycleLimit.new.store) c.in_ok-write_journal-in-Err-CycleLimit.ensures.cause
     ∙ cut_still c.in-Err-CycleLimit.field-0 c.in-Err-CycleLimit.cut c.in-Err-CycleLimit.field-0-1 (g.S.Store.faults c.args.store.now) (g.S.Store.faults c.play_logged.new.store) c.in-Err-CycleLimit.field-0-is c.in-Err-CycleLimit.ensures.cause)
+
+pub returns-in_err-summary_line-in-Ok-clause-words : goal.returns-in_err-summary_line-in-Ok-clause-words
+returns-in_err-summary_line-in-Ok-clause-words g c = λ script. suits_memory c.from_residual-in_err-summary_line-in-Ok.result (Trace script c.args.target.now c.args.journal.now c.args.log.now c.args.room) c.from_residual-in_err-summary_line-in-Ok.ensures.1
+
+pub returns-in-Err-Store-clause-made : goal.returns-in-Err-Store-clause-made
+returns-in-Err-Store-clause-made g c = λ told.
+    let old = g.S.Store.files c.args.store.now in
+    let new = g.S.Store.files c.play_logged.new.store in
+    let a = c.in-Err-Store in
+    let here : Loaded = record { script = c.args.loaded.now.script; files = c.deref.result.now } in
+    let same : here ≡ loaded_view c.args.loaded.now = λ k. record { script = c.args.loaded.now.script; files = c.deref.ensures.value k } in
+    let left = subst (λ (f : SessionFault). AtFault (LeavesRun c.args.loaded.now.script c.deref.result.now c.args.target.now old new) f) a.field-0-is (a.ensures.left told) in
+    subst (λ (l : Loaded). IsCutOff (Ok (trace_job c.args.target.now c.args.journal.now c.args.log.now c.args.room l)) old new) same
+    (trace_left here c.args.room c.args.target.now c.args.journal.now c.args.log.now old new left)
+
+pub returns-clause-made : goal.returns-clause-made
+returns-clause-made g c = λ told.
+    let old = g.S.Store.files c.args.store.now in
+    let new = g.S.Store.files c.play_logged.new.store in
+    let a = c.in-Err-Memory in
+    let here : Loaded = record { script = c.args.loaded.now.script; files = c.deref.result.now } in
+    let same : here ≡ loaded_view c.args.loaded.now = λ k. record { script = c.args.loaded.now.script; files = c.deref.ensures.value k } in
+    let left = subst (λ (f : SessionFault). AtFault (LeavesRun c.args.loaded.now.script c.deref.result.now c.args.target.now old new) f) a.field-0-is (a.ensures.left told) in
+    subst (λ (l : Loaded). IsCutOff (Ok (trace_job c.args.target.now c.args.journal.now c.args.log.now c.args.room l)) old new) same
+    (trace_left here c.args.room c.args.target.now c.args.journal.now c.args.log.now old new left)
