@@ -1,5 +1,5 @@
 -- What each step on the table asks, for a seat of this block.
-use Rattle.std.proofs.Common.{◌≡◌, ◌≢◌, ℕ, ◌+◌, ◌-◌, ◌%◌, ◌^◌, ◌<◌, if◌then◌else◌, Bool, true, false, bit_and, bit_or, ◌∷◌, ◌++◌, length, get_or, set, sym, refl, ap, ◌∙◌, subst, arith, mod-lt, length-append}
+use Rattle.std.proofs.Common.{◌≡◌, ◌≢◌, ℕ, ◌+◌, ◌-◌, ◌%◌, ◌^◌, ◌<◌, if◌then◌else◌, Bool, true, false, bit_and, bit_or, List, [], ◌∷◌, ◌++◌, length, get_or, set, sym, refl, ap, ◌∙◌, subst, arith, mod-lt, length-append, append-nil}
 use mathlib.Core.Option.{none}
 use Rattle.atomic_table.specs.Table.{Me, step, Allows}
 use Rattle.af_base.specs.declared.event.ClientEvent.TheVariants as client
@@ -13,12 +13,12 @@ use Rattle.af_cblk.specs.declared.view.ServerPart.{ServerPart}
 use Rattle.af_cblk.specs.declared.view.View.{View}
 use Rattle.af_cblk.specs.Shape.{IsShape, most_flushes}
 use Rattle.af_cblk.specs.Parts.{ahead, released, room, Has, run_of, client_did, client_flushed, flush_amount, client_saw_front, cell_stored, stored_at, rear_stored, recorded, client_met, server_did, saw_flush, saw_rear, server_saw_front, saw_cell, took, dropped, front_stored, MayStoreFront, hand_set, hand_met}
-use Rattle.af_cblk.specs.Rule.{Stands, Holds}
-use Rattle.af_cblk.specs.Plays.{ClientSeesFront, CellIsStored, RearIsStored, ClientSeesFlags, ClientSeesStatus, Flushes, GainIsStored, FlagsAreCleared, Pokes, SeesFlush, SeesRear, ServerSeesFront, SeesCell, FrontIsStored, SeesGain, Tallies, FlagsAreSet, StatusIsStored, HandSets, ClientLearns, ServerLearns, HandMeets}
+use Rattle.af_cblk.specs.Rule.{StartsWith, Stands, Holds}
+use Rattle.af_cblk.specs.Plays.{ClientSeesFront, CellIsStored, RearIsStored, ClientSeesFlags, ClientSeesStatus, Flushes, GainIsStored, FlagsAreCleared, Pokes, SeesFlush, SeesRear, ServerSeesFront, SeesCell, FrontIsStored, SeesGain, Tallies, FlagsAreSet, StatusIsStored, HandSets, ClientLearns, ServerLearns, HandMeets, HandRecalls}
 use Rattle.af_cblk.proofs.Sized.{IsSized, sized, IsWrapped, wrapped_by}
 use Rattle.af_cblk.proofs.Numbers.{ahead_of, ahead_is}
-use Rattle.af_cblk.proofs.Rows.{run_length}
-use Rattle.af_cblk.proofs.Seats.{client_steps, server_steps, hand_steps, pair_steps, client_hand_steps}
+use Rattle.af_cblk.proofs.Rows.{run_length, set_back}
+use Rattle.af_cblk.proofs.Seats.{client_steps, server_steps, hand_steps, server_hand_steps, pair_steps, client_hand_steps}
 use Rattle.af_cblk.proofs.ClientSteps.{number_is, filled_fits, client_loads_front, client_stores_cell, client_stores_rear, flags_seen, client_loads_flags, client_loads_status, client_flushes, client_stores_gain, client_clears_flags}
 use Rattle.af_cblk.proofs.ServerSteps.{server_loads_flush, server_loads_rear, server_loads_front, server_loads_cell, server_takes, server_drops, server_loads_gain, server_tallies, server_sets_flags, server_stores_status}
 use Rattle.af_cblk.proofs.MeetingSteps.{hand_sets, client_learns, server_learns, hand_meets}
@@ -145,17 +145,17 @@ module _ (key shape : Shape) (keyed : key ≡ shape) (slots id : ℕ) (me : Mine
     pub flush_by_server : Allows (Holds key) slots id me 2 (λ n. n) (SeesFlush (step slots 2 0 0 none) me)
     flush_by_server =
         let told = SeesFlush (step slots 2 0 0 none) me in
-        moved s.shape same 2 (λ n. n) told (server_steps s.shape slots id 2 me (λ n. n) told (λ n. saw_flush s (wrapped n)) is (λ words c h stands. ((λ ok. server_loads_flush words c s h (stands ok)), refl)))
+        moved s.shape same 2 (λ n. n) told (server_steps s.shape slots id 2 me (λ n. n) told (λ n. saw_flush s (wrapped n)) is (λ n. (server.SawFlush (wrapped n) ∷ [], refl)) (λ words c h stands. ((λ ok. server_loads_flush words c s h (stands ok)), refl)))
 
     pub rear_by_server : Allows (Holds key) slots id me 1 (λ n. n) (SeesRear (step slots 1 0 0 none) me)
     rear_by_server =
         let told = SeesRear (step slots 1 0 0 none) me in
-        moved s.shape same 1 (λ n. n) told (server_steps s.shape slots id 1 me (λ n. n) told (λ n. saw_rear s (wrapped n)) is (λ words c h stands. ((λ ok. server_loads_rear words c s h (stands ok)), refl)))
+        moved s.shape same 1 (λ n. n) told (server_steps s.shape slots id 1 me (λ n. n) told (λ n. saw_rear s (wrapped n)) is (λ n. (server.SawRear (wrapped n) ∷ [], refl)) (λ words c h stands. ((λ ok. server_loads_rear words c s h (stands ok)), refl)))
 
     pub front_by_server : Allows (Holds key) slots id me 0 (λ n. n) (ServerSeesFront (step slots 0 0 0 none) me)
     front_by_server =
         let told = ServerSeesFront (step slots 0 0 0 none) me in
-        moved s.shape same 0 (λ n. n) told (server_steps s.shape slots id 0 me (λ n. n) told (λ n. server_saw_front s (wrapped n)) is (λ words c h stands. ((λ ok. server_loads_front words c s h (stands ok)), refl)))
+        moved s.shape same 0 (λ n. n) told (server_steps s.shape slots id 0 me (λ n. n) told (λ n. server_saw_front s (wrapped n)) is (λ n. (server.SawFront (wrapped n) ∷ [], refl)) (λ words c h stands. ((λ ok. server_loads_front words c s h (stands ok)), refl)))
 
     cell_seen_there : IsShape shape → (position : ℕ) → Allows (Holds key) slots id me (7 + position % shape.cells) (λ n. n) (SeesCell (step slots (7 + position % shape.cells) 0 0 none) me)
     cell_seen_there ok' position =
@@ -164,7 +164,7 @@ module _ (key shape : Shape) (keyed : key ≡ shape) (slots id : ℕ) (me : Mine
         let told : Shape → ℕ → Mine → Type 0 = λ k. SeesCell (step slots (7 + position % k.cells) 0 0 none) me in
         subst (λ (k : Shape). Allows (Holds k) slots id me (7 + position % shape.cells) (λ n. n) (told shape)) (sym keyed)
         (subst (λ (k : Shape). Allows (Holds k) slots id me (7 + position % k.cells) (λ n. n) (told k)) same
-        (server_steps s.shape slots id (7 + j) me (λ n. n) (told s.shape) (λ n. saw_cell s j (wrapped n)) is (λ words c h stands. (
+        (server_steps s.shape slots id (7 + j) me (λ n. n) (told s.shape) (λ n. saw_cell s j (wrapped n)) is (λ n. ([], append-nil s.events)) (λ words c h stands. (
           (λ ok. server_loads_cell words c s h (stands ok) old (wrapped_by s.shape (subst IsShape (sym same) ok')) position),
           ap (λ (n : ℕ). (record me.0 { server = saw_cell s n (wrapped (get_or words (7 + j) 0)) }, me.1)) (sym (seven_off j)),
         ))))
@@ -178,7 +178,7 @@ module _ (key shape : Shape) (keyed : key ≡ shape) (slots id : ℕ) (me : Mine
     front_stored_by_server ok' front small may =
         let old : IsSized s.shape = sized s.shape (subst IsShape (sym same) ok') in
         let told : ℕ → Mine → Type 0 = λ _. FrontIsStored (step slots 0 front 0 none) me front in
-        moved s.shape same 0 (λ _. front) told (server_steps s.shape slots id 0 me (λ _. front) told (λ n. front_stored s front) is (λ words c h stands. (
+        moved s.shape same 0 (λ _. front) told (server_steps s.shape slots id 0 me (λ _. front) told (λ n. front_stored s front) is (λ n. stored_more s.noticed) (λ words c h stands. (
           (λ ok. by_case words c h (stands ok) old (wrapped_by s.shape (subst IsShape (sym same) ok')) s.noticed refl),
           refl,
         )))
@@ -188,25 +188,29 @@ module _ (key shape : Shape) (keyed : key ≡ shape) (slots id : ℕ) (me : Mine
         by_case words c h now old wrap true is = server_drops words c s h now old wrap front is (may.0 is)
         by_case words c h now old wrap false is = server_takes words c s h now old wrap front small is (may.1 is)
 
+        stored_more : (b : Bool) → StartsWith (if b then dropped s front else took s front).events s.events
+        stored_more true = (server.Drop front ∷ [], refl)
+        stored_more false = (server.Take (ahead s.front front) ∷ [], refl)
+
     pub gain_by_server : Allows (Holds key) slots id me 5 (λ n. n) (SeesGain (step slots 5 0 0 none) me)
     gain_by_server =
         let told = SeesGain (step slots 5 0 0 none) me in
-        moved s.shape same 5 (λ n. n) told (server_steps s.shape slots id 5 me (λ n. n) told (λ n. server_did s (server.SawGain (wrapped n))) is (λ words c h stands. ((λ ok. server_loads_gain words c s h (stands ok)), refl)))
+        moved s.shape same 5 (λ n. n) told (server_steps s.shape slots id 5 me (λ n. n) told (λ n. server_did s (server.SawGain (wrapped n))) is (λ n. (server.SawGain (wrapped n) ∷ [], refl)) (λ words c h stands. ((λ ok. server_loads_gain words c s h (stands ok)), refl)))
 
     pub tally_by_server : (missing : ℕ) → Allows (Holds key) slots id me 3 (λ n. (n + missing) % 2 ^ 64) (Tallies (step slots 3 missing 0 none) me)
     tally_by_server missing =
         let told = Tallies (step slots 3 missing 0 none) me in
-        moved s.shape same 3 (λ n. (n + missing) % 2 ^ 64) told (server_steps s.shape slots id 3 me (λ n. (n + missing) % 2 ^ 64) told (λ n. server_did s (server.Tally missing)) is (λ words c h stands. ((λ ok. server_tallies words c s h (stands ok) missing), refl)))
+        moved s.shape same 3 (λ n. (n + missing) % 2 ^ 64) told (server_steps s.shape slots id 3 me (λ n. (n + missing) % 2 ^ 64) told (λ n. server_did s (server.Tally missing)) is (λ n. (server.Tally missing ∷ [], refl)) (λ words c h stands. ((λ ok. server_tallies words c s h (stands ok) missing), refl)))
 
     pub flags_by_server : (bits : ℕ) → bits < 2 ^ 32 → Allows (Holds key) slots id me 4 (λ n. bit_or n bits) (FlagsAreSet (step slots 4 bits 0 none) me)
     flags_by_server bits fits =
         let told = FlagsAreSet (step slots 4 bits 0 none) me in
-        moved s.shape same 4 (λ n. bit_or n bits) told (server_steps s.shape slots id 4 me (λ n. bit_or n bits) told (λ n. server_did s (server.SetFlags bits)) is (λ words c h stands. ((λ ok. server_sets_flags words c s h (stands ok) bits fits), refl)))
+        moved s.shape same 4 (λ n. bit_or n bits) told (server_steps s.shape slots id 4 me (λ n. bit_or n bits) told (λ n. server_did s (server.SetFlags bits)) is (λ n. (server.SetFlags bits ∷ [], refl)) (λ words c h stands. ((λ ok. server_sets_flags words c s h (stands ok) bits fits), refl)))
 
     pub status_by_server : (word : ℕ) → word < 2 ^ 32 → Allows (Holds key) slots id me 6 (λ _. word) (λ _. StatusIsStored (step slots 6 word 0 none) me word)
     status_by_server word fits =
         let told : ℕ → Mine → Type 0 = λ _. StatusIsStored (step slots 6 word 0 none) me word in
-        moved s.shape same 6 (λ _. word) told (server_steps s.shape slots id 6 me (λ _. word) told (λ n. server_did s (server.SetStatus word)) is (λ words c h stands. ((λ ok. server_stores_status words c s h (stands ok) word fits), refl)))
+        moved s.shape same 6 (λ _. word) told (server_steps s.shape slots id 6 me (λ _. word) told (λ n. server_did s (server.SetStatus word)) is (λ n. (server.SetStatus word ∷ [], refl)) (λ words c h stands. ((λ ok. server_stores_status words c s h (stands ok) word fits), refl)))
 
   -- ## The hand and meetings
 
@@ -218,7 +222,7 @@ module _ (key shape : Shape) (keyed : key ≡ shape) (slots id : ℕ) (me : Mine
   learns_by_client is_c is_s =
       let c = me.0.client in
       let s = me.0.server in
-      pair_steps key slots id 0 me (λ n. n) (ClientLearns (step slots 0 0 0 none) me) (client_met c s.events) s is_c is_s (λ words h stands its. (
+      pair_steps key slots id 0 me (λ n. n) (ClientLearns (step slots 0 0 0 none) me) (client_met c s.events) s is_c is_s ([], append-nil s.events) (λ words h stands its. (
         (λ ok. client_learns key words c s h (stands (lawful_before c.events _ ok))),
         refl,
       ))
@@ -228,7 +232,7 @@ module _ (key shape : Shape) (keyed : key ≡ shape) (slots id : ℕ) (me : Mine
       let c = me.0.client in
       let s = me.0.server in
       let told = ServerLearns (step slots 0 0 0 none) me in
-      moved c.shape same 0 (λ n. n) told (pair_steps c.shape slots id 0 me (λ n. n) told c (server_did s (server.Learn (length c.events - 1))) is_c is_s (λ words h stands its. (
+      moved c.shape same 0 (λ n. n) told (pair_steps c.shape slots id 0 me (λ n. n) told c (server_did s (server.Learn (length c.events - 1))) is_c is_s (server.Learn (length c.events - 1) ∷ [], refl) (λ words h stands its. (
         (λ ok. server_learns c.shape words c s h (stands ok)),
         (refl, (λ ok. let now = server_learns c.shape words c s h (stands ok) in (h.events, (λ x. ap (λ p. p.events) (its x)), now.history))),
       )))
@@ -240,8 +244,12 @@ module _ (key shape : Shape) (keyed : key ≡ shape) (slots id : ℕ) (me : Mine
       let told = HandMeets (step slots 0 0 0 none) me in
       moved c.shape same 0 (λ n. n) told (client_hand_steps c.shape slots id 0 me (λ n. n) told c (hand_met h (length c.events)) is_c is_h (λ words s stands his. (
         (λ ok. hand_meets c.shape words c s h (stands ok)),
-        (refl, (λ ok. let now = hand_meets c.shape words c s h (stands ok) in (s.events, s.frames, now.learnt, (λ x. (ap (λ p. p.events) (his x), ap (λ p. p.frames) (his x))), now.history))),
+        (refl, (λ x. ap (λ p. p.events) (his x)), (λ ok. let now = hand_meets c.shape words c s h (stands ok) in (s.frames, now.learnt, (λ x. ap (λ p. p.frames) (his x)), now.history))),
       )))
+
+  pub recalled_by_hand : me.0.is_server ≡ true → me.0.is_hand ≡ true → Allows (Holds key) slots id me 0 (λ n. n) (HandRecalls (step slots 0 0 0 none) me)
+  recalled_by_hand is_s is_h =
+      server_hand_steps key slots id 0 me (λ n. n) (HandRecalls (step slots 0 0 0 none) me) is_s is_h (λ words c stands ok. subst (λ (ws : List ℕ). Stands key ws c me.0.server me.0.hand) (sym (set_back words 0)) (stands ok)) (λ goes_on n. (refl, goes_on))
 
 -- the cell that a step wrote is that of the position
 pub cell_is : (c : ClientPart) (shape : Shape) → c.shape ≡ shape → IsShape shape → (position word index : ℕ) → index ≡ 7 + position % shape.cells → position < 2 ^ 32 → ahead (released c) position < room c

@@ -54,10 +54,11 @@ begins k fits words are =
         };
         server_knows = record { rear_is = sym base; front_is = sym base; loaded_is = (λ n few seen. take_none n few (drop (k.base - k.base) [])) };
       });
+      knows = ([], refl);
     }
   where
     begun : Parties
-    begun = record { client = new_client k; server = new_server k; hand = new_hand k; client_seat = 0; server_seat = 0; hand_seat = 0 }
+    begun = record { client = new_client k; server = new_server k; hand = new_hand k; known = []; client_seat = 0; server_seat = 0; hand_seat = 0 }
 
     below : 0 < 2 ^ 32
     below = omega arith
@@ -66,7 +67,7 @@ begins k fits words are =
     unity = omega arith
 
     one : (by : ℕ) (v : View) → get_elem? (newcomer k ∷ []) by ≡ some v → Sits begun by v
-    one zero v e = subst (Sits begun 0) (some-injective _ _ e) (record { client = (λ _. (refl, refl)); server = (λ _. (refl, refl)); hand = (λ _. (refl, refl)) })
+    one zero v e = subst (Sits begun 0) (some-injective _ _ e) (record { client = (λ _. (refl, refl)); server = (λ _. (refl, refl)); hand = (λ _. (refl, refl, refl)) })
     one (suc by) v e = absurd (some-ne-none v (sym e))
 
     zeros : (n j : ℕ) → get_or (replicate n 0) j 0 < 2 ^ 32

@@ -122,11 +122,16 @@ ServerLearns st m n m' =
     × (is_lawful m.0.client.events ≡ true
     → (hand : List HandEvent) × (m.0.is_hand ≡ true → hand ≡ m.0.hand.events) × Meeting m'.0 hand)
 
--- The seat has the client's and the hand's part. The server may have gone on
+-- The seat has the client's and the hand's part. The server may have gone on, and the hand knows then what it has done
 abbrev pub HandMeets : Told
 HandMeets st m n m' =
-    (m' ≡ (record m.0 { hand = hand_met m.0.hand (length m.0.client.events) }, m.1))
+    (m' ≡ (record m.0 { hand = hand_met m.0.hand (length m.0.client.events); known = m'.0.known }, m.1))
+    × (m.0.is_server ≡ true → m'.0.known ≡ m.0.server.events)
     × (is_lawful m.0.client.events ≡ true
-    → (server : List ServerEvent) × (taken : List ℕ) × StartsWith server m.0.client.learnt
-    × (m.0.is_server ≡ true → (server ≡ m.0.server.events) × (taken ≡ m.0.server.frames))
-    × HasHistory m.0.client.shape m.0.client.events m.0.client.frames server taken m'.0.hand.events)
+    → (taken : List ℕ) × StartsWith m'.0.known m.0.client.learnt
+    × (m.0.is_server ≡ true → taken ≡ m.0.server.frames)
+    × HasHistory m.0.client.shape m.0.client.events m.0.client.frames m'.0.known taken m'.0.hand.events)
+
+-- The seat has the server's and the hand's part: the server's list goes on from what the hand knows of it
+abbrev pub HandRecalls : Told
+HandRecalls st m n m' = (m' ≡ m) × StartsWith m.0.server.events m.0.known

@@ -83,11 +83,12 @@ pub record Stands (k : Shape) (words : List ℕ) (c : ClientPart) (s : ServerPar
   pub client_knows : ClientKnows k (point history).consumed (point history).released c.frames cells c.stored c.front
   pub server_knows : ServerKnows k.base (point history).consumed (point history).rear_seen c.frames s.rear s.front s.loaded
 
--- what the parties have done, and the seat of each
+-- what the parties have done, what the hand knows of the server's list, and the seat of each
 pub record Parties : Type 0 where
   pub client : ClientPart
   pub server : ServerPart
   pub hand : HandPart
+  pub known : List ServerEvent
   pub client_seat : ℕ
   pub server_seat : ℕ
   pub hand_seat : ℕ
@@ -96,13 +97,18 @@ pub record Parties : Type 0 where
 pub record Sits (a : Parties) (by : ℕ) (v : View) : Type 0 where
   pub client : v.is_client ≡ true → (by ≡ a.client_seat) × (v.client ≡ a.client)
   pub server : v.is_server ≡ true → (by ≡ a.server_seat) × (v.server ≡ a.server)
-  pub hand : v.is_hand ≡ true → (by ≡ a.hand_seat) × (v.hand ≡ a.hand)
+  pub hand : v.is_hand ≡ true → (by ≡ a.hand_seat) × (v.hand ≡ a.hand) × (v.known ≡ a.known)
 
--- the rule: each seat has the parts that it says it has, and where the client has not poked the words stand for a history of the three lists
+-- the server's list goes on from what the hand knows of it
+abbrev pub HandKnows : Parties → Type 0
+HandKnows a = StartsWith a.server.events a.known
+
+-- the rule: each seat has the parts that it says it has, the server's list goes on from what the hand knows, and where the client has not poked the words stand for a history of the three lists
 pub record Holds (k : Shape) (t : State (Unit {0}) View) : Type 0 where
   pub parties : Parties
   pub seats : (by : ℕ) (v : View) → get_elem? t.views by ≡ some v → Sits parties by v
   pub stands : is_lawful parties.client.events ≡ true → Stands k t.words parties.client parties.server parties.hand
+  pub knows : HandKnows parties
 
 -- ## Views
 
@@ -140,6 +146,7 @@ newcomer k =
       server = new_server k;
       is_hand = true;
       hand = new_hand k;
+      known = [];
     }
 
 -- a seat with no part
@@ -153,6 +160,7 @@ nobody =
       server = new_server k;
       is_hand = false;
       hand = new_hand k;
+      known = [];
     }
 
 -- the view without one part, and with that part alone
@@ -173,4 +181,4 @@ abbrev pub and_client : View → View → View
 and_client v w = record v { is_client = true; client = w.client }
 
 abbrev pub and_hand : View → View → View
-and_hand v w = record v { is_hand = true; hand = w.hand }
+and_hand v w = record v { is_hand = true; hand = w.hand; known = w.known }

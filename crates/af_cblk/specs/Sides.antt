@@ -1,5 +1,6 @@
 -- What contracts see of a block and of its passes.
-use Rattle.std.specs.Prelude.{◌≡◌, ◌≤◌, ℕ, Bool, true}
+use Rattle.std.specs.Prelude.{◌≡◌, ◌≤◌, ℕ, Bool, true, List}
+use Rattle.af_base.specs.declared.event.ServerEvent.{ServerEvent}
 use Rattle.af_model.specs.History.{is_lawful}
 use Rattle.af_cblk.specs.Parts.{filled, client_saw_front, server_saw_front}
 use Rattle.atomic_table.specs.Seated.{TableId}
@@ -24,10 +25,11 @@ pub record ServerSide : Type 0 where
   pub part : ServerPart
   pub has_hand : Bool
 
--- the same of the hand
+-- the same of the hand, with the server's events as it knows them from its last meeting
 pub record HandSide : Type 0 where
   pub id : TableId
   pub part : HandPart
+  pub known : List ServerEvent
 
 -- the block that a pass was made with, and its sizes
 abbrev pub client_made : ClientSide → Made

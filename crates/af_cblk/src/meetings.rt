@@ -20,7 +20,7 @@ impl Block {
         requires made { server_made pass.old ≡ self.now }
         requires first { pass.old.has_hand ≡ true }
         ensures pass { pass.new ≡ (record pass.old { has_hand = false }) }
-        ensures hand { (hand_made result ≡ self.now) × (result.part ≡ new_hand self.now.shape) }
+        ensures hand { (hand_made result ≡ self.now) × (result.part ≡ new_hand self.now.shape) × (result.known ≡ []) }
         ensures steps { steps.new ≡ steps.old + 1 }
     {
         let seat = self.part_hand(&mut pass.seat, steps);
@@ -54,7 +54,7 @@ impl Block {
 
     /// The hand learns what the client has done so far, while the server's pass is elsewhere. It appends Met to the hand's list and nothing to the client's, in four steps.
     ///
-    /// Where the client has not poked, their lists have a history with some list of the server's, which goes on from what the client had learnt.
+    /// From then on the hand knows the list that the server had at that moment. Where the client has not poked, this list goes on from what the client had learnt, and has a history with theirs.
     pub fn meet_flag<L: Ledger>(
         &self,
         client: &mut ClientPass,
@@ -67,13 +67,32 @@ impl Block {
         ensures made { hand_made hand.new ≡ self.now }
         ensures hand { hand.new.part ≡ hand_met hand.old.part (length client.old.part.events) }
         ensures history { is_lawful client.old.part.events ≡ true
-            → (server : List ServerEvent) × (taken : List ℕ) × StartsWith server client.old.part.learnt
-            × HasHistory self.now.shape client.old.part.events client.old.part.frames server taken hand.new.part.events }
+            → (taken : List ℕ) × StartsWith hand.new.known client.old.part.learnt
+            × HasHistory self.now.shape client.old.part.events client.old.part.frames hand.new.known taken hand.new.part.events }
         ensures steps { steps.new ≡ steps.old + 4 }
     {
         self.bring_client(&mut client.seat, &mut hand.seat, steps);
         self.learn_hand(&mut hand.seat, steps);
         client.seat = self.part_client(&mut hand.seat, steps);
+    }
+
+    /// The hand recalls what it knows of the server's list, beside the server's pass: that list goes on from there, whatever the client has poked. It appends nothing, in four steps.
+    pub fn recall<L: Ledger>(
+        &self,
+        server: &mut ServerPass,
+        hand: &mut FlagHand,
+        steps: &mut Steps<L>,
+    )
+        requires server { server_made server.old ≡ self.now }
+        requires hand { hand_made hand.old ≡ self.now }
+        ensures server { server.new ≡ (record server.old { has_hand = false }) }
+        ensures hand { hand.new ≡ hand.old }
+        ensures goes_on { StartsWith server.old.part.events hand.old.known }
+        ensures steps { steps.new ≡ steps.old + 4 }
+    {
+        self.bring_hand(&mut hand.seat, &mut server.seat, steps);
+        self.compare(&mut server.seat, steps);
+        hand.seat = self.part_hand(&mut server.seat, steps);
     }
 
     /// It appends what `meet` and then `meet_flag` append, in nine steps. Where the client has not poked, these three lists have a history.
@@ -92,6 +111,7 @@ impl Block {
         ensures server { server.new.part ≡ server_did server.old.part (server_event.Learn (length client.old.part.events)) }
         ensures split { server.new.has_hand ≡ false }
         ensures hand { hand.new.part ≡ hand_met hand.old.part (length client.old.part.events + 1) }
+        ensures known { hand.new.known ≡ server.new.part.events }
         ensures history { is_lawful client.old.part.events ≡ true
             → HasHistory self.now.shape client.new.part.events client.new.part.frames server.new.part.events server.new.part.frames hand.new.part.events }
         ensures unshut { is_lawful client.old.part.events ≡ true → NeitherShut self.now.shape client.old.part.events server.old.part.events }

@@ -11,7 +11,7 @@ ghost use Rattle.af_cblk.specs.Plays.{Meeting, both_met};
 ghost use Rattle.af_cblk.specs.Unshut.{NeitherShut};
 
 use crate::block::Block;
-use crate::plays::{ClientLearns, ClientMoves, HandMeets, HandMoves, ServerLearns};
+use crate::plays::{ClientLearns, ClientMoves, HandMeets, HandMoves, HandRecalls, ServerLearns};
 use crate::view::View;
 use crate::words::FRONT;
 use af_base::Steps;
@@ -115,21 +115,36 @@ impl Block {
         steps.tick();
     }
 
-    // The seat has the client's and the hand's part: the hand learns what the client has done.
+    // The seat has the client's and the hand's part: the hand learns what the client has done, and knows what the server has.
     pub(crate) fn learn_hand<L: Ledger>(&self, seat: &mut Seat<(), View>, steps: &mut Steps<L>)
         requires table { seat.old.table_id ≡ self.now.id }
         requires client { seat.old.me.0.is_client ≡ true }
         requires hand { seat.old.me.0.is_hand ≡ true }
         requires shape { seat.old.me.0.client.shape ≡ self.now.shape }
         ensures table { seat.new.table_id ≡ self.now.id }
-        ensures met { seat.new.me ≡ (record seat.old.me.0 { hand = hand_met seat.old.me.0.hand (length seat.old.me.0.client.events) }, seat.old.me.1) }
+        ensures met { seat.new.me ≡ (record seat.old.me.0 { hand = hand_met seat.old.me.0.hand (length seat.old.me.0.client.events); known = seat.new.me.0.known }, seat.old.me.1) }
+        ensures known { seat.old.me.0.is_server ≡ true → seat.new.me.0.known ≡ seat.old.me.0.server.events }
         ensures history { is_lawful seat.old.me.0.client.events ≡ true
-            → (server : List ServerEvent) × (taken : List ℕ) × StartsWith server seat.old.me.0.client.learnt
-            × (seat.old.me.0.is_server ≡ true → (server ≡ seat.old.me.0.server.events) × (taken ≡ seat.old.me.0.server.frames))
-            × HasHistory seat.old.me.0.client.shape seat.old.me.0.client.events seat.old.me.0.client.frames server taken seat.new.me.0.hand.events }
+            → (taken : List ℕ) × StartsWith seat.new.me.0.known seat.old.me.0.client.learnt
+            × (seat.old.me.0.is_server ≡ true → taken ≡ seat.old.me.0.server.frames)
+            × HasHistory seat.old.me.0.client.shape seat.old.me.0.client.events seat.old.me.0.client.frames seat.new.me.0.known taken seat.new.me.0.hand.events }
         ensures steps { steps.new ≡ steps.old + 1 }
     {
         self.table.shared.load::<HandMeets>(seat, FRONT);
+        steps.tick();
+    }
+
+    // The seat has the server's and the hand's part: the server's list goes on from what the hand knows of it.
+    pub(crate) fn compare<L: Ledger>(&self, seat: &mut Seat<(), View>, steps: &mut Steps<L>)
+        requires table { seat.old.table_id ≡ self.now.id }
+        requires server { seat.old.me.0.is_server ≡ true }
+        requires hand { seat.old.me.0.is_hand ≡ true }
+        ensures table { seat.new.table_id ≡ self.now.id }
+        ensures same { seat.new.me ≡ seat.old.me }
+        ensures goes_on { StartsWith seat.old.me.0.server.events seat.old.me.0.known }
+        ensures steps { steps.new ≡ steps.old + 1 }
+    {
+        self.table.shared.load::<HandRecalls>(seat, FRONT);
         steps.tick();
     }
 }

@@ -53,10 +53,10 @@ impl Model for ServerPass {
 
     ghost view = { λ p. record { id = p.seat.table_id; part = p.seat.me.0.server; has_hand = p.seat.me.0.is_hand } };
 
-    ghost invariant = { λ p. (p.seat.me.0.is_server ≡ true) × (p.seat.me.1 ≡ []) × (p.seat.me.0.is_hand ≡ true → p.seat.me.0.hand ≡ new_hand p.seat.me.0.server.shape) };
+    ghost invariant = { λ p. (p.seat.me.0.is_server ≡ true) × (p.seat.me.1 ≡ []) × (p.seat.me.0.is_hand ≡ true → (p.seat.me.0.hand ≡ new_hand p.seat.me.0.server.shape) × (p.seat.me.0.known ≡ [])) };
 }
 
-/// The normal mixer's right to set DISABLED on one block, beside the server's pass. Contracts see the list of its events there.
+/// The normal mixer's right to set DISABLED on one block, beside the server's pass. Contracts see the list of its events there, and what the server had done at its last meeting with the client.
 #[derive(Drop)]
 pub struct FlagHand {
     pub(crate) seat: Seat<(), View>,
@@ -68,7 +68,7 @@ impl Model for FlagHand {
 
     ghost Value = { HandSide };
 
-    ghost view = { λ p. record { id = p.seat.table_id; part = p.seat.me.0.hand } };
+    ghost view = { λ p. record { id = p.seat.table_id; part = p.seat.me.0.hand; known = p.seat.me.0.known } };
 
     ghost invariant = { λ p. (p.seat.me.0.is_hand ≡ true) × (p.seat.me.1 ≡ []) };
 }

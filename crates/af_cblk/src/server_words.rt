@@ -147,7 +147,7 @@ impl Block {
     pub fn set_disabled<L: Ledger>(&self, hand: &mut FlagHand, steps: &mut Steps<L>)
         requires { hand_made hand.old ≡ self.now }
         ensures made { hand_made hand.new ≡ self.now }
-        ensures set { hand.new.part ≡ hand_set hand.old.part }
+        ensures set { hand.new ≡ (record hand.old { part = hand_set hand.old.part }) }
         ensures steps { steps.new ≡ steps.old + 1 }
     {
         self.table

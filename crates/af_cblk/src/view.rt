@@ -62,4 +62,6 @@ pub struct View {
     pub server: ServerPart,
     pub is_hand: bool,
     pub hand: HandPart,
+    /// The server's events at the hand's last meeting with the client.
+    pub known: LinkedList<ServerEvent>,
 }

@@ -12,7 +12,7 @@ mod taking;
 pub use af_base::{Report, SlotReport};
 pub use ends::{PipeIn, PipeOut, meet_pipe, pipe};
 pub use links::Links;
-pub use meetings::{meet_all, meet_flag, meet_track};
+pub use meetings::{meet_all, meet_flag, meet_track, recall};
 pub use names::{StreamNames, stream_names};
 pub use reports::{
     ReportCell, ReportReader, ReportWriter, first_report, meet_report, no_slot, report,

@@ -1,7 +1,6 @@
 //! How the proxies of one track's block meet.
 ghost use Rattle.std.specs.Prelude.{◌≡◌, ◌≢◌, ℕ, ◌+◌, true, false, None, List, [], length};
 ghost use Rattle.af_base.specs.declared.event.HandEvent.{HandEvent};
-ghost use Rattle.af_base.specs.declared.event.ServerEvent.{ServerEvent};
 ghost use Rattle.af_base.specs.declared.event.ServerEvent.TheVariants as server_event;
 ghost use Rattle.af_model.specs.Discards.{DiscardsBefore};
 ghost use Rattle.af_model.specs.History.{is_lawful, HasHistory};
@@ -44,7 +43,7 @@ pub fn meet_track<L: Ledger>(
 
 /// The hand learns what the client has done so far, while the server's proxy is elsewhere. It appends Met to the hand's list and nothing to the client's, in four steps.
 ///
-/// Where the client has not poked, their lists have a history with some list of the server's, which goes on from what the client had learnt.
+/// From then on the hand knows the list that the server had at that moment. Where the client has not poked, this list goes on from what the client had learnt, and has a history with theirs.
 pub fn meet_flag<L: Ledger>(
     client: &mut Client,
     hand: &mut FlagHand,
@@ -56,11 +55,28 @@ pub fn meet_flag<L: Ledger>(
     ensures made { hand_made hand.new ≡ block.now }
     ensures hand { hand.new.part ≡ hand_met hand.old.part (length client.old.pass.part.events) }
     ensures history { is_lawful client.old.pass.part.events ≡ true
-        → (server : List ServerEvent) × (taken : List ℕ) × StartsWith server client.old.pass.part.learnt
-        × HasHistory block.now.shape client.old.pass.part.events client.old.pass.part.frames server taken hand.new.part.events }
+        → (taken : List ℕ) × StartsWith hand.new.known client.old.pass.part.learnt
+        × HasHistory block.now.shape client.old.pass.part.events client.old.pass.part.frames hand.new.known taken hand.new.part.events }
     ensures steps { steps.new ≡ steps.old + 4 }
 {
     block.meet_flag(client.pass(), hand, steps);
+}
+
+/// The hand recalls what it knows of the server's list, beside the server's proxy: that list goes on from there, whatever the client has poked. It appends nothing, in four steps, and the proxy stays in order.
+pub fn recall<L: Ledger>(
+    server: &mut Server,
+    hand: &mut FlagHand,
+    block: &Block,
+    steps: &mut Steps<L>,
+)
+    requires ready { IsServerOf block.now server.old × (hand_made hand.old ≡ block.now) }
+    ensures ready { IsServerOf block.now server.new }
+    ensures server { server.new ≡ (record server.old { pass = record server.old.pass { has_hand = false } }) }
+    ensures hand { hand.new ≡ hand.old }
+    ensures goes_on { StartsWith server.old.pass.part.events hand.old.known }
+    ensures steps { steps.new ≡ steps.old + 4 }
+{
+    block.recall(server.pass(), hand, steps);
 }
 
 /// It appends what `meet_track` and then `meet_flag` append, in nine steps, and both proxies stay in order.
@@ -78,6 +94,7 @@ pub fn meet_all<L: Ledger>(
     ensures client { client.new ≡ (record client.old { pass = record client.old.pass { part = client_met client.old.pass.part server.old.pass.part.events } }) }
     ensures server { server.new ≡ (record server.old { pass = record server.old.pass { part = server_did server.old.pass.part (server_event.Learn (length client.old.pass.part.events)); has_hand = false } }) }
     ensures hand { hand.new.part ≡ hand_met hand.old.part (length client.old.pass.part.events + 1) }
+    ensures known { hand.new.known ≡ server.new.pass.part.events }
     ensures history { is_lawful client.old.pass.part.events ≡ true
         → HasHistory block.now.shape client.new.pass.part.events client.new.pass.part.frames server.new.pass.part.events server.new.pass.part.frames hand.new.part.events }
     ensures unshut { is_lawful client.old.pass.part.events ≡ true → server.new.shut ≡ None }

@@ -1,6 +1,7 @@
 -- What a turn does before it looks at the acknowledgement changes neither what is kept nor a list.
 use Rattle.std.proofs.Common.{◌≡◌, ℕ, zero, suc, ◌+◌, ◌==◌, ◌&&◌, Bool, true, false, if◌then◌else◌, MatchBool, sym, refl, ap, subst, ◌∙◌, List, [], ◌∷◌, ◌++◌, length, Option, Some, arith}
 use Rattle.std.specs.Prelude.{slice_get, slice_set, map, ◌⊎◌}
+use Rattle.std.proofs.lemmas.Option.{none-some}
 use Rattle.af_base.specs.declared.event.ClientEvent.TheVariants as client
 use Rattle.af_base.specs.declared.event.HandEvent.{HandEvent}
 use Rattle.af_base.specs.declared.state.Push.{Push}
@@ -70,6 +71,7 @@ none_there (h ∷ hands) e = let l : length (h ∷ hands) ≡ 0 = is_none (lengt
 pub record BegunBy (x y : NormalState) : Type 0 where
   pub same : y ≡ record x { entry = y.entry; spare_turns = y.spare_turns; spare_takes = y.spare_takes; turns = x.turns + 1; streams = y.streams; hands = y.hands }
   pub hands : (i : ℕ) → hand_events y.hands i ≡ hand_events x.hands i
+  pub flags : (i : ℕ) (h : HandSide) → slice_get x.hands i ≡ Some h → slice_get y.hands i ≡ Some h
   pub lists : (i : ℕ) → listed_at (stream_at y.streams i) ≡ listed_at (stream_at x.streams i)
 
 pub begun_by : (x b y : NormalState) → Begins x b → HasHands b y → BegunBy x y
@@ -86,12 +88,14 @@ begun_by x b y begins has = by_hands (length b.hands == 0) refl has
       same = subst (λ (w : NormalState). w ≡ record x { entry = w.entry; spare_turns = w.spare_turns; spare_takes = w.spare_takes; turns = x.turns + 1; streams = w.streams; hands = w.hands }) (sym s.same)
           (ap (λ (w : NormalState). record w { streams = y.streams; hands = y.hands }) begins.same);
       hands = (λ i. s.none i ∙ sym (ap (λ (hands : List HandSide). hand_events hands i) none) ∙ hands_b i);
+      flags = (λ i h is. absurd (none-some h (sym (ap (λ (hands : List HandSide). slice_get hands i) (sym (ap (λ (w : NormalState). w.hands) begins.same) ∙ none)) ∙ is)));
       lists = (λ i. s.lists i ∙ streams_b i);
     }
     by_hands false e h = record {
       same = subst (λ (w : NormalState). w ≡ record x { entry = w.entry; spare_turns = w.spare_turns; spare_takes = w.spare_takes; turns = x.turns + 1; streams = w.streams; hands = w.hands }) (sym h)
           (subst (λ (w : NormalState). w ≡ record x { entry = w.entry; spare_turns = w.spare_turns; spare_takes = w.spare_takes; turns = x.turns + 1; streams = w.streams; hands = w.hands }) (sym begins.same) refl);
       hands = (λ i. ap (λ (w : NormalState). hand_events w.hands i) h ∙ hands_b i);
+      flags = (λ i f is. ap (λ (w : NormalState). slice_get w.hands i) h ∙ ap (λ (w : NormalState). slice_get w.hands i) begins.same ∙ is);
       lists = (λ i. ap (λ (w : NormalState). listed_at (stream_at w.streams i)) h ∙ streams_b i);
     }
 
@@ -106,6 +110,7 @@ module _ (x y z : NormalState) (o : Outside) (b : BegunBy x y) where
     commands = (λ i s is. g.commands i s (ap (λ (w : NormalState). slice_get w.commands i) b.same ∙ is));
     whole = (λ i s t is. g.whole i s t (ap (λ (w : NormalState). slice_get w.commands i) b.same ∙ is));
     hands = (λ i. g.hands i ∙ ap (λ (es : List HandEvent). es ++ hand_list e i) (b.hands i));
+    recalled = (λ f i h is. g.recalled f i h (b.flags i h is));
     streams = g.streams;
     reader = (g.reader.0, g.reader.1 ∙ ap (λ (w : NormalState). w.reader.events ++ going e (Load g.reader.0 o.report ∷ [])) b.same);
     pipe = (

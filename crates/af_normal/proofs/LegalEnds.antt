@@ -41,7 +41,7 @@ use Rattle.af_normal.specs.Order.{IsTied}
 use Rattle.af_normal.specs.State.{NormalState, setup_of, kept_of}
 use Rattle.af_normal.specs.TurnMade.{mixing_of}
 use Rattle.af_normal.specs.Turning.{listed_at}
-use Rattle.af_normal.proofs.LegalGrows.{Invalid, served_grow, commands_grow, commands_whole, hands_grow, streams_grow, commands_l, home_same, y_same, q_same}
+use Rattle.af_normal.proofs.LegalGrows.{recalls, Invalid, served_grow, commands_grow, commands_whole, hands_grow, streams_grow, commands_l, home_same, y_same, q_same}
 use Rattle.af_normal.proofs.LegalMade.{IsMade, going_l, done, mix, told, tells, outside, c, k, turns, p_tied, setup_of_p, setup_of_l, p_same, z_same, kept_l, kept_z, turn_legal, turn_kept}
 use Rattle.af_normal.proofs.OrderStages.{Added, acked_list}
 use Rattle.af_normal.proofs.OrderTurn.{edited_mutated, served_mutator, served_tied, served_open}
@@ -281,6 +281,7 @@ module _ (links : Links) (t : ℕ) (x : NormalState) (ack : Bool) (report : Repo
     commands = commands_grow links t x ack report room push y made;
     whole = commands_whole links t x ack report room push y made;
     hands = hands_grow links t x ack report room push y made;
+    recalled = (λ f. recalls links t x ack report room push y made);
     streams = streams_grow links t x ack report room push y made;
     reader = reader_grows;
     pipe = (l.pipe.pass.part.front, pipe_events, inl pipe_room, pipe_frames);

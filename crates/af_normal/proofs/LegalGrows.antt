@@ -1,5 +1,5 @@
 -- The list of each party grows by what the entry of a turn says.
-use Rattle.std.proofs.Common.{◌≡◌, ℕ, zero, suc, ◌<◌, ◌≤◌, Bool, true, false, if◌then◌else◌, true≢false, is_some, inl, inr, sym, refl, ap, subst, ◌∙◌, List, [], ◌∷◌, ◌++◌, append_assoc, append-nil, length, Option, Some, None, ⊎_elim, arith}
+use Rattle.std.proofs.Common.{◌≡◌, ◌≢◌, ℕ, zero, suc, ◌<◌, ◌≤◌, Bool, true, false, if◌then◌else◌, true≢false, is_some, inl, inr, sym, refl, ap, subst, ◌∙◌, List, [], ◌∷◌, ◌++◌, append_assoc, append-nil, length, Option, Some, None, ⊎_elim, arith}
 use Rattle.std.specs.Prelude.{slice_get}
 use Rattle.std.specs.List.{flat_map}
 use Rattle.std.proofs.lemmas.Bool.{cases_lt}
@@ -9,6 +9,7 @@ use Rattle.af_base.specs.declared.event.ServerEvent.{ServerEvent}
 use Rattle.af_base.specs.declared.report.Report.{Report}
 use Rattle.af_base.specs.declared.state.Push.{Push}
 use Rattle.af_base.specs.Turn.{Turn, TakeSeen, TrackSeen}
+use Rattle.af_cblk.specs.Rule.{StartsWith}
 use Rattle.af_cblk.specs.Sides.{HandSide}
 use Rattle.af_model.specs.Cycles.{Listed, kept, cycle_events}
 use Rattle.af_server.specs.Order.{ServerState}
@@ -187,6 +188,26 @@ module _ (links : Links) (t : ℕ) (x : NormalState) (ack : Bool) (report : Repo
             ∙ ap (λ (f : Option ServerState). (listed_at f).events ++ Invalid i) (sym was),
         ap (λ (w : ServerState). w.pass.part.shape) (sym same) ∙ a.shape ∙ ap (λ (f : Option ServerState). (listed_at f).shape) (sym was),
       )
+
+  -- before INVALID is set the list of the stream proxy goes on from what the hand knew of it
+  pub recalls : (i : ℕ) (h : HandSide) → slice_get x.hands i ≡ Some h → is_home (track_at (tracks_at cs ks (kept_of x) e i) i).holder ≡ true → invalid ks (seen_at ts i) (tracks_at cs ks (kept_of x) e i) i ≢ [] → StartsWith (o.streams i).events h.known
+  recalls i h is at_home some = by_stream (stream_at l.streams i) refl
+    where
+      there : slice_get l.hands i ≡ Some h
+      there = ap (λ (hs : List HandSide). slice_get hs i) hands_l ∙ is
+
+      inside : i < length l.tracks
+      inside = (let w = slice_get_within x.hands i h is in let n = made.going.hands.whole in let m = long links t x ack report room push y made in omega arith)
+
+      by_stream : (f : Option ServerState) → stream_at l.streams i ≡ f → StartsWith (o.streams i).events h.known
+      by_stream None none = absurd (true≢false (sym at_home ∙ ap (λ (tracks : List TrackKept). is_home (track_at tracks i).holder) (sym (at_is i))
+          ∙ ap is_home (stay_put cs ks ts l.mutator.draft l.tracks (going_l links t x ack report room push y made).tied.sound i i).0
+          ∙ sym ((going_l links t x ack report room push y made).tied.proxies.there i inside) ∙ ap is_some none))
+      by_stream (Some r) was =
+          let part = (done links t x ack report room push y made).parts i inside in
+          let same : part.flag ≡ h = same_proxy part.flag h (sym part.has_flag ∙ there) in
+          subst (λ (d : Option ServerState × HandSide). StartsWith (listed_at d.0).events d.1.known) (λ j. (sym was j, same j))
+          (part.recalled r was (λ none. some (ap (λ (tracks : List TrackKept). invalid ks (seen_at ts i) tracks i) (sym (at_is i)) ∙ none)))
 
   -- and what the mix did to it
   mixes_are : (i : ℕ) (r : ServerState) → stream_at s.streams i ≡ Some r → stream_at p.streams i ≡ Some r → Mixes i ≡ mix_events cs o (mixing_of q).takes i

@@ -19,7 +19,7 @@ use Rattle.af_life.specs.Serves.{is_found_shut, served, served_to, with_served, 
 use Rattle.af_life.specs.TurnEvents.{invalid, status_events}
 use Rattle.af_normal.proofs.LegalLists.{get_set_same, get_set_other, upd, upd_same, upd_other}
 use Rattle.af_normal.specs.Mixing.{stream_at}
-use Rattle.af_normal.specs.Serving.{Adds, StreamAdds, HandAdds, Serving, ServesOne, ServesTrack, ServesTo, disabled_events, shut_events}
+use Rattle.af_normal.specs.Serving.{Adds, StreamAdds, HandAdds, Recalls, Serving, ServesOne, ServesTrack, ServesTo, disabled_events, shut_events}
 
 -- ## Lists
 
@@ -52,6 +52,7 @@ pub record Part (c : Setup) (k : Learnt) (x z : Serving) (j : ℕ) (fronts : Lis
   pub has_flag' : slice_get z.hands j ≡ Some flag'
   pub disabled : HandAdds flag (disabled_events seen.disabled) flag'
   pub streamed : StreamAdds (stream_at x.streams j) (invalid k seen tracks j) (stream_at z.streams j)
+  pub recalled : Recalls (stream_at x.streams j) (invalid k seen tracks j) flag
 
 -- the proxies and the hand of the track j are as they were
 pub record Untouched (x z : Serving) (j : ℕ) : Type 0 where
@@ -76,6 +77,7 @@ still_part c k x z y j fronts seen tracks u p = record {
   has_flag' = u.flag ∙ p.has_flag';
   disabled = p.disabled;
   streamed = subst (StreamAdds (stream_at x.streams j) (invalid k seen tracks j)) (sym u.stream) p.streamed;
+  recalled = p.recalled;
 }
 
 module _ (c : Setup) (k : Learnt) where
@@ -190,8 +192,9 @@ module _ (c : Setup) (k : Learnt) where
             has_flag = flag.1;
             flag' = flag.0;
             has_flag' = u.flag ∙ flag.1;
-            disabled = record { list = sym (append-nil flag.0.part.events); shape = refl };
+            disabled = record { list = sym (append-nil flag.0.part.events); shape = refl; known = refl };
             streamed = subst (StreamAdds (stream_at x.streams i) (invalid k nothing_seen z.tracks i)) (sym u.stream) (stream_none (stream_at x.streams i) (invalid k nothing_seen z.tracks i) none);
+            recalled = (λ s is some. absurd (some none));
           }
 
       -- ## One that had not
@@ -243,6 +246,7 @@ module _ (c : Setup) (k : Learnt) where
             has_flag' = get_set_same z.hands i s.flag' (slice_get_within z.hands i s.flag s.has_flag);
             disabled = s.attends.disabled;
             streamed = subst (λ (p : Option ServerState × List ServerEvent × Option ServerState). StreamAdds p.0 p.1 p.2) (λ d. (u.stream d, found_is s.seen lives d, sym (get_or-set_same z.streams i s.stream' None wide) d)) s.attends.streamed;
+            recalled = subst (λ (p : Option ServerState × List ServerEvent). Recalls p.0 p.1 s.flag) (λ d. (u.stream d, found_is s.seen lives d)) s.attends.recalled;
           }
 
       pub next : (y : Serving) → ServesTrack c k i z y → ServedTo n x y (suc i)

@@ -108,6 +108,7 @@ module _ (x y : NormalState) (stops : Stops x y) where
     again = [];
     sent = [];
     mutator = mutator_stops.1;
+    recalled = (λ f. absurd (true≢false f));
     home = (λ f. absurd (true≢false f));
     lent = (λ f. absurd (true≢false f));
   }

@@ -1,5 +1,5 @@
 -- What a turn of the mixer promises: it is legal by what it saw, it leaves what the definition says, and the list of each of its parties grows by what its entry says.
-use Rattle.std.specs.Prelude.{◌≡◌, ℕ, ◌⊎◌, ◌&&◌, Bool, true, false, if◌then◌else◌, is_some, List, [], ◌∷◌, ◌++◌, length, map, slice_get, Option, Some, None}
+use Rattle.std.specs.Prelude.{◌≡◌, ◌≢◌, ℕ, ◌⊎◌, ◌&&◌, Bool, true, false, if◌then◌else◌, is_some, List, [], ◌∷◌, ◌++◌, length, map, slice_get, Option, Some, None}
 use Rattle.af_base.specs.declared.event.ServerEvent.{ServerEvent}
 use Rattle.af_base.specs.declared.state.Push.{Push}
 use Rattle.af_base.specs.declared.state.Push.TheVariants.{Pushed, Clean, Busy}
@@ -7,6 +7,7 @@ use Rattle.af_base.specs.Sample.{packed_word}
 use Rattle.af_base.specs.Turn.{Turn, turn_of}
 use Rattle.af_base.specs.declared.event.ClientEvent.TheVariants as client
 use Rattle.af_base.specs.declared.event.HandEvent.{HandEvent}
+use Rattle.af_cblk.specs.Rule.{StartsWith}
 use Rattle.af_cblk.specs.Sides.{HandSide}
 use Rattle.af_model.specs.Cycles.{Listed}
 use Rattle.af_model.specs.PipeHistory.{room_by, releases_of}
@@ -15,13 +16,13 @@ use Rattle.af_server.specs.Order.{ServerState}
 use Rattle.af_server.specs.Slot.{listed}
 use Rattle.af_stateq.specs.Mutates.{at}
 use Rattle.af_life.specs.declared.kept.TrackKept.{TrackKept}
-use Rattle.af_life.specs.Kept.{Setup, pipe_size, NormalKept, Learnt, Outside, track_at, track_in, slot_number, is_returning}
+use Rattle.af_life.specs.Kept.{Setup, pipe_size, NormalKept, Learnt, Outside, track_at, track_in, slot_number, is_home, is_returning}
 use Rattle.af_life.specs.Edits.{after_ack, must_enter}
 use Rattle.af_life.specs.Heard.{learnt}
 use Rattle.af_life.specs.Looks.{words_taken}
 use Rattle.af_life.specs.Plays.{put_by}
 use Rattle.af_life.specs.Turn.{after_tracks, turn_after, LegalTurn}
-use Rattle.af_life.specs.TurnEvents.{tracks_at, going, command_list, hand_list, stream_list, mutator_list}
+use Rattle.af_life.specs.TurnEvents.{tracks_at, going, invalid, command_list, hand_list, stream_list, mutator_list}
 use Rattle.af_normal.specs.Mixing.{stream_at}
 use Rattle.af_normal.specs.Serving.{Adds}
 use Rattle.af_normal.specs.State.{NormalState, setup_of, kept_of}
@@ -54,12 +55,14 @@ served_tracks c k m e = (after_tracks c k e (after_ack e.ack m)).tracks
 abbrev pub GoesOnFrom : Listed → List ServerEvent → ServerState → Type 0
 GoesOnFrom s events t = (t.pass.part.events ≡ s.events ++ events) × (t.pass.part.shape ≡ s.shape)
 
--- The list of each party after the turn e, from what m kept and by what the turn saw: the command proxies, which keep theirs, and the hands of its tracks, the mutator with the items that came by its looks and went by its push, the stream proxies, from the list that each had when it was home, both those that are home afterwards and those that were lent, the reader of the report, and the writing end of the pipe
+-- The list of each party after the turn e, from what m kept and by what the turn saw: the command proxies, which keep theirs, and the hands of its tracks, which recall what they knew of a stream proxy's list before INVALID is set there, the mutator with the items that came by its looks and went by its push, the stream proxies, from the list that each had when it was home, both those that are home afterwards and those that were lent, the reader of the report, and the writing end of the pipe
 pub record Grows (c : Setup) (m : NormalKept) (o : Outside) (e : Turn) (x y : NormalState) : Type 0 where
   pub commands : (i : ℕ) (s : ServerState) → slice_get x.commands i ≡ Some s
       → (t : ServerState) × (slice_get y.commands i ≡ Some t) × Adds s (command_list c o e (tracks_at c (learnt o) m e i) i) (words_taken (track_in e i).looks) t
   pub whole : (i : ℕ) (s t : ServerState) → slice_get x.commands i ≡ Some s → slice_get y.commands i ≡ Some t → t.pass.has_hand ≡ s.pass.has_hand
   pub hands : (i : ℕ) → hand_events y.hands i ≡ hand_events x.hands i ++ hand_list e i
+  pub recalled : e.ended ≡ false → (i : ℕ) (h : HandSide) → slice_get x.hands i ≡ Some h → is_home (track_at (tracks_at c (learnt o) m e i) i).holder ≡ true
+      → invalid (learnt o) (track_in e i) (tracks_at c (learnt o) m e i) i ≢ [] → StartsWith (o.streams i).events h.known
   pub back : List (Option ServerState)
   pub again : List (Option ServerState)
   pub sent : List (Option ServerState)

@@ -1,10 +1,11 @@
 -- What the normal mixer does with each track before it edits the draft.
-use Rattle.std.specs.Prelude.{◌≡◌, ℕ, zero, suc, if◌then◌else◌, MatchBool, Bool, List, [], ◌∷◌, ◌++◌, slice_set, slice_get, Option, Some, None}
+use Rattle.std.specs.Prelude.{◌≡◌, ◌≢◌, ℕ, zero, suc, if◌then◌else◌, MatchBool, Bool, List, [], ◌∷◌, ◌++◌, slice_set, slice_get, Option, Some, None}
 use Rattle.af_base.specs.declared.event.HandEvent.{HandEvent}
 use Rattle.af_base.specs.declared.event.HandEvent.TheVariants as hand
 use Rattle.af_base.specs.declared.event.ServerEvent.{ServerEvent}
 use Rattle.af_base.specs.declared.event.ServerEvent.TheVariants as server
 use Rattle.af_base.specs.Turn.{TrackSeen}
+use Rattle.af_cblk.specs.Rule.{StartsWith}
 use Rattle.af_cblk.specs.Sides.{HandSide}
 use Rattle.af_server.specs.Order.{ServerState}
 use Rattle.af_server.specs.Slot.{listed}
@@ -42,10 +43,15 @@ abbrev pub StreamAdds : Option ServerState → List ServerEvent → Option Serve
 StreamAdds None events y = y ≡ None
 StreamAdds (Some s) events y = (t : ServerState) × Adds s events [] t × (y ≡ Some t)
 
--- a hand goes on with these events
+-- A hand goes on with these events, and knows what it knew of the server's list
 pub record HandAdds (h : HandSide) (events : List HandEvent) (g : HandSide) : Type 0 where
   pub list : g.part.events ≡ h.part.events ++ events
   pub shape : g.part.shape ≡ h.part.shape
+  pub known : g.known ≡ h.known
+
+-- a stream proxy that is home and does these events, if any, goes on from what the hand knew of its list
+abbrev pub Recalls : Option ServerState → List ServerEvent → HandSide → Type 0
+Recalls stream events flag = (s : ServerState) → stream ≡ Some s → events ≢ [] → StartsWith s.pass.part.events flag.known
 
 -- the tracks, the proxies of their blocks, their hands, and what was seen so far
 pub record Serving : Type 0 where
@@ -55,7 +61,7 @@ pub record Serving : Type 0 where
   pub hands : List HandSide
   pub turns : List TrackSeen
 
--- A track's proxies and its hand do their part: h is what was heard of its stream, s the track once that was noted, and seen what the entry holds of it. The command proxy keeps its hand
+-- A track's proxies and its hand do their part: h is what was heard of its stream, s the track once that was noted, and seen what the entry holds of it. The command proxy keeps its hand, and INVALID in the stream block stands behind what the hand knew
 pub record Attends (given : Option ℕ) (h : Heard) (s : TrackKept) (command : ServerState) (stream : Option ServerState) (flag : HandSide) (seen : TrackSeen) (command' : ServerState) (stream' : Option ServerState) (flag' : HandSide) : Type 0 where
   pub fronts : List ℕ
   pub legal : IsServed given h seen s
@@ -63,6 +69,7 @@ pub record Attends (given : Option ℕ) (h : Heard) (s : TrackKept) (command : S
   pub commanded : Adds command (all_command_events (listed command) seen.looks fronts ++ shut_events (is_found_shut h seen.looks) ++ status_events seen.status) (words_taken seen.looks) command'
   pub whole : command'.pass.has_hand ≡ command.pass.has_hand
   pub streamed : StreamAdds stream (shut_events (is_found_shut h seen.looks)) stream'
+  pub recalled : Recalls stream (shut_events (is_found_shut h seen.looks)) flag
   pub disabled : HandAdds flag (disabled_events seen.disabled) flag'
 
 -- the proxies and the hand of the track i do their part

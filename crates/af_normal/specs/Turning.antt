@@ -50,7 +50,7 @@ without_hand s = record s { pass = record s.pass { has_hand = false }; shown = N
 
 -- that hand
 abbrev pub hand_of : ServerState → HandSide
-hand_of s = record { id = s.pass.id; part = new_hand s.pass.part.shape }
+hand_of s = record { id = s.pass.id; part = new_hand s.pass.part.shape; known = [] }
 
 -- the proxy of the track i is home, of its block and in order, and still has its hand
 pub record HasWhole (blocks : List Made) (i : ℕ) (streams : List (Option ServerState)) : Type 0 where

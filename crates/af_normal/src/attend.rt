@@ -1,7 +1,8 @@
 //! One track's part of a turn, with its two proxies and its hand.
-ghost use Rattle.std.specs.Prelude.{◌≡◌, ◌+◌, ◌-◌, ◌<◌, ◌≤◌, ◌^◌, ◌∷◌, ◌++◌, [], length, Some, if◌then◌else◌};
+ghost use Rattle.std.specs.Prelude.{◌≡◌, true, ◌+◌, ◌-◌, ◌<◌, ◌≤◌, ◌^◌, ◌∷◌, ◌++◌, [], length, Some, if◌then◌else◌};
 ghost use Rattle.af_base.specs.Turn.{track_seen};
 ghost use Rattle.af_base.specs.declared.event.ServerEvent.TheVariants as server_event;
+ghost use Rattle.af_cblk.specs.Rule.{StartsWith};
 ghost use Rattle.af_cblk.specs.Sides.{hand_made};
 ghost use Rattle.af_server.specs.Order.{IsInOrder, IsServerOf, ServerState};
 ghost use Rattle.af_server.specs.Slot.{listed};
@@ -11,13 +12,14 @@ ghost use Rattle.af_life.specs.Obeys.{commanded};
 ghost use Rattle.af_life.specs.Serves.{HasDueLooks, IsServed, after_part, is_found_shut, most_looks};
 ghost use Rattle.af_life.specs.TurnEvents.{status_events};
 ghost use Rattle.af_normal.specs.Commands.{LooksMade};
-ghost use Rattle.af_normal.specs.Serving.{Adds, StreamAdds, HandAdds, Attends, disabled_events, shut_events};
+ghost use Rattle.af_normal.specs.Serving.{Adds, StreamAdds, HandAdds, Attends, Recalls, disabled_events, shut_events};
 
 use crate::commands::look_at_commands;
 use crate::mixer::TrackHand;
 use af_base::{CommandLooks, INVALID, Steps, TrackTurn};
 use af_cblk::Block;
 use af_life::{Heard, Known, TrackKept, is_found_shut, stored_over};
+use af_link::recall;
 use af_server::Server;
 use std::sync::ledger::Ledger;
 
@@ -99,19 +101,44 @@ fn mark<L: Ledger>(server: &mut Server, block: &Block, shut: bool, steps: &mut S
     }
 }
 
+// The same in a stream block. The hand recalls before what it knows of the proxy's list.
+fn mark_home<L: Ledger>(
+    server: &mut Server,
+    hand: &mut TrackHand,
+    block: &Block,
+    shut: bool,
+    steps: &mut Steps<L>,
+)
+    requires server { IsServerOf block.now server.old }
+    requires hand { hand_made hand.old ≡ block.now }
+    ensures server { IsServerOf block.now server.new }
+    ensures hand { hand.new ≡ hand.old }
+    ensures list { Adds server.old (shut_events shut) [] server.new }
+    ensures recalls { shut ≡ true → StartsWith server.old.pass.part.events hand.old.known }
+{
+    if shut {
+        recall(server, &mut hand.flag, block, steps);
+    }
+    mark(server, block, shut, steps);
+}
+
 // The same of a stream, where its proxy is home.
 fn mark_stream<L: Ledger>(
     stream: &mut Option<Server>,
+    hand: &mut TrackHand,
     block: &Block,
     shut: bool,
     steps: &mut Steps<L>,
 )
     requires server { (s : ServerState) → stream.old ≡ Some s → IsServerOf block.now s }
+    requires hand { hand_made hand.old ≡ block.now }
     ensures server { (s : ServerState) → stream.new ≡ Some s → IsServerOf block.now s }
+    ensures hand { hand.new ≡ hand.old }
     ensures list { StreamAdds stream.old (shut_events shut) stream.new }
+    ensures recalls { Recalls stream.old (shut_events shut) hand.old }
 {
     if let Some(server) = stream {
-        mark(server, block, shut, steps);
+        mark_home(server, hand, block, shut, steps);
     }
 }
 
@@ -170,7 +197,7 @@ pub(crate) fn attend<L: Ledger>(
     let (life, disabled) = told.life.on_report(heard.known);
     disable(hand, stream_block, disabled, steps);
     mark(command, command_block, shut, steps);
-    mark_stream(stream, stream_block, shut, steps);
+    mark_stream(stream, hand, stream_block, shut, steps);
     let mut kept = TrackKept { life, ..told };
     let word = kept.status_word(shut);
     let status = stored_over(ready.status, word);

@@ -37,10 +37,10 @@ module _ (l : Loaded) (journal : JournalData) (ends : EndsState) (back : HandsBa
     back = back;
     bytes_are = refl;
     line_is = ap summary_line summary_is;
-    told = (λ plain. let told = render_told l.script l.files journal ends accepted plain back in record {
-      turns = told.turns;
+    told = (let told = render_told l.script l.files journal ends accepted back in record {
+      run = told.run;
       line_is = ap summary_line (summary_is ∙ told.summary);
-      alone = (λ met other run also. one_turn_run l.script l.files other journal accepted plain run told.turns also met);
+      alone = (λ plain met other run also. one_turn_run l.script l.files other journal accepted plain run told.run also met);
     });
   }
 

@@ -18,11 +18,11 @@ use Rattle.af_tally.specs.Summaries.{summary_text}
 abbrev pub summary_line : Summary → List ℕ
 summary_line summary = summary_text summary ++ codes "\n"
 
--- Where no op of the script is a poke: the journal is by itself a turn run, in which each event sees what all before it left, and the line is that of the summary that it tells. Any other turn run of this script and these files is this one, where in both each stream proxy takes part in the last meeting
+-- The journal is by itself a turn run, in which each event sees what all before it left, and the line is that of the summary that it tells. Where no op of the script is a poke, any other turn run of this script and these files is this one, where in both each stream proxy takes part in the last meeting
 pub record IsTurnRunAlone (script : ScriptData) (files : List (List Frame)) (journal : JournalData) (line : List ℕ) : Type 0 where
-  pub turns : IsTurnRun script files journal
+  pub run : IsTurnRun script files journal
   pub line_is : line ≡ summary_line (summary_alone script files journal)
-  pub alone : AllMetLast script files journal → (other : JournalData) → IsTurnRun script files other → AllMetLast script files other → other ≡ journal
+  pub alone : HasNoPokes script → AllMetLast script files journal → (other : JournalData) → IsTurnRun script files other → AllMetLast script files other → other ≡ journal
 
 -- These bytes and this line are the sound of the journal of one turn run, and the line of its summary. Where no op is a poke, and each stream proxy takes part in the last meeting, they are a function of the script and the files
 pub record IsSession (script : ScriptData) (files : List (List Frame)) (bytes line : List ℕ) : Type 0 where
@@ -31,7 +31,7 @@ pub record IsSession (script : ScriptData) (files : List (List Frame)) (bytes li
   pub back : HandsBack script files journal ends
   pub bytes_are : bytes ≡ journal_pcm script.frames journal
   pub line_is : line ≡ summary_line (summary_told script.frames journal ends)
-  pub told : HasNoPokes script → IsTurnRunAlone script files journal line
+  pub told : IsTurnRunAlone script files journal line
 
 -- this is the line of a turn run of some script with some files
 abbrev pub IsSomeSessionLine : List ℕ → Type 0

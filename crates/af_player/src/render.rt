@@ -30,7 +30,7 @@ fn is_accepted(script: &Script)
 
 /// Plays what was loaded, and answers its line.
 ///
-/// Where no op of the script is a poke, the journal behind the sound is by itself a turn run, in which each event sees what all before it left, and the line is that of its summary. If each stream proxy takes part in its last meeting, it is the only such turn run of this script and these files.
+/// The journal behind the sound is by itself a turn run, in which each event sees what all before it left, and the line is that of its summary. Where no op of the script is a poke, and each stream proxy takes part in its last meeting, it is the only such turn run of this script and these files.
 pub fn play<S: Store>(
     alloc: Global,
     loaded: &Loaded,

@@ -3,7 +3,7 @@ use Rattle.std.proofs.Common.{◌≡◌, ◌⊎◌, inl, inr, ℕ, zero, suc, �
 use Rattle.std.specs.Prelude.{slice_index_or}
 use Rattle.std.proofs.lemmas.Bool.{cases_eq}
 use Rattle.std.proofs.lemmas.List.{length-replicate}
-use Rattle.std.proofs.lemmas.Option.{slice_get_within}
+use Rattle.std.proofs.lemmas.Option.{none-some, slice_get_within}
 use Rattle.af_base.specs.declared.event.ClientCall.{ClientCall}
 use Rattle.af_link.specs.declared.links.Links.{Links}
 use Rattle.af_model.specs.Journals.{EntrySeen, RoundNoted, RoundSeen}
@@ -70,4 +70,5 @@ module _ (links : Links) (s : Session) (marks : Marks) (run : Run) (i : ℕ) (x 
     made = made;
     histories = met_histories links s (calls_alone i round run) w.turned w.met turned met told w.meets;
     told = subst (Tells s _) (sym w.ends) (ends_told s _ w.met (tells_met links s (calls_alone i round run) w.turned w.met turned met told w.meets));
+    unseen = λ e is. absurd (none-some e (sym made.1 ∙ is));
   }

@@ -1,37 +1,48 @@
 -- After a client's turn the run with its calls tells the session.
-use Rattle.std.proofs.Common.{◌≡◌, ◌⊎◌, inl, inr, ℕ, ◌<◌, ◌==◌, Bool, if◌then◌else◌, List, length, length-set, slice_get, slice_set, Option, Some, refl, sym, ap, ◌∙◌, subst, arith}
+use Rattle.std.proofs.Common.{◌≡◌, ◌⊎◌, inl, inr, ℕ, ◌<◌, ◌==◌, Bool, true, if◌then◌else◌, List, length, length-set, slice_get, slice_set, Option, Some, refl, sym, ap, ◌∙◌, subst, arith}
 use Rattle.std.proofs.lemmas.Bool.{cases_eq, eq-eqb, ne_eqb}
 use Rattle.std.proofs.lemmas.Option.{same_Some, slice_get_within}
 use Rattle.af_base.specs.declared.event.ClientCall.{ClientCall}
+use Rattle.af_base.specs.declared.event.ServerEvent.{ServerEvent}
 use Rattle.af_fast.specs.Mixer.{MixerState}
+use Rattle.af_model.specs.History.{is_lawful}
 use Rattle.af_model.specs.Journals.{RoundSeen}
+use Rattle.af_model.specs.declared.shape.Shape.{Shape}
 use Rattle.af_normal.specs.State.{NormalState}
 use Rattle.af_normal.proofs.LegalLists.{get_set_other, get_set_same}
 use Rattle.af_party.specs.Parties.{PartyState, track_of}
-use Rattle.af_runs.specs.Blocks.{BlockTold, hand_list, server_list, client_list}
+use Rattle.af_runs.specs.Blocks.{BlockTold, hand_list, is_tame, server_list, client_list}
 use Rattle.af_runs.specs.ClientTurns.{Track, after_calls, Side}
 use Rattle.af_runs.specs.Runs.{Run, TrackTold, called, calls_in, sides_of, told_at, with_side}
 use Rattle.af_runs.specs.Sessions.{Session}
 use Rattle.af_runs.specs.TurnRuns.{calls_alone}
-use Rattle.af_judge.proofs.BlocksTold.{client-hand, client-server}
+use Rattle.af_judge.proofs.BlocksTold.{client-client, client-hand, client-server}
 use Rattle.af_judge.proofs.EachTrack.{each_long, told_each}
 use Rattle.af_judge.proofs.TracksTold.{sides_called}
 use Rattle.af_server.specs.Order.{ServerState}
 use Rattle.af_session.specs.Rounds.{ClientTurned, file_at, ops_at}
 use Rattle.af_session.specs.Together.{SessionState}
+use Rattle.af_render_law.specs.Alike.{TellAlike}
 use Rattle.af_render_law.specs.Tells.{IfThere, Tells, TellsAway, TellsCommands, TellsServer, TellsStream, TellsTrack, given_of}
 use Rattle.std.specs.Prelude.{drop}
+use Rattle.af_render_law.proofs.TameRuns.{lawful_before}
 
 -- ## A block of which the server did nothing
 
--- the two blocks are told alike of the server
+-- the two blocks are told alike of the server, and where the one wasn't poked the other wasn't
 pub record SameServed (b c : BlockTold) : Type 0 where
   pub shape : c.shape ≡ b.shape
   pub events : server_list c ≡ server_list b
   pub taken : c.taken ≡ b.taken
+  pub tame : is_tame c ≡ true → is_tame b ≡ true
 
 pub server_same : (b c : BlockTold) (s : ServerState) → SameServed b c → TellsServer b s → TellsServer c s
-server_same b c s same h = record { shape = h.shape ∙ sym same.shape; events = h.events ∙ sym same.events; taken = h.taken ∙ sym same.taken }
+server_same b c s same h = record {
+  shape = h.shape ∙ sym same.shape;
+  events = (λ tame. h.events (same.tame tame) ∙ sym same.events);
+  alike = subst (λ (y : Shape × List ServerEvent). TellAlike y.0 s.pass.part.events y.1) (λ j. (sym same.shape j, sym same.events j)) h.alike;
+  taken = h.taken ∙ sym same.taken;
+}
 
 pub there_same : (b c : BlockTold) (o : Option ServerState) → SameServed b c → IfThere b o → IfThere c o
 there_same b c o same h = λ s is. server_same b c s same (h s is)
@@ -62,6 +73,7 @@ side_same b side = record {
   shape = refl;
   events = client-server b.told (drop (length (client_list b)) side.events);
   taken = refl;
+  tame = (λ h. lawful_before (client_list b) (drop (length (client_list b)) side.events) (sym (ap is_lawful (client-client b.told (drop (length (client_list b)) side.events))) ∙ h));
 }
 
 hand_same : (b : BlockTold) (side : Side) → hand_list (with_side side b) ≡ hand_list b

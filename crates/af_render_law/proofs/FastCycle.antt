@@ -1,5 +1,5 @@
 -- A cycle of the fast mixer is told once it is known that each front that a server saw is its own.
-use Rattle.std.proofs.Common.{◌≡◌, ℕ, true, false, List, [], ◌∷◌, ◌++◌, length, sym, ap, ◌∙◌, subst}
+use Rattle.std.proofs.Common.{◌≡◌, ℕ, false, List, [], ◌∷◌, ◌++◌, length, sym, ap, ◌∙◌, subst}
 use Rattle.std.specs.Prelude.{slice_index_or}
 use Rattle.std.proofs.lemmas.List.{append_cancel_left}
 use Rattle.af_base.specs.declared.frame.Frame.{Frame}
@@ -22,14 +22,14 @@ use Rattle.af_stateq.specs.Observes.{Observes}
 use Rattle.af_session.specs.FastTurns.{IsCycle}
 use Rattle.af_session.specs.Leads.{InStep, LeadAway}
 use Rattle.af_session.specs.Together.{AreTogether, SessionState}
-use Rattle.af_render_law.specs.FastRound.{AreSmall, IsTameRun, MixesAreTold}
+use Rattle.af_render_law.specs.FastRound.{AreSmall, IsMarkedRun, MixesAreTold}
 use Rattle.af_render_law.specs.Laws.{IsBetween, entry_told}
-use Rattle.af_render_law.specs.Own.{AreTame, SeesOwn}
+use Rattle.af_render_law.specs.Own.{SeesOwn}
 use Rattle.af_render_law.specs.Tells.{Tells}
 use Rattle.af_render_law.proofs.FastGrows.{adds, same_frames, still_on}
 use Rattle.af_render_law.proofs.IdlePoll.{between_met, caught_met}
 use Rattle.af_render_law.proofs.PollFinds.{poll_met}
-use Rattle.af_render_law.proofs.TameRuns.{met_tame, mix_tame, poll_tame, small_told, tame_told}
+use Rattle.af_render_law.proofs.TameRuns.{met_marked, mix_marked, poll_marked, small_told}
 
 -- the last of two lists that are the same up to it
 same_last : (xs : List CycleEntry) (a b : CycleEntry) → xs ++ a ∷ [] ≡ xs ++ b ∷ [] → a ≡ b
@@ -44,7 +44,7 @@ between_mixed x g same h = record {
   last = h.last;
 }
 
-module _ (s : Session) (run : Run) (x next : SessionState) (out out' : List Frame) (answer : Cycle) (c : IsCycle x out answer next out') (h : Tells s run x) (between : IsBetween x) (tame : IsTameRun run) (on : is_over x.fast ≡ false) where
+module _ (s : Session) (run : Run) (x next : SessionState) (out out' : List Frame) (answer : Cycle) (c : IsCycle x out answer next out') (h : Tells s run x) (between : IsBetween x) (marks : Marks) (tame : IsMarkedRun marks run) (on : is_over x.fast ≡ false) where
   abbrev links : Links
   links = c.together.links
 
@@ -58,8 +58,8 @@ module _ (s : Session) (run : Run) (x next : SessionState) (out out' : List Fram
   pub met_between : IsBetween c.met
   met_between = between_met links x c.polled c.met c.together.met c.adopts on c.meets between
 
-  pub then_tame : IsTameRun then_met
-  then_tame = met_tame s (with_poll s c.polled.observer.past.number run) (poll_tame s c.polled.observer.past.number run tame)
+  pub then_tame : IsMarkedRun marks then_met
+  then_tame = met_marked marks s (with_poll s c.polled.observer.past.number run) (poll_marked marks s c.polled.observer.past.number run tame)
 
   same_past : next.fast.observer.past ≡ c.met.fast.observer.past
   same_past = ap (λ (o : Observes ServerState StreamNames). o.past) (adds x next out out' answer c on).2.takes.observer
@@ -71,11 +71,8 @@ module _ (s : Session) (run : Run) (x next : SessionState) (out out' : List Fram
   pub next_caught : next.fast.observer.past.number ≡ next.normal.mutator.past.number
   next_caught = ap (λ (p : Polls ServerState StreamNames). p.number) same_past ∙ caught_met links x c.polled c.met c.together.met c.adopts on c.meets between ∙ sym (ap (λ (z : SessionState). z.normal.mutator.past.number) c.others)
 
-  pub next_tame : AreTame next
-  next_tame = let t = tame_told s then_met c.met met_told then_tame in subst AreTame (sym c.others) (record { streams = t.streams; commands = t.commands })
-
   pub next_small : AreSmall next
-  next_small = let t = small_told s then_met c.met met_told then_tame in subst AreSmall (sym c.others) (record { streams = t.streams; commands = t.commands })
+  next_small = let t = small_told s then_met c.met met_told (λ i low. (then_tame i low).few) in subst AreSmall (sym c.others) (record { streams = t.streams; commands = t.commands })
 
   -- the entry that the journal tells of it
   abbrev pub entry : CycleEntry
@@ -91,10 +88,10 @@ module _ (s : Session) (run : Run) (x next : SessionState) (out out' : List Fram
   run_is : then_met ≡ run_of.met s (with_poll s entry.state run)
   run_is = ap (λ (n : ℕ). run_of.met s (with_poll s n run)) state_is
 
-  module _ (marks : Marks) (mixes : MixesAreTold s marks) (lawful : (track : ℕ) → marks.streams track ≡ true) (own : SeesOwn next) where
+  module _ (mixes : MixesAreTold s marks) (own : SeesOwn next) where
     mixed : (e : CycleEntry) × (answer ≡ e.cycle) × (next.fast.log.entries ≡ c.met.fast.log.entries ++ e ∷ []) × Tells s (with_mix s (entry_told next.fast.log.frames (length c.met.fast.log.frames) e) then_met) (record c.met { fast = next.fast })
         × LegalEntry s marks then_met (entry_told next.fast.log.frames (length c.met.fast.log.frames) e)
-    mixed = mixes links then_met c.met next.fast out answer out' c.together.met (subst (AreTogether links) c.others c.mixed) met_between.state (still_on x next out out' answer c on) c.mixes c.sizes c.meets.ends.histories met_told (subst SeesOwn c.others own)
+    mixed = mixes links then_met c.met next.fast out answer out' c.together.met (subst (AreTogether links) c.others c.mixed) met_between.state (still_on x next out out' answer c on) c.mixes c.sizes c.meets.ends.histories met_told (λ i low. (then_tame i low).stream) (subst SeesOwn c.others own)
 
     same_entry : mixed.0 ≡ entry
     same_entry = same_last c.met.fast.log.entries mixed.0 entry (sym mixed.2 ∙ (adds x next out out' answer c on).2.entries)
@@ -109,5 +106,5 @@ module _ (s : Session) (run : Run) (x next : SessionState) (out out' : List Fram
     pub cycle_told : Tells s (cycle_alone s run seen) next
     cycle_told = subst (λ (y : Run × EntrySeen × SessionState). Tells s (with_mix s y.1 y.0) y.2) (λ j. (run_is j, seen_is j, sym c.others j)) mixed.3
 
-    pub cycle_tame : IsTameRun (cycle_alone s run seen)
-    cycle_tame = mix_tame s seen (run_of.met s (with_poll s entry.state run)) (subst IsTameRun run_is then_tame)
+    pub cycle_tame : IsMarkedRun marks (cycle_alone s run seen)
+    cycle_tame = mix_marked marks s seen (run_of.met s (with_poll s entry.state run)) (subst (IsMarkedRun marks) run_is then_tame)

@@ -1,5 +1,6 @@
 -- A round of the fast mixer, from what it finds to what it leaves.
 use Rattle.std.proofs.Common.{◌≡◌, inr, ℕ, ◌+◌, ◌≤◌, Bool, true, false, fold, map, take, drop, if◌then◌else◌, MatchBool, List, [], length, sym, ap, ◌∙◌, subst, arith}
+use Rattle.std.proofs.lemmas.Option.{none-some}
 use Rattle.std.specs.Prelude.{slice_index_or}
 use Rattle.std.proofs.Math.Seq.{drop-append_seam}
 use Rattle.std.proofs.lemmas.Bool.{MatchBool-at_false}
@@ -15,7 +16,7 @@ use Rattle.af_session.specs.FastTurns as parties
 use Rattle.af_session.specs.Rounds.{IsRound, fast_round, still_round}
 use Rattle.af_session.specs.Rounds as rounds
 use Rattle.af_session.specs.Together.{SessionState}
-use Rattle.af_render_law.specs.FastRound.{IsTameRun, MixesAreTold}
+use Rattle.af_render_law.specs.FastRound.{IsMarkedRun, MixesAreTold}
 use Rattle.af_render_law.specs.Laws.{IsBetween, StepIsTold, round_of}
 use Rattle.af_render_law.specs.Tells.{Tells, given_of}
 use Rattle.af_render_law.proofs.AllMeet.{met_histories, tells_met}
@@ -25,7 +26,7 @@ use Rattle.af_render_law.proofs.FastForm.{form_seen}
 use Rattle.af_render_law.proofs.FastTurnTold.{TurnTold, turn_told}
 use Rattle.af_render_law.proofs.IdlePoll.{between_after}
 
-module _ (s : Session) (marks : Marks) (run : Run) (count : ℕ) (x : SessionState) (r : RoundNoted) (bytes : List ℕ) (y : SessionState) (entries : List EntrySeen) (mixes : MixesAreTold s marks) (lawful : (track : ℕ) → marks.streams track ≡ true) (h : Tells s run x) (tame : IsTameRun run)
+module _ (s : Session) (marks : Marks) (run : Run) (count : ℕ) (x : SessionState) (r : RoundNoted) (bytes : List ℕ) (y : SessionState) (entries : List EntrySeen) (mixes : MixesAreTold s marks) (h : Tells s run x) (tame : IsMarkedRun marks run)
     (between : IsBetween x) (runs : x.fast.exited ≡ false) (some : 1 ≤ count) (room : length run.entries + count ≤ s.script.cycles) (w : IsRound (given_of s) (makes.Fast count) x r bytes y)
     (dealt : take r.cycles entries ≡ entries_seen (drop (length x.fast.log.frames) w.turned.fast.log.frames) (drop (length x.fast.log.entries) w.turned.fast.log.entries)) where
   abbrev round : RoundSeen
@@ -40,8 +41,8 @@ module _ (s : Session) (marks : Marks) (run : Run) (count : ℕ) (x : SessionSta
       let many : length x.fast.log.entries ≡ length run.entries = ap (λ (es : List CycleEntry). length es) h.fast.entries in
       omega (arith, cycles, many, room)
 
-  turn : TurnTold w.together.links w.turned w.met w.together.turned w.together.met w.meets s marks mixes lawful count run x
-  turn = turn_told w.together.links w.turned w.met w.together.turned w.together.met w.meets s marks mixes lawful count run x bytes turns.1 h between tame runs still_room
+  turn : TurnTold w.together.links w.turned w.met w.together.turned w.together.met w.meets s marks mixes count run x
+  turn = turn_told w.together.links w.turned w.met w.together.turned w.together.met w.meets s marks mixes count run x bytes turns.1 h between tame runs still_room
 
   -- the entries of the round are those that the turn added
   entries_are : round.entries ≡ entries_seen (drop (length x.fast.log.frames) w.turned.fast.log.frames) turn.entries
@@ -72,6 +73,7 @@ module _ (s : Session) (marks : Marks) (run : Run) (count : ℕ) (x : SessionSta
     made = made;
     histories = met_histories w.together.links s (fold (cycle_alone s) run round.entries) w.turned w.met w.together.turned w.together.met told w.meets;
     told = subst (Tells s _) (sym w.ends) (ends_told s _ w.met (tells_met w.together.links s (fold (cycle_alone s) run round.entries) w.turned w.met w.together.turned w.together.met told w.meets));
+    unseen = λ e is. absurd (none-some e (sym made.1 ∙ is));
   }
 
   -- the ends of the queue are in step after it

@@ -5,8 +5,6 @@ use Rattle.af_base.specs.declared.log.Cycle.{Cycle}
 use Rattle.af_life.specs.Kept.{NormalKept}
 use Rattle.af_model.specs.Cycles.{is_mixed}
 use Rattle.af_normal.specs.State.{kept_of}
-use Rattle.af_one_turn_run.proofs.PlainRuns.{IsRunPlain}
-use Rattle.af_runs.specs.Runs.{Run}
 use Rattle.af_runs.specs.Sessions.{Session}
 use Rattle.af_script.specs.declared.op.TurnSpec.TheVariants as makes
 use Rattle.af_session.specs.FastTurns.{IsFastTurn, WritesCycle}
@@ -16,17 +14,13 @@ use Rattle.af_session.proofs.Quiet.{IsQuiet}
 use Rattle.af_session.specs.Together.{SessionState}
 use Rattle.af_session.proofs.FollowingRounds.{ends_keep}
 use Rattle.af_session.proofs.RoundTold.{log_turned}
+use Rattle.af_runs.specs.Blocks.{Marks}
 use Rattle.af_render_law.specs.Between.{StandsBetween}
-use Rattle.af_render_law.specs.Chain.{FastTurnIsAStep, all_lawful, entries_grown}
-use Rattle.af_render_law.specs.FastRound.{IsSmallRun, IsTameRun}
+use Rattle.af_render_law.proofs.Chain.{FastTurnIsAStep, entries_grown}
 use Rattle.af_render_law.specs.Laws.{IsBetween}
 use Rattle.af_render_law.specs.Tells.{given_of}
 use Rattle.af_render_law.proofs.FastRound.{fast_between, fast_step}
 use Rattle.af_render_law.proofs.MixTold.{mix_told}
-
--- a run without pokes, whose blocks are small, is tame
-pub tame_by : (run : Run) → IsRunPlain run → IsSmallRun run → IsTameRun run
-tame_by run plain small n low = record { stream = (plain n low).stream; commands = (plain n low).commands; few = small n low }
 
 -- the ends of the queue between two rounds
 pub between_by : (x : SessionState) → StandsBetween x → IsBetween x
@@ -44,15 +38,14 @@ fast_kept (suc left) x bytes y (answer, next, front, back, w, bytes_are, goes, s
     by_mixed later true is = later is ∙ kept_cycle x next answer front w
     by_mixed later false is = ap (λ (z : SessionState). kept_of z.normal) (stops is).1 ∙ kept_cycle x next answer front w
 
-pub fast_turns_step : (s : Session) → FastTurnIsAStep s
-fast_turns_step s run count x r bytes y entries left holds runs some room grown w =
+pub fast_turns_step : (s : Session) (marks : Marks) → FastTurnIsAStep s marks
+fast_turns_step s marks run count x r bytes y entries left holds runs some room grown w =
     let turns = MatchBool-at_false ((r ≡ still_round x) × (bytes ≡ []) × (w.turned ≡ x)) ((r ≡ fast_round x w.turned) × IsFastTurn count x bytes w.turned) runs w.turns in
     let log : y.fast.log ≡ w.turned.fast.log = log_turned (given_of s) (makes.Fast count) x r bytes y w in
     let seen : take r.cycles entries ≡ entries_grown x.fast.log w.turned.fast.log = grown ∙ ap (entries_grown x.fast.log) log in
-    let tame = tame_by run holds.plain holds.small in
     let between = between_by x holds.stands in
-    let step = fast_step s all_lawful run count x r bytes y entries (λ links run x g out answer out'. mix_told links s all_lawful run x g out answer out') (λ track. refl) holds.told tame between runs some room w seen in
-    let after : IsBetween y = fast_between s all_lawful run count x r bytes y entries (λ links run x g out answer out'. mix_told links s all_lawful run x g out answer out') (λ track. refl) holds.told tame between runs some room w seen in
+    let step = fast_step s marks run count x r bytes y entries (λ links run x g out answer out'. mix_told links s marks run x g out answer out') holds.told holds.marked between runs some room w seen in
+    let after : IsBetween y = fast_between s marks run count x r bytes y entries (λ links run x g out answer out'. mix_told links s marks run x g out answer out') holds.told holds.marked between runs some room w seen in
     let kept : kept_of y.normal ≡ kept_of x.normal =
     ap kept_of (ap (λ (z : SessionState). z.normal) w.ends ∙ (ends_keep w.met).normal ∙ w.meets.ends.normal) ∙ fast_kept count x bytes w.turned turns.1 in (
       step,

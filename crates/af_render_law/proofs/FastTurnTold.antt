@@ -15,11 +15,11 @@ use Rattle.af_runs.specs.TurnRuns.{LegalAlone, cycle_alone}
 use Rattle.af_session.specs.FastTurns.{IsCycle, IsFastTurn, WritesCycle}
 use Rattle.af_session.specs.Met.{Met}
 use Rattle.af_session.specs.Together.{AreTogether, SessionState}
-use Rattle.af_render_law.specs.FastRound.{AreSmall, IsTameRun, MixesAreTold}
+use Rattle.af_render_law.specs.FastRound.{AreSmall, IsMarkedRun, MixesAreTold}
 use Rattle.af_render_law.specs.Laws.{IsBetween, entry_told}
-use Rattle.af_render_law.specs.Own.{AreTame, SeesOwn}
+use Rattle.af_render_law.specs.Own.{SeesOwn}
 use Rattle.af_render_law.specs.Tells.{Tells}
-use Rattle.af_render_law.proofs.FastCycle.{cycle_legal, cycle_tame, cycle_told, next_between, next_caught, next_small, next_tame}
+use Rattle.af_render_law.proofs.FastCycle.{cycle_legal, cycle_tame, cycle_told, next_between, next_caught, next_small}
 use Rattle.af_render_law.proofs.FastForm.{AreTurn, mixed_entry}
 use Rattle.af_render_law.proofs.FastGrows.{adds, frames_grow, frames_more, goes_on, one_more, still_room, still_runs, taken, taken_long}
 use Rattle.af_render_law.proofs.IdlePoll.{idle_meetings_show}
@@ -37,14 +37,14 @@ first_of (f ∷ first) rest = ap (λ (fs : List Frame). f ∷ fs) (first_of firs
 
 module _ (links : Links) (t z : SessionState) (together : AreTogether links t) (still : AreTogether links z) (meets : Met t z) where
   -- the next meetings show what the servers saw up to here: those of the next cycle, or those after the turn
-  next_show : (left : ℕ) (x : SessionState) (bytes : List ℕ) → IsFastTurn left x bytes t → IsBetween x → x.fast.observer.past.number ≡ x.normal.mutator.past.number → AreSmall x → AreTame x → x.fast.exited ≡ false → length x.fast.log.entries + left ≤ x.fast.cycles → SeesOwn x
-  next_show zero x bytes turn between caught small tame runs room =
-      meetings_show links x z small (subst (AreTogether links) turn.1 together) still between.state tame (subst (λ (y : SessionState). Met y z) turn.1 meets)
-  next_show (suc left) x bytes turn between caught small tame runs room =
+  next_show : (left : ℕ) (x : SessionState) (bytes : List ℕ) → IsFastTurn left x bytes t → IsBetween x → x.fast.observer.past.number ≡ x.normal.mutator.past.number → AreSmall x → x.fast.exited ≡ false → length x.fast.log.entries + left ≤ x.fast.cycles → SeesOwn x
+  next_show zero x bytes turn between caught small runs room =
+      meetings_show links x z small (subst (AreTogether links) turn.1 together) still between.state (subst (λ (y : SessionState). Met y z) turn.1 meets)
+  next_show (suc left) x bytes turn between caught small runs room =
       let c = turn.4.cycle in
-      idle_meetings_show c.together.links x c.polled c.met c.together.turned c.together.met c.adopts (goes_on x.fast runs (omega (arith, room))) c.meets between caught small tame
+      idle_meetings_show c.together.links x c.polled c.met c.together.turned c.together.met c.adopts (goes_on x.fast runs (omega (arith, room))) c.meets between caught small
 
-  module _ (s : Session) (marks : Marks) (mixes : MixesAreTold s marks) (lawful : (track : ℕ) → marks.streams track ≡ true) where
+  module _ (s : Session) (marks : Marks) (mixes : MixesAreTold s marks) where
     -- the entries that the turn added from x on, with their frames in the log that it left
     pub record TurnTold (left : ℕ) (run : Run) (x : SessionState) : Type 0 where
       pub entries : List CycleEntry
@@ -54,7 +54,7 @@ module _ (links : Links) (t z : SessionState) (together : AreTogether links t) (
       pub told : Tells s (fold (cycle_alone s) run (entries_seen (drop (length x.fast.log.frames) t.fast.log.frames) entries)) t
       pub between : IsBetween t
 
-    module _ (left : ℕ) (run : Run) (x next : SessionState) (answer : Cycle) (bytes : List ℕ) (w : WritesCycle x answer bytes next) (h : Tells s run x) (between : IsBetween x) (tame : IsTameRun run) (on : is_over x.fast ≡ false) (own : SeesOwn next) where
+    module _ (left : ℕ) (run : Run) (x next : SessionState) (answer : Cycle) (bytes : List ℕ) (w : WritesCycle x answer bytes next) (h : Tells s run x) (between : IsBetween x) (tame : IsMarkedRun marks run) (on : is_over x.fast ≡ false) (own : SeesOwn next) where
       abbrev c : IsCycle x w.before answer next w.after
       c = w.cycle
 
@@ -100,7 +100,7 @@ module _ (links : Links) (t z : SessionState) (together : AreTogether links t) (
           entries = e ∷ es;
           added = added ∙ ap (λ (l : List CycleEntry). l ++ es) (one_more x next w.before w.after answer c on) ∙ append_assoc x.fast.log.entries (e ∷ []) es;
           are = are;
-          legal = subst (LegalAlone s marks run) (seen_first es) (cycle_legal s run x next w.before w.after answer c h between tame on marks mixes lawful own, legal);
+          legal = subst (LegalAlone s marks run) (seen_first es) (cycle_legal s run x next w.before w.after answer c h between marks tame on mixes own, legal);
           told = subst (λ (l : List EntrySeen). Tells s (fold (cycle_alone s) run l) t) (seen_first es) told_t;
           between = between_t;
         }
@@ -115,42 +115,39 @@ module _ (links : Links) (t z : SessionState) (together : AreTogether links t) (
       ends_told is over =
           one_and [] (ap (λ (y : SessionState). y.fast.log.frames) over ∙ sym (append-nil next.fast.log.frames)) [] (ap (λ (y : SessionState). y.fast.log.entries) over ∙ sym (append-nil next.fast.log.entries))
           ((λ mixed. absurd (true≢false (sym mixed ∙ sym (ap is_mixed (adds x next w.before w.after answer c on).1) ∙ is))), (λ _. refl)) tt
-          (subst (Tells s (cycle_alone s run seen)) (sym over) (cycle_told s run x next w.before w.after answer c h between tame on marks mixes lawful own))
-          (subst IsBetween (sym over) (next_between s run x next w.before w.after answer c h between tame on))
+          (subst (Tells s (cycle_alone s run seen)) (sym over) (cycle_told s run x next w.before w.after answer c h between marks tame on mixes own))
+          (subst IsBetween (sym over) (next_between s run x next w.before w.after answer c h between marks tame on))
 
     -- a cycle, and what follows it
-    module _ (left : ℕ) (run : Run) (x next : SessionState) (answer : Cycle) (front back : List ℕ) (w : WritesCycle x answer front next) (h : Tells s run x) (between : IsBetween x) (tame : IsTameRun run) (runs : x.fast.exited ≡ false) (room : length x.fast.log.entries + suc left ≤ x.fast.cycles) where
+    module _ (left : ℕ) (run : Run) (x next : SessionState) (answer : Cycle) (front back : List ℕ) (w : WritesCycle x answer front next) (h : Tells s run x) (between : IsBetween x) (tame : IsMarkedRun marks run) (runs : x.fast.exited ≡ false) (room : length x.fast.log.entries + suc left ≤ x.fast.cycles) where
       on : is_over x.fast ≡ false
       on = goes_on x.fast runs (omega (arith, room))
 
       between_next : IsBetween next
-      between_next = next_between s run x next w.before w.after answer w.cycle h between tame on
+      between_next = next_between s run x next w.before w.after answer w.cycle h between marks tame on
 
       caught_next : next.fast.observer.past.number ≡ next.normal.mutator.past.number
-      caught_next = next_caught s run x next w.before w.after answer w.cycle h between tame on
+      caught_next = next_caught s run x next w.before w.after answer w.cycle h between marks tame on
 
       small_next : AreSmall next
-      small_next = next_small s run x next w.before w.after answer w.cycle h between tame on
-
-      tame_next : AreTame next
-      tame_next = next_tame s run x next w.before w.after answer w.cycle h between tame on
+      small_next = next_small s run x next w.before w.after answer w.cycle h between marks tame on
 
       by_mix : (b : Bool) → is_mixed answer ≡ b → (is_mixed answer ≡ true → IsFastTurn left next back t) → (is_mixed answer ≡ false → t ≡ next)
-          → ((now : Run) → IsFastTurn left next back t → Tells s now next → IsTameRun now → next.fast.exited ≡ false → length next.fast.log.entries + left ≤ next.fast.cycles → TurnTold left now next) → TurnTold (suc left) run x
+          → ((now : Run) → IsFastTurn left next back t → Tells s now next → IsMarkedRun marks now → next.fast.exited ≡ false → length next.fast.log.entries + left ≤ next.fast.cycles → TurnTold left now next) → TurnTold (suc left) run x
       by_mix true is goes stops rest =
           let runs' = still_runs x next w.before w.after answer w.cycle on is in
           let room' = still_room x next w.before w.after answer w.cycle on left room in
-          let own = next_show left next back (goes is) between_next caught_next small_next tame_next runs' room' in
+          let own = next_show left next back (goes is) between_next caught_next small_next runs' room' in
           let grows = frames_grow left next back t (goes is) runs' room' in
           goes_told left run x next answer front w h between tame on own is grows.0 grows.1
-          (rest _ (goes is) (cycle_told s run x next w.before w.after answer w.cycle h between tame on marks mixes lawful own) (cycle_tame s run x next w.before w.after answer w.cycle h between tame on marks mixes lawful own) runs' room')
+          (rest _ (goes is) (cycle_told s run x next w.before w.after answer w.cycle h between marks tame on mixes own) (cycle_tame s run x next w.before w.after answer w.cycle h between marks tame on mixes own) runs' room')
       by_mix false is goes stops rest =
           let over = stops is in
-          let own : SeesOwn next = meetings_show links next z small_next (subst (AreTogether links) over together) still between_next.state tame_next (subst (λ (y : SessionState). Met y z) over meets) in
+          let own : SeesOwn next = meetings_show links next z small_next (subst (AreTogether links) over together) still between_next.state (subst (λ (y : SessionState). Met y z) over meets) in
           ends_told left run x next answer front w h between tame on own is over
 
     -- the turn from x on
-    pub turn_told : (left : ℕ) (run : Run) (x : SessionState) (bytes : List ℕ) → IsFastTurn left x bytes t → Tells s run x → IsBetween x → IsTameRun run → x.fast.exited ≡ false → length x.fast.log.entries + left ≤ x.fast.cycles → TurnTold left run x
+    pub turn_told : (left : ℕ) (run : Run) (x : SessionState) (bytes : List ℕ) → IsFastTurn left x bytes t → Tells s run x → IsBetween x → IsMarkedRun marks run → x.fast.exited ≡ false → length x.fast.log.entries + left ≤ x.fast.cycles → TurnTold left run x
     turn_told zero run x bytes turn h between tame runs room = record {
       entries = [];
       added = ap (λ (y : SessionState). y.fast.log.entries) turn.1 ∙ sym (append-nil x.fast.log.entries);

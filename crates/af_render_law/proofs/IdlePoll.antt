@@ -21,7 +21,7 @@ use Rattle.af_session.specs.Together.{AreTogether, SessionState}
 use Rattle.af_session.proofs.QueueSteps.{Finds, finds, finds_none, step_met}
 use Rattle.af_render_law.specs.FastRound.{AreSmall}
 use Rattle.af_render_law.specs.Laws.{IsBetween}
-use Rattle.af_render_law.specs.Own.{AreTame, SeesOwn}
+use Rattle.af_render_law.specs.Own.{SeesOwn}
 use Rattle.af_render_law.proofs.MeetsShow.{meetings_show}
 
 abbrev Watching : Type 0
@@ -119,15 +119,15 @@ between_after links x y still met b =
 pub idle_shows : (x : SessionState) (g : MixerState) → g ≡ record x.fast { observer = g.observer; adopted = true } → g.observer ≡ sees_same x.fast.observer → SeesOwn (record x { fast = g }) → SeesOwn x
 idle_shows x g same idle shows = record {
   homes = shows.homes;
-  held = (λ i s low is. shows.held i s low (ap (λ (w : Watching). item_at w.items (slot_for w.past.state i)) idle ∙ is));
+  held = (λ i p s there tame is. shows.held i p s there tame (ap (λ (w : Watching). item_at w.items (slot_for w.past.state i)) idle ∙ is));
   commands = shows.commands;
   pipe = subst (λ (f : MixerState). SeesTaken 0 f.pipe.pass.part.events) same shows.pipe;
 }
 
 module _ (links : Links) (x : SessionState) (g : MixerState) (y : SessionState) (polled : AreTogether links (record x { fast = g })) (still : AreTogether links y) (adopts : Adopts x.fast g) (on : is_over x.fast ≡ false) (met : Met (record x { fast = g }) y)
-    (between : IsBetween x) (caught : x.fast.observer.past.number ≡ x.normal.mutator.past.number) (small : AreSmall x) (tame : AreTame x) where
+    (between : IsBetween x) (caught : x.fast.observer.past.number ≡ x.normal.mutator.past.number) (small : AreSmall x) where
   -- so the meetings after it show what each server saw before it
   pub idle_meetings_show : SeesOwn x
   idle_meetings_show =
       idle_shows x g adopts.same (same_found links x g y still adopts on met between caught)
-      (meetings_show links (record x { fast = g }) y (record { streams = small.streams; commands = small.commands }) polled still (lead_polled links x g y still adopts on met between) (record { streams = tame.streams; commands = tame.commands }) met)
+      (meetings_show links (record x { fast = g }) y (record { streams = small.streams; commands = small.commands }) polled still (lead_polled links x g y still adopts on met between) met)

@@ -24,8 +24,8 @@ use Rattle.af_life.specs.TurnEvents.{command_list, going, invalid, mix_events, m
 use Rattle.af_model.specs.declared.states.MutatorEvent.TheVariants as mutator
 use Rattle.af_model.specs.Cycles.{Listed, LooksBy, after_look, cycle_events, kept}
 use Rattle.af_model.specs.ServerCalls.{look_at, look_events}
-use Rattle.af_render_law.specs.Outsides.{AreAlike, LearnAlike, SameFront, SameFronts}
-use Rattle.af_render_law.proofs.TakenHome.{each_take, taken_home}
+use Rattle.af_render_law.specs.Outsides.{AnswerAlike, AreAlike, LearnAlike, SameFront, SameFronts}
+use Rattle.af_render_law.proofs.TakenHome.{each_take}
 use Rattle.af_render_law.proofs.TurnAlike.{after_edits_same, heard_then_same, learn_alike, ready_then_same, tracks_same}
 
 -- ## One look
@@ -90,32 +90,15 @@ module _ (c : Setup) (m : NormalKept) (e : Turn) (o p : Outside) (sound : IsSoun
       subst (λ (x : List TrackKept × Heard × TrackKept). MatchBool (track_at x.0 i).life.ended (track_in e i ≡ nothing_seen) (IsServed (slot_for c x.0 i) x.1 (track_in e i) x.2))
       (λ j. (tracks_same c (learnt o) (learnt p) m e sound learns i j, heard_then_same c (learnt o) (learnt p) m e sound learns i low j, ready_then_same c (learnt o) (learnt p) m e sound learns i low j)) legal
 
-  -- each take is legal, where its track is home
-  takes_alike : (takes : List TakeSeen) → AllByRecursion (λ (take : TakeSeen). (o.streams take.track ≡ p.streams take.track) × SameFront (o.streams take.track) (o.stream_front take.track) (p.stream_front take.track)) takes
+  -- each take is legal
+  takes_alike : (takes : List TakeSeen) → AllByRecursion (λ (take : TakeSeen). (slot : SlotEntry) → LooksBy (asked c) (o.streams take.track) slot (o.stream_front take.track) → LooksBy (asked c) (p.streams take.track) slot (p.stream_front take.track)) takes
       → AllByRecursion (LegalTake c o) takes → AllByRecursion (LegalTake c p) takes
   takes_alike [] same legal = tt
-  takes_alike (take ∷ takes) same legal = (
-    record {
-      looks = subst (λ (s : Listed). LooksBy (asked c) s take.slot (p.stream_front take.track)) same.0.0 (looks_same (o.streams take.track) (o.stream_front take.track) (p.stream_front take.track) same.0.1 (asked c) take.slot legal.0.looks);
-      frames = legal.0.frames;
-      place = legal.0.place;
-    },
-    takes_alike takes same.1 legal.1,
-  )
-
-  -- a track that was taken from is home, with the same list and front
-  taken_alike : GoesOn c o m e → (i : ℕ) → (takes_from e.mixes i ≡ []) ⊎ ((o.streams i ≡ p.streams i) × SameFront (o.streams i) (o.stream_front i) (p.stream_front i))
-  taken_alike goes i = elim (taken_home c (learnt o) m e i sound goes.due) as (λ _. (takes_from e.mixes i ≡ []) ⊎ ((o.streams i ≡ p.streams i) × SameFront (o.streams i) (o.stream_front i) (p.stream_front i))) [
-    | inl none ↦ inl none
-    | inr home ↦ elim (alike.stream_front i home.0) as (λ _. (takes_from e.mixes i ≡ []) ⊎ ((o.streams i ≡ p.streams i) × SameFront (o.streams i) (o.stream_front i) (p.stream_front i))) [
-      | inl none ↦ inl none
-      | inr front ↦ inr (alike.streams i home.0 home.1, front)
-    ]
-  ]
+  takes_alike (take ∷ takes) same legal = (record { looks = same.0 take.slot legal.0.looks; frames = legal.0.frames; place = legal.0.place }, takes_alike takes same.1 legal.1)
 
   -- the turn is legal
-  pub legal_alike : LegalTurn c o m e → LegalTurn c p m e
-  legal_alike legal = record { ends = legal.ends; still = legal.still; goes_on = (λ runs. goes (legal.goes_on runs)) }
+  pub legal_alike : AnswerAlike c m e o p → LegalTurn c o m e → LegalTurn c p m e
+  legal_alike answer legal = record { ends = legal.ends; still = legal.still; goes_on = (λ runs. goes (legal.goes_on runs)) }
     where
       edits : after_edits c (learnt o) e m ≡ after_edits c (learnt p) e m
       edits = after_edits_same c (learnt o) (learnt p) m e sound learns
@@ -127,23 +110,24 @@ module _ (c : Setup) (m : NormalKept) (e : Turn) (o p : Outside) (sound : IsSoun
         room = g.room;
         whole = g.whole;
         tracks = (λ i low. track_alike i low (g.tracks i low));
-        looks = (λ i low. subst (λ (s : Listed). LegalLooks s (track_in e i).looks (p.command_fronts i)) (alike.commands i low) (all_looks_same (o.commands i) (track_in e i).looks (o.command_fronts i) (p.command_fronts i) (alike.command_fronts i low) (g.looks i low)));
+        looks = (λ i low. answer.looks i low (g.looks i low));
         push = subst (λ (n : NormalKept). LegalPush n e.push) edits g.push;
         due = g.due ∙ ap (λ (n : NormalKept). tracks_due c e.room n.tracks) edits;
-        takes = takes_alike e.mixes (each_take (λ i. (o.streams i ≡ p.streams i) × SameFront (o.streams i) (o.stream_front i) (p.stream_front i)) e.mixes (taken_alike g)) g.takes;
+        takes = takes_alike e.mixes (each_take (λ i. (slot : SlotEntry) → LooksBy (asked c) (o.streams i) slot (o.stream_front i) → LooksBy (asked c) (p.streams i) slot (p.stream_front i)) e.mixes answer.takes) g.takes;
       }
 
   -- ## The lists
 
-  invalid_same : (i : ℕ) → i < length m.tracks → invalid (learnt o) (track_in e i) (tracks_at c (learnt o) m e i) i ≡ invalid (learnt p) (track_in e i) (tracks_at c (learnt p) m e i) i
+  pub invalid_same : (i : ℕ) → i < length m.tracks → invalid (learnt o) (track_in e i) (tracks_at c (learnt o) m e i) i ≡ invalid (learnt p) (track_in e i) (tracks_at c (learnt p) m e i) i
   invalid_same i low = λ j. if not (track_at (tracks_same c (learnt o) (learnt p) m e sound learns i j) i).life.ended && is_found_shut (heard_then_same c (learnt o) (learnt p) m e sound learns i low j) (track_in e i).looks then server.SetFlags 4 ∷ [] else []
 
-  -- of a stream
-  pub stream_list_same : LegalTurn c o m e → (i : ℕ) → i < length m.tracks → stream_list c o e (tracks_at c (learnt o) m e i) i ≡ stream_list c p e (tracks_at c (learnt p) m e i) i
-  stream_list_same legal i low = by_end e.ended refl
+  -- of a stream from which nothing was taken, or whose list and front are the same
+  pub stream_list_same : (i : ℕ) → i < length m.tracks → (takes_from e.mixes i ≡ []) ⊎ ((o.streams i ≡ p.streams i) × SameFront (o.streams i) (o.stream_front i) (p.stream_front i))
+      → stream_list c o e (tracks_at c (learnt o) m e i) i ≡ stream_list c p e (tracks_at c (learnt p) m e i) i
+  stream_list_same i low taken = by_end e.ended refl
     where
-      mixes : GoesOn c o m e → mix_events c o e.mixes i ≡ mix_events c p e.mixes i
-      mixes g = elim (taken_alike g i) as (λ _. mix_events c o e.mixes i ≡ mix_events c p e.mixes i) [
+      mixes : mix_events c o e.mixes i ≡ mix_events c p e.mixes i
+      mixes = elim taken as (λ _. mix_events c o e.mixes i ≡ mix_events c p e.mixes i) [
         | inl none ↦ ap (flat_map (λ (take : TakeSeen). cycle_events (asked c) (o.streams i) take.slot (o.stream_front i))) none ∙ sym (ap (flat_map (λ (take : TakeSeen). cycle_events (asked c) (p.streams i) take.slot (p.stream_front i))) none)
         | inr same ↦ each (takes_from e.mixes i) same.0 same.1
       ]
@@ -160,13 +144,13 @@ module _ (c : Setup) (m : NormalKept) (e : Turn) (o p : Outside) (sound : IsSoun
           → (if b then [] else ((if is_home (track_at (tracks_at c (learnt o) m e i) i).holder then invalid (learnt o) (track_in e i) (tracks_at c (learnt o) m e i) i else []) ++ mix_events c o e.mixes i))
           ≡ (if b then [] else ((if is_home (track_at (tracks_at c (learnt p) m e i) i).holder then invalid (learnt p) (track_in e i) (tracks_at c (learnt p) m e i) i else []) ++ mix_events c p e.mixes i))
       by_end true is = refl
-      by_end false is = λ j. (if is_home (track_at (tracks_same c (learnt o) (learnt p) m e sound learns i j) i).holder then invalid_same i low j else []) ++ mixes (legal.goes_on is) j
+      by_end false is = λ j. (if is_home (track_at (tracks_same c (learnt o) (learnt p) m e sound learns i j) i).holder then invalid_same i low j else []) ++ mixes j
 
-  -- of a command block
-  pub command_list_same : (i : ℕ) → i < length m.tracks → command_list c o e (tracks_at c (learnt o) m e i) i ≡ command_list c p e (tracks_at c (learnt p) m e i) i
-  command_list_same i low =
+  -- of a command block whose list and fronts are the same
+  pub command_list_same : (i : ℕ) → i < length m.tracks → o.commands i ≡ p.commands i → SameFronts (o.commands i) (track_in e i).looks (o.command_fronts i) (p.command_fronts i) → command_list c o e (tracks_at c (learnt o) m e i) i ≡ command_list c p e (tracks_at c (learnt p) m e i) i
+  command_list_same i low list fronts =
       let looks : all_command_events (o.commands i) (track_in e i).looks (o.command_fronts i) ≡ all_command_events (p.commands i) (track_in e i).looks (p.command_fronts i) =
-      all_events_same (o.commands i) (track_in e i).looks (o.command_fronts i) (p.command_fronts i) (alike.command_fronts i low) ∙ ap (λ (s : Listed). all_command_events s (track_in e i).looks (p.command_fronts i)) (alike.commands i low) in
+      all_events_same (o.commands i) (track_in e i).looks (o.command_fronts i) (p.command_fronts i) fronts ∙ ap (λ (s : Listed). all_command_events s (track_in e i).looks (p.command_fronts i)) list in
       (λ j. going e (looks j ++ invalid_same i low j ++ status_events (track_in e i).status))
 
 -- of the mutator

@@ -29,6 +29,9 @@ pub mod LogMore
 pub mod EntriesDealt
 pub mod TurnChain
 pub mod RenderTold
+pub mod FrontLeaves
+pub mod KeptAlike
+pub mod KeptLooks
 pub mod OwnFronts
 pub mod MixLooks
 pub mod MixKnown
@@ -51,6 +54,7 @@ pub mod FastCycle
 pub mod FastTurnTold
 pub mod FastRound
 pub mod SmallRuns
+pub mod MarkedRuns
 pub mod EditPlaces
 pub mod HandedTurn
 pub mod AckPlaces
@@ -68,6 +72,7 @@ pub mod LegalAlike
 pub mod TurnFronts
 pub mod FoundLegal
 pub mod NormalFound
+pub mod ListsAlike
 pub mod TurnTracks
 pub mod HomeBefore
 pub mod TurnHomes
@@ -87,3 +92,17 @@ pub mod StreamsEnded
 pub mod TracksTurned
 pub mod PartsTold
 pub mod RendersTold
+pub mod AwayKnown
+pub mod TakesRise
+pub mod TrackCalm
+pub mod RunCalm
+pub mod TameRounds
+pub mod ShutUnseen
+pub mod NoInvalid
+pub mod MixedOpen
+pub mod ShutEnds
+pub mod Unmixed
+pub mod UnmixedTurns
+pub mod InvalidBlocks
+pub mod InvalidKept
+pub mod Chain

@@ -1,6 +1,6 @@
 -- What meetings show of the servers that took part: each front that they saw is their own.
 use Rattle.std.proofs.Common.{◌≡◌, ℕ, ◌+◌, ◌<◌, ◌≤◌, true, false, true≢false, is_some, List, [], ◌∷◌, ◌++◌, length, slice_get, Option, Some, None, refl, sym, ap, ◌∙◌, subst, arith}
-use Rattle.std.proofs.lemmas.Option.{none-some, same_Some}
+use Rattle.std.proofs.lemmas.Option.{none-some, same_Some, slice_get_within}
 use Rattle.af_base.specs.declared.event.ClientEvent.{ClientEvent}
 use Rattle.af_base.specs.declared.event.HandEvent.{HandEvent}
 use Rattle.af_base.specs.declared.event.ServerEvent.{ServerEvent}
@@ -29,7 +29,7 @@ use Rattle.af_session.specs.Met.{MeetsAway, Met, SpotMet, TrackMet, item_at, pro
 use Rattle.af_session.specs.Together.{AreTogether, SessionState}
 use Rattle.af_stateq.specs.Mutates.{at}
 use Rattle.af_render_law.specs.FastRound.{AreSmall}
-use Rattle.af_render_law.specs.Own.{AreTame, SawOwn, SeesOwn}
+use Rattle.af_render_law.specs.Own.{SawOwn, SeesOwn}
 use Rattle.af_render_law.proofs.AllMeet.{some_at}
 use Rattle.af_render_law.proofs.SlotHeld.{found_carries, found_track}
 use Rattle.af_render_law.proofs.TrackMeets.{tracks_are}
@@ -84,7 +84,7 @@ module _ (blocks : List Made) (i : ℕ) (c d : ClientState) (few : c.pass.part.s
 
 -- ## The session
 
-module _ (links : Links) (y z : SessionState) (small : AreSmall y) (together : AreTogether links y) (still : AreTogether links z) (lead : LeadAway y.fast.observer.past.state y.normal.tracks) (tame : AreTame y) (m : Met y z) where
+module _ (links : Links) (y z : SessionState) (small : AreSmall y) (together : AreTogether links y) (still : AreTogether links z) (lead : LeadAway y.fast.observer.past.state y.normal.tracks) (m : Met y z) where
   as_many : length z.clients ≡ length y.clients
   as_many = still.count ∙ ap (λ (ts : List TrackKept). length ts) (tracks_are y z m) ∙ sym together.count
 
@@ -107,13 +107,13 @@ module _ (links : Links) (y z : SessionState) (small : AreSmall y) (together : A
     hers : AreClientsOf links i after.0.stream after.0.command
     hers = still.clients i after.0 after.1
 
-    home : (s : ServerState) → stream_at y.normal.streams i ≡ Some s → SawOwn s
-    home s is = by_spot (stream_at y.normal.streams i) refl track.streamed
+    home : (s : ServerState) → is_lawful before.0.stream.pass.part.events ≡ true → stream_at y.normal.streams i ≡ Some s → SawOwn s
+    home s tame is = by_spot (stream_at y.normal.streams i) refl track.streamed
       where
         by_spot : (o : Option ServerState) → stream_at y.normal.streams i ≡ o → SpotMet (client_made before.0.stream.pass) o (spot_of adopted (proxies_of y.normal y.fast) i) before.0.stream (spot_of adopted (proxies_of z.normal z.fast) i) after.0.stream → SawOwn s
         by_spot None none met = absurd (none-some s (sym none ∙ is))
         by_spot (Some p) some met =
-            by_stream links.streams.now i before.0.stream after.0.stream (small.streams i before.0 before.1) mine.stream_is hers.stream_is hers.in_order.0 s (together.normal.tied.proxies.streams_of i s is) (tame.streams i before.0 before.1)
+            by_stream links.streams.now i before.0.stream after.0.stream (small.streams i before.0 before.1) mine.stream_is hers.stream_is hers.in_order.0 s (together.normal.tied.proxies.streams_of i s is) tame
             (Some p) (slice_get y.normal.hands i) (slice_get z.normal.hands i) (stream_at z.normal.streams i) (sym some ∙ is) met.0
 
     -- a proxy that is held isn't home
@@ -130,24 +130,24 @@ module _ (links : Links) (y z : SessionState) (small : AreSmall y) (together : A
         let names = together.fast.1.names in
         subst (λ (w : List Made × ℕ). IsStreamOf w.0 w.1 s) (λ j. (names.2 j, found_track adopted i k found j)) (together.fast.0.observer.fit names.0 names.1 k s c.0 is)
 
-    held : (s : ServerState) → item_at y.fast.observer.items (slot_for adopted i) ≡ Some s → SawOwn s
-    held s is = by_slot (slot_for adopted i) refl is
+    held : (s : ServerState) → is_lawful before.0.stream.pass.part.events ≡ true → item_at y.fast.observer.items (slot_for adopted i) ≡ Some s → SawOwn s
+    held s tame is = by_slot (slot_for adopted i) refl is
       where
         by_spot : (k : ℕ) → slot_for adopted i ≡ Some k → at y.fast.observer.items k ≡ Some s → (o : Option ServerState) → stream_at y.normal.streams i ≡ o
             → SpotMet (client_made before.0.stream.pass) o (spot_of adopted (proxies_of y.normal y.fast) i) before.0.stream (spot_of adopted (proxies_of z.normal z.fast) i) after.0.stream → SawOwn s
         by_spot k found item (Some p) some met = absurd (not_home k p found some)
         by_spot k found item None none met =
-            by_away links.streams.now i before.0.stream after.0.stream (small.streams i before.0 before.1) mine.stream_is hers.stream_is hers.in_order.0 s (of_track k s found item) (tame.streams i before.0 before.1)
+            by_away links.streams.now i before.0.stream after.0.stream (small.streams i before.0 before.1) mine.stream_is hers.stream_is hers.in_order.0 s (of_track k s found item) tame
             (item_at y.fast.observer.items (slot_for adopted i)) (item_at z.fast.observer.items (slot_for adopted i)) met.hand met.hand' is met.met
 
         by_slot : (o : Option ℕ) → slot_for adopted i ≡ o → item_at y.fast.observer.items o ≡ Some s → SawOwn s
         by_slot None none item = absurd (none-some s item)
         by_slot (Some k) found item = by_spot k found item (stream_at y.normal.streams i) refl track.streamed
 
-    command : (s : ServerState) → slice_get y.normal.commands i ≡ Some s → SawOwn s
-    command s is =
+    command : (s : ServerState) → is_lawful before.0.command.pass.part.events ≡ true → slice_get y.normal.commands i ≡ Some s → SawOwn s
+    command s tame is =
         let one : track.command ≡ s = same_Some track.command s (sym track.has_command ∙ is) in
-        by_meets links.commands.now i before.0.command after.0.command (small.commands i before.0 before.1) mine.command_is hers.command_is hers.in_order.1 s (together.normal.tied.proxies.commands_of i s is) (tame.commands i before.0 before.1)
+        by_meets links.commands.now i before.0.command after.0.command (small.commands i before.0 before.1) mine.command_is hers.command_is hers.in_order.1 s (together.normal.tied.proxies.commands_of i s is) tame
         track.command' (subst (λ (q : ServerState). Meets (client_made before.0.command.pass) q track.command' before.0.command after.0.command) one track.commanded)
 
   -- the end of the pipe with the meeting more
@@ -157,10 +157,13 @@ module _ (links : Links) (y z : SessionState) (small : AreSmall y) (together : A
   pipe_before taken (server.Take n ∷ es) count h = pipe_before (taken + n) es count h
   pipe_before taken (_ ∷ es) count h = pipe_before taken es count h
 
+  same_party : (i : ℕ) (p : PartyState) (is : slice_get y.clients i ≡ Some p) → (before i (slice_get_within y.clients i p is)).0 ≡ p
+  same_party i p is = let b = before i (slice_get_within y.clients i p is) in same_Some b.0 p (sym b.1 ∙ is)
+
   pub meetings_show : SeesOwn y
   meetings_show = record {
-    homes = (λ i s low. home i low s);
-    held = (λ i s low. held i low s);
-    commands = (λ i s low. command i low s);
+    homes = (λ i p s is tame. home i (slice_get_within y.clients i p is) s (ap (λ (q : PartyState). is_lawful q.stream.pass.part.events) (same_party i p is) ∙ tame));
+    held = (λ i p s is tame. held i (slice_get_within y.clients i p is) s (ap (λ (q : PartyState). is_lawful q.stream.pass.part.events) (same_party i p is) ∙ tame));
+    commands = (λ i p s is tame. command i (slice_get_within y.clients i p is) s (ap (λ (q : PartyState). is_lawful q.command.pass.part.events) (same_party i p is) ∙ tame));
     pipe = pipe_before 0 y.fast.pipe.pass.part.events (length y.normal.pipe.pass.part.events) (subst (SeesTaken 0) (ap (λ (f : MixerState). f.pipe.pass.part.events) m.ends.fast) m.ends.histories.fronts);
   }

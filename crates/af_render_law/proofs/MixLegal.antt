@@ -7,10 +7,10 @@ use Rattle.af_base.specs.declared.state.FastState.{FastState}
 use Rattle.af_base.specs.Log.{entry_slot, slots}
 use Rattle.af_fast.specs.Mixer.{MixerState, adopted_states}
 use Rattle.af_fast.specs.Mixing.{AddsCycle}
-use Rattle.af_fast.specs.Slots.{found, listed_at}
+use Rattle.af_fast.specs.Slots.{found}
 use Rattle.af_model.specs.Cycles.{Found, LegalCycle, Listed, Mixes, SubmixSlot, TrackSlot, cold_done, cycle_events, cycle_of, has_exit, is_mixed, last_used, state_of}
 use Rattle.af_model.specs.Journals.{EntrySeen}
-use Rattle.af_model.specs.StateQueue.{carries}
+use Rattle.af_model.specs.StateQueue.{carries, slot_of}
 use Rattle.af_normal.specs.State.{NormalState}
 use Rattle.af_runs.specs.Blocks.{Marks, listed as told_list}
 use Rattle.af_runs.specs.Fronts.{lawful_front}
@@ -18,41 +18,44 @@ use Rattle.af_runs.specs.Rounds.{LegalEntry, found_for}
 use Rattle.af_runs.specs.Runs.{Run, frames_before, state_for, stream_of, with_mix}
 use Rattle.af_runs.specs.Sessions.{Session, cycle_frames}
 use Rattle.af_runs.specs.Told.{state_at}
-use Rattle.af_stateq.specs.Mutates.{at}
 use Rattle.af_render_law.specs.Tells.{TellsFast, TellsShared}
 
--- What the run tells of the states that the entry finds, and of the servers of its slots
-pub record FindsTold (s : Session) (run : Run) (f g : MixerState) (e : EntrySeen) : Type 0 where
+-- What the run tells of the states that the entry finds, and of the servers of its slots: on a block that was poked the list after the look is the one told, with what the look did by the front that it really saw
+pub record FindsTold (s : Session) (marks : Marks) (run : Run) (f : MixerState) (e : EntrySeen) : Type 0 where
   pub few : length (adopted_states f) ≤ length run.states
   pub same : state_of run.states e.entry.state ≡ state_of (adopted_states f) e.entry.state
   pub cold : cold_done run.states run.entries ≡ cold_done (adopted_states f) run.entries
-  pub servers : (i : ℕ) → i < slots → carries (state_for s run e.entry.state) i ≡ true → listed_at (at f.observer.items i) ≡ told_list (stream_of run (state_for s run e.entry.state) i)
-  pub lawful : is_mixed e.entry.cycle ≡ true → (i : ℕ) → i < slots → carries (state_for s run e.entry.state) i ≡ true
+  pub servers : ℕ → Listed
+  pub tracks : is_mixed e.entry.cycle ≡ true → (i : ℕ) → i < slots → carries (state_for s run e.entry.state) i ≡ true → TrackSlot (cycle_frames s) (told_list (stream_of run (state_for s run e.entry.state) i)) (servers i).events (entry_slot e.entry i)
+  pub lawful : is_mixed e.entry.cycle ≡ true → (i : ℕ) → i < slots → carries (state_for s run e.entry.state) i ≡ true → marks.streams (slot_of (state_for s run e.entry.state) i).track ≡ true
       → (let k = told_list (stream_of run (state_for s run e.entry.state) i) in let slot = entry_slot e.entry i in
-      (listed_at (at g.observer.items i)).events ≡ k.events ++ cycle_events (cycle_frames s) k slot (lawful_front (cycle_frames s) k slot))
+      (servers i).events ≡ k.events ++ cycle_events (cycle_frames s) k slot (lawful_front (cycle_frames s) k slot))
 
-module _ (s : Session) (marks : Marks) (run : Run) (n : NormalState) (f g : MixerState) (e : EntrySeen) (shared : TellsShared s run n f) (fast : TellsFast s run f) (adds : AddsCycle f g e.entry) (finds : FindsTold s run f g e) where
+module _ (s : Session) (marks : Marks) (run : Run) (n : NormalState) (f g : MixerState) (e : EntrySeen) (shared : TellsShared s run n f) (fast : TellsFast s run f) (adds : AddsCycle f g e.entry) (finds : FindsTold s marks run f e) where
   abbrev x : FastState
   x = state_for s run e.entry.state
 
   abbrev before : Found
   before = found f.observer f.pipe
 
-  abbrev after : Found
-  after = found g.observer g.pipe
+  abbrev really : Found
+  really = found g.observer g.pipe
 
-  abbrev legal : LegalCycle f.frames (adopted_states f) f.log.entries (length f.log.frames) before after e.entry
+  abbrev after : Found
+  after = record { pipe = really.pipe; servers = finds.servers }
+
+  abbrev legal : LegalCycle f.frames (adopted_states f) f.log.entries (length f.log.frames) before really e.entry
   legal = adds.legal
 
   state_is : (y : FastState) → state_of run.states e.entry.state ≡ Some y → x ≡ y
   state_is y is = ap (λ (o : Option FastState). unwrap_or o (state_at (cycle_frames s) run.states run.current)) is
 
   -- the slots of a mix
-  mixes_x : Mixes (cycle_frames s) x (frames_before run) before after e.entry → Mixes (cycle_frames s) x (frames_before run) (found_for run x) after e.entry
-  mixes_x m = record {
+  mixes_x : is_mixed e.entry.cycle ≡ true → Mixes (cycle_frames s) x (frames_before run) before really e.entry → Mixes (cycle_frames s) x (frames_before run) (found_for run x) after e.entry
+  mixes_x mixed m = record {
     whole = m.whole;
     submix = subst (λ (es : List ServerEvent). SubmixSlot (cycle_frames s) es after.pipe (entry_slot e.entry 0)) shared.takes m.submix;
-    tracks = λ i low on. subst (λ (l : Listed). TrackSlot (cycle_frames s) l (after.servers i).events (entry_slot e.entry i)) (finds.servers i low on) (m.tracks i low on);
+    tracks = finds.tracks mixed;
     others = m.others;
     placed = m.placed;
     scales = m.scales;
@@ -62,10 +65,10 @@ module _ (s : Session) (marks : Marks) (run : Run) (n : NormalState) (f g : Mixe
   mixes_told : (y : FastState) → state_of run.states e.entry.state ≡ Some y → is_mixed e.entry.cycle ≡ true → Mixes (cycle_frames s) y (frames_before run) (found_for run x) after e.entry
   mixes_told y is mixed =
       let here : x ≡ y = state_is y is in
-      let old : Mixes f.frames y (length f.log.frames) before after e.entry = legal.mixes y (sym finds.same ∙ is) mixed in
-      let now : Mixes (cycle_frames s) x (frames_before run) before after e.entry =
-      subst (λ (z : ℕ × FastState × ℕ). Mixes z.0 z.1 z.2 before after e.entry) (λ j. (fast.frames j, sym here j, fast.logged j)) old in
-      subst (λ (z : FastState). Mixes (cycle_frames s) z (frames_before run) (found_for run x) after e.entry) here (mixes_x now)
+      let old : Mixes f.frames y (length f.log.frames) before really e.entry = legal.mixes y (sym finds.same ∙ is) mixed in
+      let now : Mixes (cycle_frames s) x (frames_before run) before really e.entry =
+      subst (λ (z : ℕ × FastState × ℕ). Mixes z.0 z.1 z.2 before really e.entry) (λ j. (fast.frames j, sym here j, fast.logged j)) old in
+      subst (λ (z : FastState). Mixes (cycle_frames s) z (frames_before run) (found_for run x) after e.entry) here (mixes_x mixed now)
 
   -- the entry by itself
   pub cycle_legal : LegalCycle (cycle_frames s) run.states run.entries (frames_before run) (found_for run x) after e.entry
@@ -83,4 +86,4 @@ module _ (s : Session) (marks : Marks) (run : Run) (n : NormalState) (f g : Mixe
 
   -- and with the pipe and the lawful blocks
   pub entry_legal : TellsShared s (with_mix s e run) n g → LegalEntry s marks run e
-  entry_legal mixed = record { after = after; cycle = cycle_legal; pipe = mixed.takes; lawful = λ is i low on lawful. finds.lawful is i low on }
+  entry_legal mixed = record { after = after; cycle = cycle_legal; pipe = mixed.takes; lawful = finds.lawful }

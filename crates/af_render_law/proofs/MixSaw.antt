@@ -1,9 +1,8 @@
--- A mix did what the run tells of its entry, where what the meetings after it show is known.
+-- A mix by the state that the mixer polled, and the frames that each slot took of it, as the run tells of its entry.
 use Rattle.std.proofs.Common.{◌≡◌, ◌≢◌, ⊎_elim, ℕ, ◌<◌, true, true≢false, length, Some, sym, ap, ◌∙◌, arith}
 use Rattle.std.proofs.lemmas.Bool.{cases_eq}
 use Rattle.af_base.specs.declared.log.CycleEntry.{CycleEntry}
 use Rattle.af_base.specs.declared.state.FastState.{FastState}
-use Rattle.af_base.specs.Log.{entry_slot}
 use Rattle.af_fast.specs.Mixer.{MixerState, adopted_states}
 use Rattle.af_fast.specs.Mixing.{AddsCycle}
 use Rattle.af_fast.specs.Slots.{found}
@@ -13,11 +12,8 @@ use Rattle.af_session.specs.Leads.{LeadAway}
 use Rattle.af_session.specs.Together.{AreTogether, SessionState}
 use Rattle.af_stateq.specs.Shelved.{no_state}
 use Rattle.af_render_law.specs.Laws.{entry_told}
-use Rattle.af_render_law.specs.Own.{SeesOwn}
 use Rattle.af_render_law.specs.Tells.{SawTold}
 use Rattle.af_render_law.proofs.EntryFrames.{frames_told}
-use Rattle.af_render_law.proofs.MixLooks.{looked_so}
-use Rattle.af_render_law.proofs.MixSlots.{carried_by, own_after, shape_same}
 
 module _ (links : Links) (x : SessionState) (g : MixerState) (together : AreTogether links x) (after : AreTogether links (record x { fast = g })) (lead : LeadAway x.fast.observer.past.state x.normal.tracks) (entry : CycleEntry) (adds : AddsCycle x.fast g entry) (mixed : is_mixed entry.cycle ≡ true) where
   abbrev state : FastState
@@ -36,12 +32,8 @@ module _ (links : Links) (x : SessionState) (g : MixerState) (together : AreToge
   pub mix_is : Mixes x.fast.frames state (length x.fast.log.frames) (found x.fast.observer x.fast.pipe) (found g.observer g.pipe) entry
   mix_is = adds.legal.mixes state (ap (λ (k : ℕ). state_of (adopted_states x.fast) k) adds.state ∙ together.fast.0.observer.told.current no_state ∙ current_is) mixed
 
-  -- each slot took the frames told, and did what is told
-  pub saw_told : SeesOwn (record x { fast = g }) → SawTold x.fast g (entry_told g.log.frames (length x.fast.log.frames) entry)
-  saw_told own = record {
+  -- each slot took the frames told
+  pub saw_told : SawTold x.fast g (entry_told g.log.frames (length x.fast.log.frames) entry)
+  saw_told = record {
     frames = (λ k low. frames_told g.log.frames entry (length x.fast.log.frames) k low (mix_is.placed k low));
-    looks = (λ k one.
-        let here = carried_by links x g together after lead adds.takes.observer k one.old one.was in
-        (looked_so x.fast.frames one.old one.new (entry_slot entry k) (shape_same links x g together after lead adds.takes.observer k one.old one.new here.0 one.was one.is) one.plays
-        (own_after links x g together after lead adds.takes.observer own k one.new here.0 here.1 one.is)).0);
   }

@@ -16,9 +16,8 @@ use Rattle.af_server.specs.Order.{IsInOrder, ServerState}
 use Rattle.af_stateq.specs.Mutates.{at}
 use Rattle.af_stateq.specs.Observes.{Observes}
 use Rattle.af_session.specs.Leads.{LeadAway}
-use Rattle.af_session.specs.Met.{item_at, slot_for}
+use Rattle.af_session.specs.Met.{slot_for}
 use Rattle.af_session.specs.Together.{AreTogether, SessionState}
-use Rattle.af_render_law.specs.Own.{SawOwn, SeesOwn}
 use Rattle.af_render_law.proofs.SlotHeld.{found_carries, found_track, none_carries}
 
 abbrev Watching : Type 0
@@ -61,10 +60,7 @@ module _ (links : Links) (x : SessionState) (g : MixerState) (together : AreToge
       (λ (high : slots ≤ k). absurd (none-some p (sym (get_or_past x.fast.observer.items k None (let w = together.fast.0.observer.whole in omega (arith, w, high))) ∙ item)))
       (cases_lt k slots)
 
-  -- the proxy of a slot before and after the mix
-  pub held_before : (k : ℕ) → k < slots → carries state k ≡ true → (p : ServerState) × (at x.fast.observer.items k ≡ Some p)
-  held_before k low carried = one_there (at x.fast.observer.items k) (together.fast.0.observer.held k low ∙ carried)
-
+  -- the proxy of a slot after the mix
   pub held_after : (k : ℕ) → k < slots → carries state k ≡ true → (p : ServerState) × (at g.observer.items k ≡ Some p)
   held_after k low carried = one_there (at g.observer.items k) (after.fast.0.observer.held k low ∙ ap (λ (z : FastState). carries z k) state_same ∙ carried)
 
@@ -81,9 +77,3 @@ module _ (links : Links) (x : SessionState) (g : MixerState) (together : AreToge
 
   pub shape_same : (k : ℕ) (p q : ServerState) → k < slots → at x.fast.observer.items k ≡ Some p → at g.observer.items k ≡ Some q → q.pass.part.shape ≡ p.pass.part.shape
   shape_same k p q low was is = ap (λ (m : Made). m.shape) (same_Some (server_made q.pass) (server_made p.pass) (sym (made_after k q low is) ∙ made_before k p low was))
-
-  -- each front that it saw is its own
-  pub own_after : SeesOwn (record x { fast = g }) → (k : ℕ) (p : ServerState) → k < slots → carries state k ≡ true → at g.observer.items k ≡ Some p → SawOwn p
-  own_after own k p low carried item =
-      own.held (slot_of state k).track p (let t = inside k low carried in let c = together.count in omega (arith, t, c))
-      (ap (λ (z : FastState). item_at g.observer.items (slot_for z (slot_of state k).track)) state_same ∙ ap (item_at g.observer.items) (found_slot k low carried) ∙ item)

@@ -1,4 +1,4 @@
--- What a mix leaves of a stream is told by the run's mix, where the fronts that its looks saw are those that the run tells.
+-- What a mix leaves of a stream is told by the run's mix: on a block that wasn't poked each front that its looks saw is the server's own, and on another one each front by which it answers so leaves the same.
 use Rattle.std.proofs.Common.{◌≡◌, ℕ, zero, suc, ◌+◌, ◌<◌, ◌==◌, ◌&&◌, not, nat_lt, Bool, true, false, true≢false, if◌then◌else◌, find, fold, is_some, map, List, [], ◌∷◌, ◌++◌, length, Option, Some, None, refl, sym, ap, ◌∙◌, subst, arith, append_assoc, append-nil}
 use Rattle.std.specs.List.{range_with_len}
 use Rattle.std.proofs.lemmas.Option.{none-some}
@@ -15,7 +15,7 @@ use Rattle.af_life.specs.Kept.{is_home, slot_number, track_at}
 use Rattle.af_link.specs.declared.links.Links.{Links}
 use Rattle.af_link.specs.declared.names.StreamNames.{StreamNames}
 use Rattle.af_model.specs.Cycles.{IsSeen, cycle_events, is_mixed}
-use Rattle.af_model.specs.History.{Moment, by_server, hand_of, server_of}
+use Rattle.af_model.specs.History.{Moment, by_server, hand_of, is_lawful, server_of}
 use Rattle.af_model.specs.Journals.{EntrySeen}
 use Rattle.af_model.specs.StateQueue.{carries, slot_of, observed}
 use Rattle.af_normal.specs.Mixing.{stream_at}
@@ -32,9 +32,14 @@ use Rattle.af_stateq.specs.Observes.{Observes}
 use Rattle.af_session.specs.Leads.{LeadAway}
 use Rattle.af_session.specs.Met.{is_slot_of, item_at, or_else, slot_below, slot_for}
 use Rattle.af_session.specs.Together.{AreTogether, SessionState}
+use Rattle.af_render_law.specs.Alike.{TellAlike}
+use Rattle.af_render_law.specs.Own.{SawOwn}
 use Rattle.af_render_law.specs.Tells.{SawTold, TellsAway, TellsServer, TellsStream, held_slot, is_coming, is_going, items_given, mutated_by}
+use Rattle.af_render_law.proofs.KeptAlike.{cycle_told_alike}
+use Rattle.af_render_law.proofs.MixLooks.{listed_told, looked_so}
 use Rattle.af_render_law.proofs.MixSlots.{shape_same}
 use Rattle.af_render_law.proofs.SlotHeld.{found_carries, found_track, range_end}
+use Rattle.af_render_law.proofs.TameRuns.{server_client}
 use Rattle.af_render_law.proofs.TrackMeets.{none_there, there_is}
 
 abbrev Watching : Type 0
@@ -126,7 +131,7 @@ module _ (links : Links) (x : SessionState) (g : MixerState) (together : AreToge
     back = (λ off comes. h.back none (λ coming. sym (ap (λ (is : List (Option ServerState)). at is k) given_same) ∙ comes (coming_same ∙ coming)));
   }
 
-  module _ (i : ℕ) (b : BlockTold) (h : TellsStream x.normal x.fast i b) (inside : i < length x.normal.tracks) where
+  module _ (i : ℕ) (b : BlockTold) (h : TellsStream x.normal x.fast i b) (inside : i < length x.normal.tracks) (own : told_of.is_tame b ≡ true → (k : ℕ) (p : ServerState) → slot_for state i ≡ Some k → at g.observer.items k ≡ Some p → SawOwn p) where
     abbrev after_mix : ℕ → BlockTold
     after_mix k = played (cycle_frames s) e k b
 
@@ -146,18 +151,33 @@ module _ (links : Links) (x : SessionState) (g : MixerState) (together : AreToge
       old_told : TellsServer b one.old
       old_told = (h.away gone).held one.old (ap (item_at x.fast.observer.items) found ∙ one.was)
 
-      listed_is : listed one.old ≡ told_of.listed b
-      listed_is = λ j. record { shape = old_told.shape j; events = old_told.events j }
+      same_block : one.new.pass.part.shape ≡ one.old.pass.part.shape
+      same_block = shape_same links x g together after lead takes.observer k one.old one.new low one.was one.is
 
-      events_are : cycle_events x.fast.frames (listed one.old) (entry_slot e.entry k) one.plays.front ≡ cycle_events (cycle_frames s) (told_of.listed b) (entry_slot e.entry k) (front_of (cycle_frames s) (told_of.listed b) (entry_slot e.entry k))
-      events_are =
-          saw.looks k one
-          ∙ (λ j. cycle_events (frames j) (listed_is j) (entry_slot e.entry k) (front_of (frames j) (listed_is j) (entry_slot e.entry k)))
+      -- what the run tells that it did
+      abbrev does : List ServerEvent
+      does = cycle_events (cycle_frames s) (told_of.listed b) (entry_slot e.entry k) (front_of (cycle_frames s) (told_of.listed b) (entry_slot e.entry k))
+
+      grown : told_of.server_list (after_mix k) ≡ told_of.server_list b ++ does
+      grown = server_more b.told does
+
+      events_are : told_of.is_tame b ≡ true → cycle_events x.fast.frames (listed one.old) (entry_slot e.entry k) one.plays.front ≡ does
+      events_are tame =
+          (looked_so x.fast.frames one.old one.new (entry_slot e.entry k) same_block one.plays (own tame k one.new found one.is)).0
+          ∙ (λ j. cycle_events (frames j) (listed_told b one.old old_told tame j) (entry_slot e.entry k) (front_of (frames j) (listed_told b one.old old_told tame j) (entry_slot e.entry k)))
+
+      alike_now : TellAlike b.shape (one.old.pass.part.events ++ cycle_events x.fast.frames (listed one.old) (entry_slot e.entry k) one.plays.front) (told_of.server_list b ++ does)
+      alike_now = subst (λ (n : ℕ). TellAlike b.shape (one.old.pass.part.events ++ cycle_events x.fast.frames (listed one.old) (entry_slot e.entry k) one.plays.front) (told_of.server_list b ++ cycle_events n (told_of.listed b) (entry_slot e.entry k) (front_of n (told_of.listed b) (entry_slot e.entry k)))) frames
+          (cycle_told_alike x.fast.frames (listed one.old) (told_of.listed b) (entry_slot e.entry k) one.plays.front old_told.shape old_told.alike one.plays.looks)
+
+      tame_before : told_of.is_tame (after_mix k) ≡ true → told_of.is_tame b ≡ true
+      tame_before tame = sym (ap is_lawful (server_client b.told does)) ∙ tame
 
       new_told : TellsServer (after_mix k) one.new
       new_told = record {
-        shape = shape_same links x g together after lead takes.observer k one.old one.new low one.was one.is ∙ old_told.shape;
-        events = one.plays.list ∙ (λ j. old_told.events j ++ events_are j) ∙ sym (server_more b.told (cycle_events (cycle_frames s) (told_of.listed b) (entry_slot e.entry k) (front_of (cycle_frames s) (told_of.listed b) (entry_slot e.entry k))));
+        shape = same_block ∙ old_told.shape;
+        events = (λ tame. one.plays.list ∙ (λ j. old_told.events (tame_before tame) j ++ events_are (tame_before tame) j) ∙ sym grown);
+        alike = subst (λ (y : List ServerEvent × List ServerEvent). TellAlike b.shape y.0 y.1) (λ j. (sym one.plays.list j, sym grown j)) alike_now;
         taken = one.frames_are ∙ (λ j. old_told.taken j ++ map packed_word (saw.frames k low j));
       }
 
@@ -179,8 +199,9 @@ module _ (links : Links) (x : SessionState) (g : MixerState) (together : AreToge
       }
 
   -- the stream of a track after a mix
-  pub stream_mixed : (i : ℕ) (t : TrackTold) → i < length x.normal.tracks → TellsStream x.normal x.fast i t.stream → TellsStream x.normal g i (mixed_track s state e i t).stream
-  stream_mixed i t inside h = by_slot (slot_for state i) refl
+  pub stream_mixed : (i : ℕ) (t : TrackTold) → i < length x.normal.tracks → (told_of.is_tame t.stream ≡ true → (k : ℕ) (p : ServerState) → slot_for state i ≡ Some k → at g.observer.items k ≡ Some p → SawOwn p) → TellsStream x.normal x.fast i t.stream
+      → TellsStream x.normal g i (mixed_track s state e i t).stream
+  stream_mixed i t inside own h = by_slot (slot_for state i) refl
     where
       by_slot : (o : Option ℕ) → slot_for state i ≡ o → TellsStream x.normal g i (mixed_track s state e i t).stream
       by_slot None none =
@@ -188,4 +209,4 @@ module _ (links : Links) (x : SessionState) (g : MixerState) (together : AreToge
           (record { home = h.home; away = (λ gone. away_still i (slot_number (track_at x.normal.tracks i)) t.stream none (h.away gone)); hand = h.hand })
       by_slot (Some k) found =
           subst (λ (o : Option ℕ). TellsStream x.normal g i (elim o as (λ o. TrackTold) [ None ↦ t | Some k ↦ record t { stream = played (cycle_frames s) e k t.stream } ]).stream) (sym (found_so i ∙ found))
-          (stream_played i t.stream h inside k found)
+          (stream_played i t.stream h inside own k found)

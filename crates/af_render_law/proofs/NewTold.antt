@@ -28,6 +28,7 @@ use Rattle.af_session.specs.Rounds.{file_at, ops_at, ops_of}
 use Rattle.af_session.specs.Shares.{SharedState}
 use Rattle.af_session.specs.Together.{SessionState}
 use Rattle.af_render_law.specs.Tells.{Tells, TellsCommands, TellsFast, TellsNormal, TellsServer, TellsShared, TellsStream, TellsTrack, given_of, marked_poll, reports_stored}
+use Rattle.af_render_law.proofs.KeptAlike.{strict_told}
 use Rattle.af_runs.specs.KeptLists.{marked_event}
 use Rattle.af_stateq.specs.Laws.{pushed_states}
 use Rattle.af_runs.specs.Clients.{new_client}
@@ -46,11 +47,7 @@ as_first (suc n) (suc i) = as_first n i
 
 -- a server that has done nothing
 server_new : (shape : Shape) (s : ServerState) → IsNewServer shape s → TellsServer (new_block shape) s
-server_new shape s new = record {
-  shape = ap (λ (p : ServerPart). p.shape) new.part;
-  events = ap (λ (p : ServerPart). p.events) new.part;
-  taken = ap (λ (p : ServerPart). p.frames) new.part;
-}
+server_new shape s new = strict_told (new_block shape) s (ap (λ (p : ServerPart). p.shape) new.part) (ap (λ (p : ServerPart). p.events) new.part) (ap (λ (p : ServerPart). p.frames) new.part)
 
 module _ (script : ScriptData) (files : List (List Frame)) (shared : SharedState) (x : SessionState) (new : IsNewSession script shared x) where
   abbrev here : Session

@@ -20,6 +20,7 @@ use Rattle.af_normal.specs.State.{NormalState, kept_of, setup_of as mixer_setup}
 use Rattle.af_normal.specs.TurnMade.{TurnMade, answer_of}
 use Rattle.af_party.specs.Parties.{PartyState}
 use Rattle.af_judge.proofs.EachTrack.{each_at, each_long}
+use Rattle.af_runs.specs.Blocks.{Marks}
 use Rattle.af_runs.specs.Found.{LegalTurnBy}
 use Rattle.af_runs.specs.Runs.{Run, TrackTold, found_before, no_track, pipe_cells, sides_of, told_at, turned_track, with_load, with_turn}
 use Rattle.af_runs.specs.Sessions.{Session, cycle_frames, setup_of, track_count}
@@ -27,8 +28,8 @@ use Rattle.af_runs.specs.Told.{Item, is_pushed, items_of}
 use Rattle.af_session.specs.Met.{Met}
 use Rattle.af_session.specs.Together.{AreTogether, SessionState}
 use Rattle.af_render_law.specs.Between.{StandsBetween}
-use Rattle.af_render_law.specs.Chain.{all_lawful}
 use Rattle.af_render_law.specs.NormalLaws.{PartsTold, seen_of, track_turned, turned_run}
+use Rattle.af_render_law.specs.FastRound.{IsMarkedRun}
 use Rattle.af_render_law.specs.Own.{SeesOwn}
 use Rattle.af_render_law.specs.Places.{StreamsGo, StreamsStay}
 use Rattle.af_render_law.specs.QueueTurned.{MutatorGoes, QueueKnown, ReportMet}
@@ -48,7 +49,7 @@ hand_client : (told : List Moment) (es : List HandEvent) → client_of (fold (λ
 hand_client told [] = refl
 hand_client told (e ∷ es) = hand_client (by_hand e ∷ told) es
 
-module _ (s : Session) (run : Run) (x : SessionState) (n : NormalState) (z : SessionState) (links : Links) (o : Outside) (told : Tells s run x) (before : AreTogether links x) (after : AreTogether links (record x { normal = n })) (legal : IsLegal o x.normal n)
+module _ (s : Session) (run : Run) (x : SessionState) (n : NormalState) (z : SessionState) (links : Links) (o : Outside) (told : Tells s run x) (marks : Marks) (marked : IsMarkedRun marks run) (before : AreTogether links x) (after : AreTogether links (record x { normal = n })) (legal : IsLegal o x.normal n)
     (made : TurnMade (answer_of (turn_of n.entry)) x.normal n) (meets : Met (record x { normal = n }) z) (still : AreTogether links z) (stands : StandsBetween x) (own : SeesOwn (record x { normal = n }))
     (known : QueueKnown (cycle_frames s) run x.normal) (met_last : ReportMet run) (lives : x.normal.ended ≡ false) (cells : x.normal.pipe.pass.part.shape.cells ≡ pipe_cells (setup_of s)) (parts : PartsTold s run x n o legal) where
   abbrev e : Turn
@@ -71,14 +72,14 @@ module _ (s : Session) (run : Run) (x : SessionState) (n : NormalState) (z : Ses
 
   -- ## The report
 
-  report_found : e.ended ≡ false → o.report ≡ (found_before s run [] e).report
+  pub report_found : e.ended ≡ false → o.report ≡ (found_before s run [] e).report
   report_found runs =
       let k : ℕ = legal.lists.reader.0 in
       let reads : n.reader.events ≡ x.normal.reader.events ++ Load k o.report ∷ [] = legal.lists.reader.1 ∙ ap (λ (b : Bool). x.normal.reader.events ++ (if b then [] else Load k o.report ∷ [])) runs in
       loaded_found s run x n z links before told met_last meets k o.report reads e.cycle (legal.legal.goes_on runs).report
 
-  turn_is_legal : LegalTurnBy (setup_of s) all_lawful (found_before s run [] e) run.normal e
-  turn_is_legal = normal_legal links s run x n o told before after legal (λ runs. (own, report_found runs, parts.comers runs)) all_lawful
+  turn_is_legal : LegalTurnBy (setup_of s) marks (found_before s run [] e) run.normal e
+  turn_is_legal = normal_legal links s run x n o told before after legal (λ runs. (own, report_found runs, parts.comers runs)) marks marked
 
   -- ## What the run has
 
@@ -218,5 +219,5 @@ module _ (s : Session) (run : Run) (x : SessionState) (n : NormalState) (z : Ses
   pub known_now : QueueKnown (cycle_frames s) then_run n
   known_now = let q = at_queue in known_turned s run x n z links o told before legal meets known met_last lives cells q.goes q.first q.shown q.rested edits_same lists_same
 
-  pub legal_now : LegalTurnBy (setup_of s) all_lawful (found_before s run [] e) run.normal e
+  pub legal_now : LegalTurnBy (setup_of s) marks (found_before s run [] e) run.normal e
   legal_now = turn_is_legal

@@ -1,5 +1,6 @@
 -- A turn of the normal mixer that hadn't ended is a step of the run, and the queue is known again.
-use Rattle.std.proofs.Common.{◌≡◌, ℕ, ◌+◌, Bool, false, MatchBool, MatchOption, List, [], length, take, Option, None, inr, sym, ap, subst, ◌∙◌}
+use Rattle.std.proofs.Common.{◌≡◌, ℕ, ◌+◌, Bool, true, false, true≢false, MatchBool, MatchOption, List, [], length, take, Option, Some, None, inr, refl, sym, ap, subst, ◌∙◌}
+use Rattle.std.proofs.lemmas.Option.{same_Some}
 use Rattle.std.specs.Prelude.{slice_index_or}
 use Rattle.std.proofs.lemmas.Bool.{MatchBool-at_false}
 use Rattle.af_base.specs.Turn.{Turn, turn_of}
@@ -10,6 +11,7 @@ use Rattle.af_model.specs.Journals.{EntrySeen, RoundNoted, RoundSeen}
 use Rattle.af_normal.specs.LegalTurned.{IsLegal}
 use Rattle.af_normal.specs.State.{NormalState}
 use Rattle.af_normal.specs.TurnMade.{TurnMade, answer_of}
+use Rattle.af_runs.specs.Blocks.{Marks}
 use Rattle.af_runs.specs.Found.{LegalTurnBy}
 use Rattle.af_runs.specs.Rounds.{loaded, turned}
 use Rattle.af_runs.specs.Runs.{Run, found_before, with_ends}
@@ -23,29 +25,30 @@ use Rattle.af_session.specs.Rounds.{IsRound, NormalTurned, normal_round, still_r
 use Rattle.af_session.specs.Together.{AreTogether, SessionState}
 use Rattle.af_session.proofs.FollowingRounds.{ends_keep}
 use Rattle.af_stateq.specs.Ends.{Pushes}
-use Rattle.af_render_law.specs.Chain.{Holds, NormalTurnIsAStep, all_lawful}
+use Rattle.af_turn_law.specs.Acting.{FindsShutUnseen}
+use Rattle.af_render_law.proofs.Chain.{Holds, NormalTurnIsAStep}
 use Rattle.af_render_law.specs.FastRound.{AreSmall}
 use Rattle.af_render_law.specs.Laws.{StepIsTold, round_of}
 use Rattle.af_render_law.specs.NormalLaws.{PartsAreTold, PartsTold, turned_run}
-use Rattle.af_render_law.specs.Own.{AreTame, SeesOwn}
+use Rattle.af_render_law.specs.Own.{SeesOwn}
 use Rattle.af_render_law.specs.QueueTurned.{QueueKnown}
 use Rattle.af_render_law.specs.Tells.{Tells, given_of}
 use Rattle.af_render_law.proofs.AllMeet.{met_histories, tells_met}
 use Rattle.af_render_law.proofs.BetweenRounds.{leads_turned}
 use Rattle.af_render_law.proofs.ClientRound.{none_else}
 use Rattle.af_render_law.proofs.EndsTold.{ends_told}
-use Rattle.af_render_law.proofs.FastStep.{tame_by}
 use Rattle.af_render_law.proofs.KnownSteps.{Quiet, known_same, quiet_ends, quiet_met, quiet_then}
 use Rattle.af_render_law.proofs.MeetsShow.{meetings_show}
-use Rattle.af_render_law.proofs.NormalRound.{known_now, legal_now, tells_turned}
-use Rattle.af_render_law.proofs.TameRuns.{small_told, tame_told}
+use Rattle.af_render_law.proofs.NormalRound.{known_now, legal_now, report_found, tells_turned}
+use Rattle.af_render_law.proofs.ShutUnseen.{shut_unseen}
+use Rattle.af_render_law.proofs.TameRuns.{small_told}
 use Rattle.af_render_law.proofs.TurnCounts.{turns_made}
 
 -- one turn more is counted
 made_turns : (x y : NormalState) → TurnMade (answer_of (turn_of y.entry)) x y → y.turns ≡ x.turns + 1
 made_turns x y made = turns_made (answer_of (turn_of y.entry)) x y made
 
-module _ (s : Session) (parts : PartsAreTold s) (run : Run) (x : SessionState) (r : RoundNoted) (bytes : List ℕ) (y : SessionState) (entries : List EntrySeen) (left : ℕ) (holds : Holds s run x left) (runs : x.normal.ended ≡ false) (w : IsRound (given_of s) makes.Normal x r bytes y) where
+module _ (s : Session) (marks : Marks) (parts : PartsAreTold s) (run : Run) (x : SessionState) (r : RoundNoted) (bytes : List ℕ) (y : SessionState) (entries : List EntrySeen) (left : ℕ) (holds : Holds s marks run x left) (runs : x.normal.ended ≡ false) (w : IsRound (given_of s) makes.Normal x r bytes y) where
   abbrev one : (e : Turn) × (r ≡ normal_round x e) × NormalTurned x w.turned e
   one = MatchBool-at_false ((r ≡ still_round x) × (w.turned ≡ x)) ((e : Turn) × (r ≡ normal_round x e) × NormalTurned x w.turned e) runs w.turns.1
 
@@ -86,12 +89,10 @@ module _ (s : Session) (parts : PartsAreTold s) (run : Run) (x : SessionState) (
   -- the meetings show that each front was a server's own
   own : SeesOwn then_x
   own =
-      let tame = tame_by run holds.plain holds.small in
-      let calm : AreTame x = tame_told s run x holds.told tame in
-      let small : AreSmall x = small_told s run x holds.told tame in
+      let small : AreSmall x = small_told s run x holds.told holds.small in
       meetings_show links then_x w.met (record { streams = small.streams; commands = small.commands }) after w.together.met
       (leads_turned links x n w.met one.2.outside w.together.before legal holds.stands meets w.together.met).state
-      (record { streams = calm.streams; commands = calm.commands }) meets
+      meets
 
   all_parts : PartsTold s run x n one.2.outside legal
   all_parts = parts links run x n w.met one.2.outside w.together.before after w.together.met holds.told holds.stands legal made meets own holds.queue holds.report runs
@@ -101,7 +102,7 @@ module _ (s : Session) (parts : PartsAreTold s) (run : Run) (x : SessionState) (
   turns = made_turns x.normal n made
 
   told : Tells s (turned_run s run e) then_x
-  told = tells_turned s run x n w.met links one.2.outside holds.told w.together.before after legal made meets w.together.met holds.stands own holds.queue holds.report runs holds.cells all_parts turns
+  told = tells_turned s run x n w.met links one.2.outside holds.told marks holds.marked w.together.before after legal made meets w.together.met holds.stands own holds.queue holds.report runs holds.cells all_parts turns
 
   -- the run after the turn of this round
   run_is : made_alone s run makes.Normal round ≡ turned_run s run e
@@ -113,27 +114,39 @@ module _ (s : Session) (parts : PartsAreTold s) (run : Run) (x : SessionState) (
   only : OnlyCalls (λ t. ⊥) round
   only j = inr (ap (λ (q : RoundNoted). slice_index_or q.calls j []) is_round ∙ none_else (length x.clients) j)
 
-  legal_turn : IsMadeBy s all_lawful run makes.Normal round
+  legal_turn : IsMadeBy s marks run makes.Normal round
   legal_turn =
-      let is : LegalTurnBy (setup_of s) all_lawful (found_before s run [] e) run.normal e =
-      legal_now s run x n w.met links one.2.outside holds.told w.together.before after legal made meets w.together.met holds.stands own holds.queue holds.report runs holds.cells all_parts in
+      let is : LegalTurnBy (setup_of s) marks (found_before s run [] e) run.normal e =
+      legal_now s run x n w.met links one.2.outside holds.told marks holds.marked w.together.before after legal made meets w.together.met holds.stands own holds.queue holds.report runs holds.cells all_parts in
       let ended : run.normal.ended ≡ false = sym (ap (λ (k : NormalKept). k.ended) holds.told.normal.kept) ∙ runs in (
         only,
         ap (λ (q : RoundNoted). take q.cycles entries) is_round,
-        subst (λ (b : Bool). MatchBool b (round.turn ≡ None) (MatchOption round.turn ⊥ (λ e. LegalTurnBy (setup_of s) all_lawful (found_before s run [] e) run.normal e))) (sym ended)
-            (subst (λ (o : Option Turn). MatchOption o ⊥ (λ e. LegalTurnBy (setup_of s) all_lawful (found_before s run [] e) run.normal e)) (sym (ap (λ (q : RoundNoted). q.turn) is_round)) is),
+        subst (λ (b : Bool). MatchBool b (round.turn ≡ None) (MatchOption round.turn ⊥ (λ e. LegalTurnBy (setup_of s) marks (found_before s run [] e) run.normal e))) (sym ended)
+            (subst (λ (o : Option Turn). MatchOption o ⊥ (λ e. LegalTurnBy (setup_of s) marks (found_before s run [] e) run.normal e)) (sym (ap (λ (q : RoundNoted). q.turn) is_round)) is),
       )
 
-  step : StepIsTold s all_lawful run makes.Normal round y
+  -- the entry of the round tells this turn
+  unseen : (t : Turn) → round.turn ≡ Some t → FindsShutUnseen s run (found_before s run [] t) t
+  unseen t is = subst (λ (u : Turn). FindsShutUnseen s run (found_before s run [] u) u) (same_Some e t (sym (ap (λ (q : RoundNoted). q.turn) is_round) ∙ is)) (by_end e.ended refl)
+    where
+      by_end : (b : Bool) → e.ended ≡ b → FindsShutUnseen s run (found_before s run [] e) e
+      by_end true over = λ goes. absurd (true≢false (sym over ∙ goes))
+      by_end false goes =
+          shut_unseen links s run x n one.2.outside holds.told w.together.before after legal goes own
+          (report_found s run x n w.met links one.2.outside holds.told marks holds.marked w.together.before after legal made meets w.together.met holds.stands own holds.queue holds.report runs holds.cells all_parts goes)
+          (all_parts.comers goes) holds.aware holds.invalid holds.tame.is_open
+
+  step : StepIsTold s marks run makes.Normal round y
   step = record {
     made = legal_turn;
     histories = met_histories links s (made_alone s run makes.Normal round) w.turned w.met w.together.turned w.together.met told_made w.meets;
     told = subst (Tells s (with_ends (met_alone s run makes.Normal round))) (sym w.ends)
         (ends_told s (met_alone s run makes.Normal round) w.met (tells_met links s (made_alone s run makes.Normal round) w.turned w.met w.together.turned w.together.met told_made w.meets));
+    unseen = unseen;
   }
 
   known_turned : QueueKnown (cycle_frames s) (turned_run s run e) n
-  known_turned = known_now s run x n w.met links one.2.outside holds.told w.together.before after legal made meets w.together.met holds.stands own holds.queue holds.report runs holds.cells all_parts
+  known_turned = known_now s run x n w.met links one.2.outside holds.told marks holds.marked w.together.before after legal made meets w.together.met holds.stands own holds.queue holds.report runs holds.cells all_parts
 
   known : QueueKnown (cycle_frames s) (with_ends (met_alone s run makes.Normal round)) y.normal
   known =
@@ -144,5 +157,5 @@ module _ (s : Session) (parts : PartsAreTold s) (run : Run) (x : SessionState) (
       known_same (cycle_frames s) made_run (with_ends (run_of.met s made_run)) n y.normal quiet.states quiet.looks (ap (λ (q : Pushes ServerState StreamNames). q.clear) past) (ap (λ (q : Pushes ServerState StreamNames). q.before) past)
       (subst (λ (q : Run). QueueKnown (cycle_frames s) q n) (sym run_is) known_turned)
 
-pub normal_turns_step : (s : Session) → PartsAreTold s → NormalTurnIsAStep s
-normal_turns_step s parts run x r bytes y entries left holds runs w = (step s parts run x r bytes y entries left holds runs w, known s parts run x r bytes y entries left holds runs w)
+pub normal_turns_step : (s : Session) (marks : Marks) → PartsAreTold s → NormalTurnIsAStep s marks
+normal_turns_step s marks parts run x r bytes y entries left holds runs w = (step s marks parts run x r bytes y entries left holds runs w, known s marks parts run x r bytes y entries left holds runs w)

@@ -1,20 +1,17 @@
--- The journal of a render of a script without pokes is by itself a turn run, and the run that it tells tells the parties.
-use Rattle.std.proofs.Common.{◌≡◌, ℕ, ◌+◌, ◌<◌, inl, true, false, List, [], ◌∷◌, length, refl, sym, ap, subst, ◌∙◌, arith}
-use Rattle.std.proofs.lemmas.Option.{same_Some, slice_get_within}
+-- The journal of a render is by itself a turn run, and the run that it tells tells the parties.
+use Rattle.std.proofs.Common.{◌≡◌, ℕ, ◌+◌, ◌<◌, inl, true, List, [], ◌∷◌, length, refl, sym, ap, subst, ◌∙◌, arith, slice_get}
+use Rattle.std.proofs.lemmas.Option.{none-some, same_Some, slice_get_within}
 use Rattle.af_base.specs.declared.frame.Frame.{Frame}
 use Rattle.af_base.specs.Log.{Logged}
 use Rattle.af_cblk.specs.declared.view.ClientPart.{ClientPart}
 use Rattle.af_fast.specs.Mixer.{MixerState}
 use Rattle.af_model.specs.Journals.{EntrySeen, JournalData, RoundNoted, RoundSeen, entries_seen, rounds_seen}
-use Rattle.af_one_turn_run.specs.NoPokes.{HasNoPokes}
-use Rattle.af_one_turn_run.proofs.OneTurnRun.{new_plain}
-use Rattle.af_one_turn_run.proofs.PlainRuns.{AreRoundsPlain, all_lawful as lawful_marks}
 use Rattle.af_party.specs.Parties.{PartyState}
 use Rattle.af_runs.specs.Blocks.{Marks}
 use Rattle.af_runs.specs.LegalRuns.{marks_of, session_of}
 use Rattle.af_runs.specs.Runs.{new_run}
 use Rattle.af_runs.specs.Sessions.{Session}
-use Rattle.af_runs.specs.TurnRuns.{IsTurnRun, run_alone}
+use Rattle.af_runs.specs.TurnRuns.{AreTurns, IsTurnRun, run_alone}
 use Rattle.af_script.specs.Data.{ScriptData}
 use Rattle.af_script.specs.declared.op.TurnSpec.{TurnSpec}
 use Rattle.af_script.specs.declared.op.TurnSpec.TheVariants as makes
@@ -23,19 +20,25 @@ use Rattle.af_script.specs.Ops.{fast_cycles}
 use Rattle.af_session.specs.Ends.{EndsState}
 use Rattle.af_session.specs.Rendered.{HandsBack, Renders}
 use Rattle.af_session.specs.Together.{SessionState}
-use Rattle.af_turn_law.specs.ListTurns.{AreListTurns}
-use Rattle.af_turn_tame.specs.Tame.{IsListTurnRun, NoPokes}
-use Rattle.af_turn_tame.proofs.TurnsTame.{tame_journal}
-use Rattle.af_render_law.specs.Chain.{AreCounted, FastTurnIsAStep, Holds, NormalTurnIsAStep, all_lawful, entries_grown}
+use Rattle.af_turn_law.specs.ListTurns.{AreListTurns, FindShutUnseen}
+use Rattle.af_turn_law.proofs.RunBegins.{forced_run}
+use Rattle.af_normal.specs.State.{NormalState}
+use Rattle.af_judge.proofs.StatesRuns.{scales_of}
+use Rattle.af_render_law.specs.Aware.{KnowsAway}
+use Rattle.af_render_law.proofs.Chain.{AreCounted, FastTurnIsAStep, Holds, NormalTurnIsAStep, entries_grown}
 use Rattle.af_render_law.specs.Laws.{AreSteps}
+use Rattle.af_render_law.specs.Marked.{AreRoundsMarked}
 use Rattle.af_render_law.specs.Tells.{Tells}
 use Rattle.af_render_law.proofs.BetweenRounds.{stands_first}
+use Rattle.af_render_law.proofs.InvalidKept.{invalid_new}
 use Rattle.af_render_law.proofs.KnownSteps.{known_new}
 use Rattle.af_render_law.proofs.LogMore.{all_asked}
+use Rattle.af_render_law.proofs.MarkedRuns.{marks_free, new_marked}
 use Rattle.af_render_law.proofs.NewTold.{new_told}
 use Rattle.af_render_law.proofs.PipeCells.{cells_new}
 use Rattle.af_render_law.proofs.SmallRuns.{new_small}
 use Rattle.af_render_law.proofs.StepTurns.{steps_turns}
+use Rattle.af_render_law.proofs.TameRounds.{tame_new}
 use Rattle.af_render_law.proofs.TurnChain.{chain}
 
 -- the cycles that the turns of a script ask for
@@ -45,7 +48,7 @@ asked_is (makes.Client i ∷ turns) = ap (λ (n : ℕ). 0 + n) (asked_is turns)
 asked_is (makes.Normal ∷ turns) = ap (λ (n : ℕ). 0 + n) (asked_is turns)
 asked_is (makes.Fast count ∷ turns) = ap (λ (n : ℕ). count + n) (asked_is turns)
 
-module _ (script : ScriptData) (files : List (List Frame)) (form : IsScript script) (plain : HasNoPokes script) (normal_step : NormalTurnIsAStep (session_of script files)) (fast_step : FastTurnIsAStep (session_of script files)) where
+module _ (script : ScriptData) (files : List (List Frame)) (form : IsScript script) (normal_step : (marks : Marks) → NormalTurnIsAStep (session_of script files) marks) (fast_step : (marks : Marks) → FastTurnIsAStep (session_of script files) marks) where
   abbrev s : Session
   s = session_of script files
 
@@ -64,57 +67,58 @@ module _ (script : ScriptData) (files : List (List Frame)) (form : IsScript scri
         let same : one.party ≡ p = same_Some one.party p (sym one.party_at ∙ is) in
         subst (λ (q : PartyState). q.stream.released ≡ length q.stream.pass.part.frames) same (one.new.party.stream.kept.1 ∙ ap (λ (c : ClientPart). length c.frames) (sym one.new.party.stream.part))
 
-    holds_first : Holds s (new_run s) rendered.start (all_asked script.turns)
+    -- there are no hands yet
+    away_new : KnowsAway rendered.start
+    away_new i p h is has away gone = absurd (none-some h (sym (ap (λ (m : NormalState). slice_get m.hands i) rendered.new.normal.is) ∙ has))
+
+    -- the marks of the journal
+    abbrev marks : Marks
+    marks = marks_of seen
+
+    holds_first : Holds s marks (new_run s) rendered.start (all_asked script.turns)
     holds_first = record {
       told = new_told script files rendered.shared rendered.start rendered.new;
       stands = stands_first script rendered.shared rendered.start rendered.new;
-      plain = new_plain s plain;
+      marked = new_marked marks s (new_small script files rendered.shared rendered.start rendered.new);
       queue = known_new script files rendered.shared rendered.start rendered.new;
       report = inl refl;
       small = new_small script files rendered.shared rendered.start rendered.new;
       cells = cells_new script files rendered.shared rendered.start rendered.new;
       counted = counted_new;
+      aware = away_new;
+      tame = tame_new s form;
+      invalid = invalid_new s;
       room = omega (arith, asked_is script.turns, form.asked);
     }
 
     all_grown : entries_grown first t.fast.log ≡ entries_seen t.fast.log.frames t.fast.log.entries
     all_grown = ap (λ (m : MixerState). entries_grown m.log t.fast.log) rendered.new.fast
 
-    chained : AreSteps s all_lawful (new_run s) script.turns seen t × AreRoundsPlain seen × AreCounted t
-    chained = subst (λ (es : List EntrySeen). AreSteps s all_lawful (new_run s) script.turns (rounds_seen es rounds) t × AreRoundsPlain (rounds_seen es rounds) × AreCounted t) all_grown
-        (chain s normal_step fast_step (length script.tracks) script.turns (new_run s) rendered.start rounds rendered.bytes t form.turns holds_first rendered.run)
+    free : AreRoundsMarked marks rounds
+    free = marks_free marks (entries_seen t.fast.log.frames t.fast.log.entries) rounds (λ i. (λ on. on, λ on. on))
 
-    turns : AreListTurns s all_lawful (new_run s) script.turns seen × Tells s (run_alone s (new_run s) script.turns seen) t
-    turns = steps_turns s all_lawful (new_run s) script.turns seen t chained.0
+    chained : AreSteps s marks (new_run s) script.turns seen t × AreCounted t
+    chained = subst (λ (es : List EntrySeen). AreSteps s marks (new_run s) script.turns (rounds_seen es rounds) t × AreCounted t) all_grown
+        (chain s marks (scales_of s form) (normal_step marks) (fast_step marks) (length script.tracks) script.turns (new_run s) rendered.start rounds rendered.bytes t form.turns free holds_first rendered.run)
+
+    turns : AreListTurns s marks (new_run s) script.turns seen × FindShutUnseen s (new_run s) script.turns seen × Tells s (run_alone s (new_run s) script.turns seen) t
+    turns = steps_turns s marks (new_run s) script.turns seen t chained.0
 
   module _ (j : JournalData) (ends : EndsState) (back : HandsBack script files j ends) where
     rounds_are : j.rounds ≡ seen back.rounds back.parties back.rendered
     rounds_are = ap (λ (k : JournalData). k.rounds) back.journal_is
 
-    all_plain : AreRoundsPlain j.rounds
-    all_plain = subst AreRoundsPlain (sym rounds_are) (chained back.rounds back.parties back.rendered).1
-
-    marks_are : marks_of j.rounds ≡ all_lawful
-    marks_are = lawful_marks j.rounds all_plain
-
-    no_pokes : NoPokes j.rounds
-    no_pokes true track = ap (λ (m : Marks). m.commands track) marks_are
-    no_pokes false track = ap (λ (m : Marks). m.streams track) marks_are
-
-    list_run : IsListTurnRun script files j
-    list_run = record {
+    -- the journal is by itself a turn run
+    pub turn_run : IsTurnRun script files j
+    turn_run = record {
       tracks = ap (λ (k : JournalData). k.tracks) back.journal_is;
       form = back.form;
-      turns = subst (λ (q : Marks × List RoundSeen). AreListTurns s q.0 (new_run s) script.turns q.1) (λ i. (sym marks_are i, sym rounds_are i)) (turns back.rounds back.parties back.rendered).0;
+      turns = subst (λ (rounds : List RoundSeen). AreTurns s (marks_of rounds) (new_run s) script.turns rounds) (sym rounds_are) (let all = turns back.rounds back.parties back.rendered in forced_run s (marks back.rounds back.parties back.rendered) script.turns (seen back.rounds back.parties back.rendered) form all.0 all.1);
     }
-
-    -- the journal is a turn run
-    pub journal_turns : IsTurnRun script files j
-    journal_turns = tame_journal script files j form no_pokes list_run
 
     -- and the run that it tells tells the parties
     pub parties_told : Tells s (run_alone s (new_run s) script.turns j.rounds) back.parties
-    parties_told = subst (λ (rs : List RoundSeen). Tells s (run_alone s (new_run s) script.turns rs) back.parties) (sym rounds_are) (turns back.rounds back.parties back.rendered).1
+    parties_told = subst (λ (rs : List RoundSeen). Tells s (run_alone s (new_run s) script.turns rs) back.parties) (sym rounds_are) (turns back.rounds back.parties back.rendered).2
 
     pub parties_counted : AreCounted back.parties
-    parties_counted = (chained back.rounds back.parties back.rendered).2
+    parties_counted = (chained back.rounds back.parties back.rendered).1

@@ -1,5 +1,6 @@
 -- A round of a mixer that has ended, in which nothing is done.
 use Rattle.std.proofs.Common.{◌≡◌, inr, ℕ, Bool, true, false, fold, take, MatchBool, MatchOption, List, [], length, Option, None, sym, ap, ◌∙◌, subst}
+use Rattle.std.proofs.lemmas.Option.{none-some}
 use Rattle.std.specs.Prelude.{slice_index_or}
 use Rattle.std.proofs.lemmas.Bool.{MatchBool-at_true}
 use Rattle.af_base.specs.Turn.{Turn}
@@ -30,13 +31,14 @@ module _ (links : Links) (s : Session) (marks : Marks) (run : Run) (x : SessionS
   round = round_of r entries
 
   -- nothing was done before the meetings
-  step_still : (turn : TurnSpec) (w : IsRound (given_of s) turn x r bytes y) → AreTogether links w.met → w.turned ≡ x → made_alone s run turn round ≡ run → IsMadeBy s marks run turn round → StepIsTold s marks run turn round y
-  step_still turn w met same still made =
+  step_still : (turn : TurnSpec) (w : IsRound (given_of s) turn x r bytes y) → AreTogether links w.met → w.turned ≡ x → made_alone s run turn round ≡ run → IsMadeBy s marks run turn round → round.turn ≡ None → StepIsTold s marks run turn round y
+  step_still turn w met same still made none =
       let meets : Met x w.met = subst (λ (z : SessionState). Met z w.met) same w.meets in
       record {
         made = made;
         histories = subst (λ (q : Run). HaveHistories s (run_of.met s q)) (sym still) (met_histories links s run x w.met together met h meets);
         told = subst (λ (q : Run × SessionState). Tells s (with_ends (run_of.met s q.0)) q.1) (λ j. (sym still j, sym w.ends j)) (ends_told s (run_of.met s run) w.met (tells_met links s run x w.met together met h meets));
+        unseen = λ e is. absurd (none-some e (sym none ∙ is));
       }
 
   module _ (is : r ≡ still_round x) where
@@ -58,7 +60,7 @@ module _ (links : Links) (s : Session) (marks : Marks) (run : Run) (x : SessionS
         no_calls both.0,
         no_entries both.0,
         subst (λ (b : Bool). MatchBool b (round.turn ≡ None) (MatchOption round.turn ⊥ (λ e. LegalTurnBy (setup_of s) marks (found_before s run [] e) run.normal e))) (sym ended) (no_turn both.0),
-      )
+      ) (no_turn both.0)
 
   -- the fast mixer has exited
   pub fast_still : (count : ℕ) → x.fast.exited ≡ true → (w : IsRound (given_of s) (makes.Fast count) x r bytes y) → AreTogether links w.met → StepIsTold s marks run (makes.Fast count) round y
@@ -69,4 +71,4 @@ module _ (links : Links) (s : Session) (marks : Marks) (run : Run) (x : SessionS
         no_calls all.0,
         no_turn all.0,
         subst (λ (b : Bool). MatchBool b (round.entries ≡ []) (IsFastTurn count false round.entries × LegalAlone s marks run round.entries)) (sym ended) (no_entries all.0),
-      )
+      ) (no_turn all.0)

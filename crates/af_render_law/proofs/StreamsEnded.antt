@@ -25,6 +25,7 @@ use Rattle.af_runs.specs.Sessions.{Session, setup_of}
 use Rattle.af_server.specs.Order.{ServerState}
 use Rattle.af_session.specs.Together.{AreTogether, SessionState}
 use Rattle.af_session.proofs.Quiet.{IsQuiet}
+use Rattle.af_render_law.specs.Alike.{TellAlike}
 use Rattle.af_render_law.specs.Places.{StreamsStay}
 use Rattle.af_render_law.specs.Tells.{Tells, TellsCommands, TellsServer, TellsStream}
 use Rattle.af_render_law.proofs.AllMeet.{some_at}
@@ -41,11 +42,11 @@ done_home (s ∷ tracks) (suc i) done = done_home tracks i done.1
 module _ (c : Setup) (p : Outside) (m : NormalKept) (i : ℕ) (b : BlockTold) where
   stream_still : (e : Turn) → e ≡ ended_turn → SameServed b (stream_turned c p m e i b) × (told_of.hand_list (stream_turned c p m e i b) ≡ told_of.hand_list b)
   stream_still e is = subst (λ (t : Turn). SameServed b (stream_turned c p m t i b) × (told_of.hand_list (stream_turned c p m t i b) ≡ told_of.hand_list b)) (sym is)
-      (record { shape = refl; events = refl; taken = append-nil b.taken }, refl)
+      (record { shape = refl; events = refl; taken = append-nil b.taken; tame = (λ h. h) }, refl)
 
   commands_still : (e : Turn) → e ≡ ended_turn → SameServed b (commands_turned c p m e i b) × (told_of.hand_list (commands_turned c p m e i b) ≡ told_of.hand_list b)
   commands_still e is = subst (λ (t : Turn). SameServed b (commands_turned c p m t i b) × (told_of.hand_list (commands_turned c p m t i b) ≡ told_of.hand_list b)) (sym is)
-      (record { shape = refl; events = refl; taken = append-nil b.taken }, refl)
+      (record { shape = refl; events = refl; taken = append-nil b.taken; tame = (λ h. h) }, refl)
 
 module _ (links : Links) (s : Session) (run : Run) (x : SessionState) (n : NormalState) (o p : Outside) (told : Tells s run x) (before : AreTogether links x) (legal : IsLegal o x.normal n) (ends : (turn_of n.entry).ended ≡ true) (stays : StreamsStay o x.normal n (turn_of n.entry))
     (lives : x.normal.ended ≡ false) (quiet : IsQuiet (kept_of x.normal)) where
@@ -75,7 +76,8 @@ module _ (links : Links) (s : Session) (run : Run) (x : SessionState) (n : Norma
   part_told : (b : BlockTold) (r t : ServerState) → t.pass.part ≡ r.pass.part → TellsServer b r → TellsServer b t
   part_told b r t same h = record {
     shape = ap (λ (q : ServerPart). q.shape) same ∙ h.shape;
-    events = ap (λ (q : ServerPart). q.events) same ∙ h.events;
+    events = (λ tame. ap (λ (q : ServerPart). q.events) same ∙ h.events tame);
+    alike = subst (λ (q : ServerPart). TellAlike b.shape q.events (told_of.server_list b)) (sym same) h.alike;
     taken = ap (λ (q : ServerPart). q.frames) same ∙ h.taken;
   }
 
@@ -105,9 +107,10 @@ module _ (links : Links) (s : Session) (run : Run) (x : SessionState) (n : Norma
       let words : words_taken (track_in e i).looks ≡ [] = ap (λ (t : Turn). words_taken (track_in t i).looks) still in
       let same = commands_still (setup_of s) p run.normal i b e still in
       commands_same b _ t same.0 same.1 (record {
-        server = record {
+        server = let still_list : t.pass.part.events ≡ here.0.pass.part.events = adds.list ∙ ap (λ (es : List ServerEvent). here.0.pass.part.events ++ es) none ∙ append-nil here.0.pass.part.events in record {
           shape = adds.shape ∙ was.server.shape;
-          events = adds.list ∙ ap (λ (es : List ServerEvent). here.0.pass.part.events ++ es) none ∙ append-nil here.0.pass.part.events ∙ was.server.events;
+          events = (λ tame. still_list ∙ was.server.events tame);
+          alike = subst (λ (es : List ServerEvent). TellAlike b.shape es (told_of.server_list b)) (sym still_list) was.server.alike;
           taken = adds.took ∙ ap (λ (ws : List ℕ). here.0.pass.part.frames ++ ws) words ∙ append-nil here.0.pass.part.frames ∙ was.server.taken;
         };
         whole = legal.lists.whole i here.0 t here.1 is ∙ was.whole;

@@ -22,6 +22,7 @@ use Rattle.af_normal.specs.Mixing.{stream_at}
 use Rattle.af_normal.specs.State.{NormalState, kept_of, setup_of as mixer_setup}
 use Rattle.af_normal.specs.Turning.{listed_at}
 use Rattle.af_normal.proofs.OrderEdits.{away_slot}
+use Rattle.af_model.specs.History.{is_lawful}
 use Rattle.af_runs.specs.Blocks.{BlockTold, server_list}
 use Rattle.af_runs.specs.Found.{outside_of}
 use Rattle.af_runs.specs.Runs.{Run, found_before, stream_turned, told_at, turned_track}
@@ -44,7 +45,7 @@ use Rattle.af_render_law.proofs.ComingTurned.{coming_before, coming_now, going_b
 use Rattle.af_render_law.proofs.HomeBefore.{enters_before, turned_before}
 use Rattle.af_render_law.proofs.LooksTurned.{again_coming, back_coming, back_same, handed_none, waiting_none}
 use Rattle.af_render_law.proofs.TurnHomes.{turned_home}
-use Rattle.af_render_law.proofs.TurnTracks.{stream_servers, streams_list, turned_commands, turned_hand, turned_stream}
+use Rattle.af_render_law.proofs.TurnTracks.{stream_clients, stream_servers, streams_quiet, turned_commands, turned_hand, turned_stream}
 
 unpushed : (push : Push) (sent pending : List (Option ServerState)) → is_pushed push ≡ false → in_queue push sent pending ≡ pending
 unpushed (Pushed number) sent pending e = absurd (true≢false e)
@@ -151,8 +152,9 @@ module _ (links : Links) (s : Session) (run : Run) (x : SessionState) (n : Norma
     same = record {
       shape = refl;
       events = stream_servers (setup_of s) seen_by run.normal e i (was i)
-          ∙ ap (λ (es : List ServerEvent). server_list (was i) ++ es) (sym (streams_list links s run x n o told before after legal runs own report comers i low) ∙ stays.quiet) ∙ append-nil (server_list (was i));
+          ∙ ap (λ (es : List ServerEvent). server_list (was i) ++ es) (streams_quiet links s run x n o told before after legal runs own report comers i low stays.quiet) ∙ append-nil (server_list (was i));
       taken = ap (λ (ws : List ℕ). (was i).taken ++ ws) stays.takes ∙ append-nil (was i).taken;
+      tame = (λ h. sym (ap is_lawful (stream_clients (setup_of s) seen_by run.normal e i (was i))) ∙ h);
     }
 
     old : TellsAway x.normal x.fast i (slot_in n i) (was i)

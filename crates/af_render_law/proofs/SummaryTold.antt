@@ -13,7 +13,7 @@ use Rattle.af_session.specs.Ends.{EndsState, ends_from}
 use Rattle.af_session.specs.Shown.{released_by, shows, summary_told}
 use Rattle.af_session.specs.Together.{SessionState}
 use Rattle.af_tally.specs.Summaries.{summary_of}
-use Rattle.af_render_law.specs.Chain.{AreCounted}
+use Rattle.af_render_law.proofs.Chain.{AreCounted}
 use Rattle.af_render_law.specs.RenderLaws.{run_told, summary_alone}
 use Rattle.af_render_law.specs.Tells.{Tells}
 

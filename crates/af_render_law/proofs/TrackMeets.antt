@@ -229,7 +229,7 @@ module _ (s : Session) (run : Run) (links : Links) (a b : SessionState) (togethe
             side = flag_side stream_told c d g g' side hand_so met;
             told = record {
               home = none_there (meets_flag stream_told) (stream_at b.normal.streams i) gone';
-              away = (λ gone. as_now (meets_flag stream_told) (way_met a b m i (slot_number (track_at a.normal.tracks i)) stream_told (meets_flag stream_told) none (record { shape = refl; events = refl; taken = refl }) (away_from gone)));
+              away = (λ gone. as_now (meets_flag stream_told) (way_met a b m i (slot_number (track_at a.normal.tracks i)) stream_told (meets_flag stream_told) none (record { shape = refl; events = refl; taken = refl; tame = (λ h. h) }) (away_from gone)));
               hand = events_are b.normal.hands i (Some g') some' ∙ flag_hand stream_told c d g g' side hand_so met;
             };
             handed = ap is_some some' ∙ sym (handed_is (Some g) some);

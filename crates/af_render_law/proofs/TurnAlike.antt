@@ -1,5 +1,5 @@
 -- By alike outsides a turn of the normal mixer serves and edits its tracks alike.
-use Rattle.std.proofs.Common.{◌≡◌, inl, inr, ℕ, zero, suc, ◌<◌, ◌≤◌, ◌&&◌, Bool, true, false, if◌then◌else◌, is_some, List, [], ◌∷◌, length, refl, sym, ap, ◌∙◌, arith}
+use Rattle.std.proofs.Common.{◌≡◌, inl, inr, ℕ, zero, suc, ◌<◌, ◌≤◌, ◌&&◌, Bool, true, false, if◌then◌else◌, is_some, min, List, [], ◌∷◌, length, refl, sym, ap, ◌∙◌, arith}
 use Rattle.std.specs.Prelude.{slice_set}
 use Rattle.std.proofs.lemmas.List.{get_or-set_other}
 use Rattle.af_base.specs.declared.report.Report.{Report}
@@ -9,8 +9,8 @@ use Rattle.af_base.specs.Turn.{Turn, TrackSeen}
 use Rattle.af_life.specs.declared.kept.Heard.{Heard}
 use Rattle.af_life.specs.declared.kept.TrackKept.{TrackKept}
 use Rattle.af_life.specs.Edits.{after_ack, after_push, commanded_by, edited, edited_to, lend, let_go, must_enter, must_leave, mutated}
-use Rattle.af_life.specs.Heard.{heard, heard_at_home, heard_by, heard_elsewhere, known_by, learnt, noted, ready, settled_at, slot_reported}
-use Rattle.af_life.specs.Kept.{Learnt, NormalKept, Outside, Setup, is_home, new_track, plays, seen_at, slot_number, track_at}
+use Rattle.af_life.specs.Heard.{heard, heard_at_home, heard_by, heard_elsewhere, heard_with, known_by, learnt, noted, ready, settled_at, slot_reported}
+use Rattle.af_life.specs.Kept.{Learnt, NormalKept, Outside, Setup, is_home, new_track, no_counts, plays, seen_at, slot_number, track_at}
 use Rattle.af_life.specs.Obeys.{slot_for}
 use Rattle.af_life.specs.Plays.{after_takes}
 use Rattle.af_life.specs.Serves.{after_part, served, served_to}
@@ -19,11 +19,13 @@ use Rattle.af_life.specs.Turn.{after_edits, after_tracks, turn_after}
 use Rattle.af_life.specs.TurnEvents.{tracks_at}
 use Rattle.af_life.proofs.Lives.{acked_len, not_yet, served_len}
 use Rattle.af_model.specs.Cycles.{Listed}
+use Rattle.af_model.specs.ServerCalls.{ServerKept, flushes_by}
+use Rattle.af_model.specs.declared.shape.Shape.{Shape}
 use Rattle.af_model.specs.Reports.{report_at}
 use Rattle.af_judge.proofs.SoundLives.{goes_served}
 use Rattle.af_judge.proofs.SoundSlots.{at_set, sound_served}
 use Rattle.af_judge.proofs.SoundTurns.{sound_acked}
-use Rattle.af_render_law.specs.Outsides.{AreAlike, LearnAlike}
+use Rattle.af_render_law.specs.Outsides.{AreAlike, LearnAlike, ListAlike}
 
 -- ## What is heard
 
@@ -154,9 +156,15 @@ module _ (c : Setup) (k l : Learnt) (m : NormalKept) (e : Turn) (sound : IsSound
   pub ready_then_same : (i : ℕ) → i < length m.tracks → ready k i (track_at (tracks_at c k m e i) i) ≡ ready l i (track_at (tracks_at c l m e i) i)
   ready_then_same i low = ready_same k l i (track_at (tracks_at c k m e i) i) alike.report (at_home i low) ∙ ap (λ (ts : List TrackKept). ready l i (track_at ts i)) (tracks_same i)
 
+-- what a proxy knows is told by its list, but for its front
+known_alike : (s t : Listed) → ListAlike s t → known_by s ≡ known_by t
+known_alike s t h =
+    ap (λ (k : Shape). known_by (record { shape = k; events = s.events })) h.shape
+    ∙ ap (λ (k : ServerKept). heard_with (min 9223372036854775807 k.consumed) (flushes_by t.shape.wrap k.noticed) (is_some k.shut) no_counts) h.alike.kept
+
 -- alike outsides are learnt alike
 pub learn_alike : (m : NormalKept) (e : Turn) (o p : Outside) → AreAlike m e o p → LearnAlike (after_ack e.ack m).tracks (learnt o) (learnt p)
 learn_alike m e o p alike = record {
   report = alike.report;
-  own = (λ i low home. ap (λ (s : Listed). known_by s) (alike.streams i (let long : length (after_ack e.ack m).tracks ≡ length m.tracks = acked_len e.ack m in omega (arith, low, long)) home));
+  own = (λ i low home. known_alike (o.streams i) (p.streams i) (alike.streams i (let long : length (after_ack e.ack m).tracks ≡ length m.tracks = acked_len e.ack m in omega (arith, low, long)) home));
 }

@@ -7,21 +7,23 @@ use Rattle.af_base.specs.declared.log.Cycle.{Cycle}
 use Rattle.af_base.specs.declared.log.CycleEntry.{CycleEntry}
 use Rattle.af_base.specs.Turn.{Turn}
 use Rattle.af_cblk.specs.Sides.{Made}
+use Rattle.af_life.specs.declared.kept.Setting.{Setting}
+use Rattle.af_life.specs.Kept.{NormalKept}
 use Rattle.af_link.specs.declared.names.StreamNames.{StreamNames}
 use Rattle.af_normal.specs.State.{NormalState}
 use Rattle.af_model.specs.Cycles.{is_mixed}
 use Rattle.af_model.specs.Journals.{EntrySeen, RoundNoted, RoundSeen, rounds_seen}
-use Rattle.af_one_turn_run.proofs.PlainRuns.{AreRoundsPlain, IsRoundPlain, IsRunPlain, ends_plain, met_plain, one_plain}
 use Rattle.af_runs.specs.Rounds.{loaded, turned}
 use Rattle.af_runs.specs.Runs.{Run, found_before, with_ends}
 use Rattle.af_runs.specs.Runs as run_of
-use Rattle.af_runs.specs.Sessions.{Session, cycle_frames}
+use Rattle.af_runs.specs.Sessions.{Session, cycle_frames, setup_of}
 use Rattle.af_runs.specs.TurnRuns.{made_alone, met_alone}
 use Rattle.af_script.specs.declared.op.TurnSpec.{TurnSpec}
 use Rattle.af_script.specs.declared.op.TurnSpec.TheVariants as makes
 use Rattle.af_script.specs.Form.{IsTurn}
 use Rattle.af_server.specs.Order.{ServerState}
 use Rattle.af_session.specs.FastTurns.{IsFastTurn, WritesCycle}
+use Rattle.af_runs.specs.Blocks.{Marks}
 use Rattle.af_session.specs.Met.{Met}
 use Rattle.af_session.specs.Rounds.{Given, IsRound, IsTurnRun, NormalTurned, fast_round, normal_round, still_round, with_ends as with_ends_of}
 use Rattle.af_session.proofs.FollowingRounds.{ends_keep}
@@ -30,18 +32,24 @@ use Rattle.af_session.specs.Together.{SessionState}
 use Rattle.af_session.proofs.MetOpen.{clients_ended}
 use Rattle.af_session.proofs.RoundForms.{round_notes}
 use Rattle.af_client.specs.Order.{ClientState}
+use Rattle.af_render_law.specs.Aware.{KnowsAway}
 use Rattle.af_render_law.specs.Between.{StandsBetween}
-use Rattle.af_render_law.specs.Chain.{AreCounted, FastTurnIsAStep, Holds, NormalTurnIsAStep, all_lawful, entries_grown}
+use Rattle.af_render_law.proofs.Chain.{AreCounted, FastTurnIsAStep, Holds, NormalTurnIsAStep, entries_grown}
 use Rattle.af_render_law.specs.Laws.{AreSteps, StepIsTold, round_of}
+use Rattle.af_render_law.specs.Marked.{AreRoundsMarked, IsRoundMarked}
 use Rattle.af_render_law.specs.QueueTurned.{QueueKnown}
 use Rattle.af_render_law.specs.Tells.{Tells, given_of}
+use Rattle.af_render_law.proofs.AwayKnown.{away_ends, knows_away}
+use Rattle.af_render_law.proofs.InvalidKept.{invalid_round}
 use Rattle.af_render_law.proofs.KnownSteps.{Quiet, known_same, quiet_calls, quiet_cycles, quiet_ends, quiet_met, quiet_then, report_ends}
 use Rattle.af_render_law.proofs.BetweenRounds.{client_stands, normal_stands, still_stands}
 use Rattle.af_render_law.proofs.ClientRound.{client_step}
 use Rattle.af_render_law.proofs.EntriesDealt.{first_dealt, rest_dealt}
 use Rattle.af_render_law.proofs.LogMore.{GrowsBy, all_asked, asked_by, round_grows, run_grows}
+use Rattle.af_render_law.proofs.MarkedRuns.{round_marked}
 use Rattle.af_render_law.proofs.SmallRuns.{round_small}
 use Rattle.af_render_law.proofs.StillRound.{fast_still, normal_still}
+use Rattle.af_render_law.proofs.TameRounds.{round_tame}
 
 -- ## Pushes
 
@@ -70,12 +78,12 @@ fast_past (suc left) x bytes y (answer, next, front, back, w, bytes_are, goes, s
     by_mixed later true is = past_then x next y (cycle_past x next answer front w) (later is)
     by_mixed later false is = past_then x next y (cycle_past x next answer front w) (same_past next y (ap (λ (z : SessionState). z.normal) (stops is).1))
 
-module _ (s : Session) (normal_step : NormalTurnIsAStep s) (fast_step : FastTurnIsAStep s) where
+module _ (s : Session) (marks : Marks) (scales : All (λ (x : Setting). x.scale ≤ 4096) (setup_of s).settings) (normal_step : NormalTurnIsAStep s marks) (fast_step : FastTurnIsAStep s marks) where
   abbrev g : Given
   g = given_of s
 
   -- a round whose entries are those by which the log grew
-  module _ (run : Run) (x : SessionState) (r : RoundNoted) (bytes : List ℕ) (y : SessionState) (entries : List EntrySeen) (left : ℕ) (holds : Holds s run x left) where
+  module _ (run : Run) (x : SessionState) (r : RoundNoted) (bytes : List ℕ) (y : SessionState) (entries : List EntrySeen) (left : ℕ) (holds : Holds s marks run x left) where
     told : Tells s run x
     told = holds.told
 
@@ -93,10 +101,10 @@ module _ (s : Session) (normal_step : NormalTurnIsAStep s) (fast_step : FastTurn
         (ap (λ (q : Pushes ServerState StreamNames). q.before) past ∙ normal.1) holds.queue
 
     abbrev Steps : TurnSpec → Type 0
-    Steps turn = StepIsTold s all_lawful run turn (round_of r entries) y × StandsBetween y × QueueKnown (cycle_frames s) (with_ends (met_alone s run turn (round_of r entries))) y.normal
+    Steps turn = StepIsTold s marks run turn (round_of r entries) y × StandsBetween y × QueueKnown (cycle_frames s) (with_ends (met_alone s run turn (round_of r entries))) y.normal
 
     client_steps : (i : ℕ) → IsRound g (makes.Client i) x r bytes y → Steps (makes.Client i)
-    client_steps i w = (client_step w.together.links s all_lawful run i x r bytes y entries told w w.together.turned w.together.met, client_stands g x r bytes y stands i w, known_still (makes.Client i) w.turned w.met w.meets w.ends (same_past x w.turned (ap (λ (z : SessionState). z.normal) w.turns.3.leaves)) (quiet_calls i (round_of r entries) run))
+    client_steps i w = (client_step w.together.links s marks run i x r bytes y entries told w w.together.turned w.together.met, client_stands g x r bytes y stands i w, known_still (makes.Client i) w.turned w.met w.meets w.ends (same_past x w.turned (ap (λ (z : SessionState). z.normal) w.turns.3.leaves)) (quiet_calls i (round_of r entries) run))
 
     normal_steps : IsRound g makes.Normal x r bytes y → Steps makes.Normal
     normal_steps w = by_end x.normal.ended refl w.turns.1
@@ -106,7 +114,7 @@ module _ (s : Session) (normal_step : NormalTurnIsAStep s) (fast_step : FastTurn
 
         by_end : (b : Bool) → x.normal.ended ≡ b → MatchBool b ((r ≡ still_round x) × (w.turned ≡ x)) ((e : Turn) × (r ≡ normal_round x e) × NormalTurned x w.turned e) → Steps makes.Normal
         by_end true over none = (
-          normal_still w.together.links s all_lawful run x r bytes y entries told w.together.before over w w.together.met,
+          normal_still w.together.links s marks run x r bytes y entries told w.together.before over w w.together.met,
           stands_now,
           known_still makes.Normal w.turned w.met w.meets w.ends (same_past x w.turned (ap (λ (z : SessionState). z.normal) none.1))
               (subst (λ (o : Option Turn). Quiet run (loaded o (turned s (found_before s run []) o run))) (sym (ap (λ (n : RoundNoted). n.turn) none.0)) (record { states = refl; looks = (λ k. refl) })),
@@ -118,7 +126,7 @@ module _ (s : Session) (normal_step : NormalTurnIsAStep s) (fast_step : FastTurn
       where
         by_exit : (b : Bool) → x.fast.exited ≡ b → MatchBool b ((r ≡ still_round x) × (bytes ≡ []) × (w.turned ≡ x)) ((r ≡ fast_round x w.turned) × IsFastTurn count x bytes w.turned) → Steps (makes.Fast count)
         by_exit true over still = (
-          fast_still w.together.links s all_lawful run x r bytes y entries told w.together.before count over w w.together.met,
+          fast_still w.together.links s marks run x r bytes y entries told w.together.before count over w w.together.met,
           still_stands g x r bytes y stands w.turned w.met w.meets w.ends w.together.met.fast.0 (ap (λ (z : SessionState). z.normal) still.2) (ap (λ (z : SessionState). z.fast) still.2),
           known_still (makes.Fast count) w.turned w.met w.meets w.ends (same_past x w.turned (ap (λ (z : SessionState). z.normal) still.2)) (quiet_cycles s (round_of r entries).entries run),
         )
@@ -135,16 +143,10 @@ module _ (s : Session) (normal_step : NormalTurnIsAStep s) (fast_step : FastTurn
 
   -- ## What holds after it
 
-  module _ (turn : TurnSpec) (left : ℕ) (run : Run) (x : SessionState) (r : RoundNoted) (bytes : List ℕ) (y : SessionState) (entries : List EntrySeen) (holds : Holds s run x (asked_by turn + left)) (w : IsRound g turn x r bytes y)
-      (steps : StepIsTold s all_lawful run turn (round_of r entries) y × StandsBetween y × QueueKnown (cycle_frames s) (with_ends (met_alone s run turn (round_of r entries))) y.normal) where
+  module _ (turn : TurnSpec) (left : ℕ) (run : Run) (x : SessionState) (r : RoundNoted) (bytes : List ℕ) (y : SessionState) (entries : List EntrySeen) (holds : Holds s marks run x (asked_by turn + left)) (w : IsRound g turn x r bytes y) (free : IsRoundMarked marks r.calls)
+      (steps : StepIsTold s marks run turn (round_of r entries) y × StandsBetween y × QueueKnown (cycle_frames s) (with_ends (met_alone s run turn (round_of r entries))) y.normal) where
     abbrev round : RoundSeen
     round = round_of r entries
-
-    long_calls : length round.calls ≡ length run.tracks
-    long_calls = (round_notes g turn x r bytes y w).calls ∙ holds.told.count.1 ∙ sym holds.told.count.0
-
-    plain_both : IsRoundPlain round × IsRunPlain (made_alone s run turn round)
-    plain_both = one_plain s all_lawful run turn round long_calls holds.plain steps.0.made
 
     -- the pipe is of the same links
     same_cells : y.normal.pipe.pass.part.shape.cells ≡ x.normal.pipe.pass.part.shape.cells
@@ -160,7 +162,14 @@ module _ (s : Session) (normal_step : NormalTurnIsAStep s) (fast_step : FastTurn
         let was = clients_ended w.met i p (ap (λ (z : SessionState). slice_get z.clients i) (sym w.ends) ∙ is) in
         subst (λ (c : ClientState). c.released ≡ length c.pass.part.frames) (sym was.2) (w.together.met.clients i was.0 was.1).in_order.0.released_is
 
-    holds_after : Holds s (with_ends (met_alone s run turn round)) y left
+    -- the hands know what proxies that missed the meetings had done
+    aware_now : KnowsAway y
+    aware_now = subst KnowsAway (sym w.ends) (away_ends w.met (knows_away w.together.links w.turned w.met w.together.turned w.together.met w.meets))
+
+    long_tracks : length run.tracks ≤ length run.normal.tracks
+    long_tracks = (let a = holds.told.count.0 in let b = holds.told.count.1 in let c = w.together.before.count in let d = ap (λ (k : NormalKept). length k.tracks) holds.told.normal.kept in omega (arith, a, b, c, d))
+
+    holds_after : Holds s marks (with_ends (met_alone s run turn round)) y left
     holds_after = record {
       told = steps.0.told;
       stands = steps.1;
@@ -169,7 +178,10 @@ module _ (s : Session) (normal_step : NormalTurnIsAStep s) (fast_step : FastTurn
       small = round_small s run turn round holds.small;
       cells = same_cells ∙ holds.cells;
       counted = counted_now;
-      plain = ends_plain (run_of.met s (made_alone s run turn round)) (met_plain s (made_alone s run turn round) plain_both.1);
+      marked = round_marked marks s run turn round free holds.marked;
+      aware = aware_now;
+      tame = round_tame s marks scales run turn round holds.tame steps.0.made steps.0.histories steps.0.unseen;
+      invalid = invalid_round s marks run turn round steps.0.made long_tracks holds.invalid;
       room = let grows : GrowsBy (asked_by turn) x.fast.log y.fast.log = round_grows g turn x r bytes y w in
           let now : length y.fast.log.entries ≡ length (with_ends (met_alone s run turn round)).entries = ap (λ (es : List CycleEntry). length es) steps.0.told.fast.entries in
           let was : length x.fast.log.entries ≡ length run.entries = ap (λ (es : List CycleEntry). length es) holds.told.fast.entries in
@@ -179,15 +191,15 @@ module _ (s : Session) (normal_step : NormalTurnIsAStep s) (fast_step : FastTurn
 
   -- ## All rounds
 
-  pub chain : (tracks : ℕ) (turns : List TurnSpec) (run : Run) (x : SessionState) (rounds : List RoundNoted) (bytes : List ℕ) (t : SessionState) → All (IsTurn tracks) turns → Holds s run x (all_asked turns) → IsTurnRun g turns x rounds bytes t
-      → AreSteps s all_lawful run turns (rounds_seen (entries_grown x.fast.log t.fast.log) rounds) t × AreRoundsPlain (rounds_seen (entries_grown x.fast.log t.fast.log) rounds) × AreCounted t
-  chain tracks [] run x rounds bytes t forms holds (none, no_bytes, same) = (
+  pub chain : (tracks : ℕ) (turns : List TurnSpec) (run : Run) (x : SessionState) (rounds : List RoundNoted) (bytes : List ℕ) (t : SessionState) → All (IsTurn tracks) turns → AreRoundsMarked marks rounds → Holds s marks run x (all_asked turns) → IsTurnRun g turns x rounds bytes t
+      → AreSteps s marks run turns (rounds_seen (entries_grown x.fast.log t.fast.log) rounds) t × AreCounted t
+  chain tracks [] run x rounds bytes t forms free holds (none, no_bytes, same) = (
     (ap (rounds_seen (entries_grown x.fast.log t.fast.log)) none, subst (Tells s run) (sym same) holds.told),
-    subst (λ (rs : List RoundNoted). AreRoundsPlain (rounds_seen (entries_grown x.fast.log t.fast.log) rs)) (sym none) tt,
     subst AreCounted (sym same) holds.counted,
   )
-  chain tracks (turn ∷ turns) run x rounds bytes t forms holds (r, rs, front, back, y, rounds_are, bytes_are, w, rest) =
+  chain tracks (turn ∷ turns) run x rounds bytes t forms free holds (r, rs, front, back, y, rounds_are, bytes_are, w, rest) =
       let all : List EntrySeen = entries_grown x.fast.log t.fast.log in
+      let free_all : AreRoundsMarked marks (r ∷ rs) = subst (AreRoundsMarked marks) rounds_are free in
       let here : GrowsBy (asked_by turn) x.fast.log y.fast.log = round_grows g turn x r front y w in
       let later : GrowsBy (all_asked turns) y.fast.log t.fast.log = run_grows g turns y rs back t rest in
       let count : length x.fast.log.entries + r.cycles ≡ length y.fast.log.entries = (round_notes g turn x r front y w).count in
@@ -195,12 +207,11 @@ module _ (s : Session) (normal_step : NormalTurnIsAStep s) (fast_step : FastTurn
       let room : length run.entries + asked_by turn ≤ s.script.cycles = (let r = holds.room in omega arith) in
       let steps = any_steps run x r front y all (asked_by turn + all_asked turns) holds turn tracks (All-head (IsTurn tracks) turn turns forms) room grown w in
       let next : Run = with_ends (met_alone s run turn (round_of r all)) in
-      let more = chain tracks turns next y rs back t (All-tail (IsTurn tracks) turn turns forms) (holds_after turn (all_asked turns) run x r front y all holds w steps) rest in
+      let more = chain tracks turns next y rs back t (All-tail (IsTurn tracks) turn turns forms) free_all.1 (holds_after turn (all_asked turns) run x r front y all holds w free_all.0 steps) rest in
       let dealt : rounds_seen (drop r.cycles all) rs ≡ rounds_seen (entries_grown y.fast.log t.fast.log) rs =
       ap (λ (es : List EntrySeen). rounds_seen es rs) (rest_dealt (asked_by turn) (all_asked turns) x.fast.log y.fast.log t.fast.log here later r.cycles count) in
-      let both : AreSteps s all_lawful run (turn ∷ turns) (rounds_seen all (r ∷ rs)) t × AreRoundsPlain (rounds_seen all (r ∷ rs)) × AreCounted t = (
-        (y, steps.0, subst (λ (seen : List RoundSeen). AreSteps s all_lawful next turns seen t) (sym dealt) more.0),
-        ((plain_both turn (all_asked turns) run x r front y all holds w steps).0, subst AreRoundsPlain (sym dealt) more.1),
-        more.2,
+      let both : AreSteps s marks run (turn ∷ turns) (rounds_seen all (r ∷ rs)) t × AreCounted t = (
+        (y, steps.0, subst (λ (seen : List RoundSeen). AreSteps s marks next turns seen t) (sym dealt) more.0),
+        more.1,
       ) in
-      subst (λ (rounds : List RoundNoted). AreSteps s all_lawful run (turn ∷ turns) (rounds_seen all rounds) t × AreRoundsPlain (rounds_seen all rounds) × AreCounted t) (sym rounds_are) both
+      subst (λ (rounds : List RoundNoted). AreSteps s marks run (turn ∷ turns) (rounds_seen all rounds) t × AreCounted t) (sym rounds_are) both

@@ -96,7 +96,7 @@ takes_told c s f (take ∷ takes) legal own =
     (inr one.0, one.1)
 
 -- the takes of a track looked at its stream
-taken_looks : (c : Setup) (o : Outside) (i : ℕ) (takes : List TakeSeen) → AllByRecursion (LegalTake c o) takes → AllByRecursion (λ (take : TakeSeen). LooksBy (asked c) (o.streams i) take.slot (o.stream_front i)) (takes_from takes i)
+pub taken_looks : (c : Setup) (o : Outside) (i : ℕ) (takes : List TakeSeen) → AllByRecursion (LegalTake c o) takes → AllByRecursion (λ (take : TakeSeen). LooksBy (asked c) (o.streams i) take.slot (o.stream_front i)) (takes_from takes i)
 taken_looks c o i [] legal = tt
 taken_looks c o i (take ∷ takes) legal = by_track (take.track == i) refl (taken_looks c o i takes legal.1)
   where

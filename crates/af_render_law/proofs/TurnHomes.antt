@@ -17,6 +17,7 @@ use Rattle.af_server.specs.Order.{ServerState}
 use Rattle.af_stateq.specs.Mutates.{at}
 use Rattle.af_session.specs.Together.{AreTogether, SessionState}
 use Rattle.af_render_law.specs.Comers.{ComersTell}
+use Rattle.af_render_law.specs.FastRound.{IsMarkedRun}
 use Rattle.af_render_law.specs.Own.{SeesOwn}
 use Rattle.af_render_law.specs.Tells.{Tells, TellsServer}
 use Rattle.af_render_law.proofs.FoundLegal.{ended_legal}
@@ -55,10 +56,10 @@ module _ (links : Links) (s : Session) (run : Run) (x : SessionState) (n : Norma
 -- a turn that goes on, and one that has ended, is legal by what the run has found
 pub normal_legal : (links : Links) (s : Session) (run : Run) (x : SessionState) (n : NormalState) (o : Outside) → Tells s run x → AreTogether links x → AreTogether links (record x { normal = n }) → (legal : IsLegal o x.normal n)
     → ((turn_of n.entry).ended ≡ false → SeesOwn (record x { normal = n }) × (o.report ≡ (found_before s run [] (turn_of n.entry)).report) × ComersTell run x.normal (turn_of n.entry) legal.lists.back)
-    → (marks : Marks) → LegalTurnBy (setup_of s) marks (found_before s run [] (turn_of n.entry)) run.normal (turn_of n.entry)
-normal_legal links s run x n o told before after legal shown marks = by_end (turn_of n.entry).ended refl
+    → (marks : Marks) → IsMarkedRun marks run → LegalTurnBy (setup_of s) marks (found_before s run [] (turn_of n.entry)) run.normal (turn_of n.entry)
+normal_legal links s run x n o told before after legal shown marks marked = by_end (turn_of n.entry).ended refl
   where
     by_end : (b : Bool) → (turn_of n.entry).ended ≡ b → LegalTurnBy (setup_of s) marks (found_before s run [] (turn_of n.entry)) run.normal (turn_of n.entry)
     by_end true ends = subst (λ (y : Setup × NormalKept). LegalTurnBy y.0 marks (found_before s run [] (turn_of n.entry)) y.1 (turn_of n.entry)) (λ j. (told.normal.setup j, told.normal.kept j))
         (ended_legal (mixer_setup x.normal) (kept_of x.normal) (turn_of n.entry) o (found_before s run [] (turn_of n.entry)) marks ends legal.legal)
-    by_end false runs = let parts = shown runs in turn_legal links s run x n o told before after legal runs parts.0 parts.1 parts.2 marks
+    by_end false runs = let parts = shown runs in turn_legal links s run x n o told before after legal runs parts.0 parts.1 parts.2 marks marked

@@ -1,5 +1,5 @@
 -- What a turn of a session's normal mixer leaves of each track's proxies is told by the run's turn.
-use Rattle.std.proofs.Common.{◌≡◌, inl, inr, ℕ, ◌<◌, Bool, true, false, true≢false, if◌then◌else◌, fold, map, List, [], ◌∷◌, ◌++◌, length, slice_get, Some, refl, sym, ap, ◌∙◌, subst, arith, append_assoc, append-nil}
+use Rattle.std.proofs.Common.{◌≡◌, ◌⊎◌, inl, inr, ℕ, ◌<◌, Bool, true, false, true≢false, if◌then◌else◌, fold, map, List, [], ◌∷◌, ◌++◌, length, slice_get, Some, refl, sym, ap, ◌∙◌, subst, arith, append_assoc, append-nil}
 use Rattle.std.specs.List.{flat_map}
 use Rattle.std.proofs.lemmas.Option.{same_Some}
 use Rattle.af_base.specs.declared.event.HandEvent.{HandEvent}
@@ -15,25 +15,28 @@ use Rattle.af_life.specs.Turn.{turn_after}
 use Rattle.af_life.specs.TurnEvents.{command_list, going, hand_list, invalid, mix_events, stream_list, takes_from, tracks_at}
 use Rattle.af_life.proofs.Lives.{not_yet}
 use Rattle.af_link.specs.declared.links.Links.{Links}
-use Rattle.af_model.specs.Cycles.{cycle_events}
-use Rattle.af_model.specs.History.{Moment, by_hand, by_server, hand_of, server_of}
+use Rattle.af_model.specs.Cycles.{Listed, cycle_events}
+use Rattle.af_model.specs.History.{Moment, by_hand, by_server, hand_of, is_lawful, server_of}
 use Rattle.af_normal.specs.LegalTurned.{GoesOnFrom, IsLegal, hand_events}
 use Rattle.af_normal.specs.Serving.{Adds}
 use Rattle.af_normal.specs.State.{NormalState, kept_of, setup_of as mixer_setup}
-use Rattle.af_runs.specs.Blocks.{BlockTold, hand_list as told_hand, server_list}
+use Rattle.af_runs.specs.Blocks.{BlockTold, client_list, hand_list as told_hand, is_tame, listed, server_list}
 use Rattle.af_runs.specs.Found.{TurnFound, outside_of}
 use Rattle.af_runs.specs.Runs.{Run, commands_turned, found_before, stream_turned, told_at}
 use Rattle.af_runs.specs.Sessions.{Session, setup_of}
 use Rattle.af_server.specs.Order.{ServerState}
+use Rattle.af_judge.proofs.BlocksTold.{hand-client, server-client}
 use Rattle.af_session.specs.Together.{AreTogether, SessionState}
 use Rattle.af_render_law.specs.Comers.{ComersTell}
-use Rattle.af_render_law.specs.Outsides.{AreAlike}
+use Rattle.af_render_law.specs.Alike.{TellAlike}
+use Rattle.af_render_law.specs.Outsides.{AreAlike, IsFound, SameFront}
 use Rattle.af_render_law.specs.Own.{SeesOwn}
 use Rattle.af_render_law.specs.Tells.{Tells, TellsCommands, TellsServer}
 use Rattle.af_render_law.proofs.ClientTold.{SameServed}
-use Rattle.af_render_law.proofs.FoundLegal.{found_alike}
+use Rattle.af_render_law.proofs.FoundLegal.{found_alike, looks_same_fronts, taken_same}
 use Rattle.af_render_law.proofs.LegalAlike.{command_list_same, stream_list_same}
-use Rattle.af_render_law.proofs.NormalFound.{client_at, command_at, is_found, stream_found}
+use Rattle.af_render_law.proofs.ListsAlike.{command_list_alike, nothing_taken, stream_list_alike}
+use Rattle.af_render_law.proofs.NormalFound.{client_at, command_at, is_found}
 use Rattle.af_render_law.proofs.TakenHome.{taken_home}
 use Rattle.af_render_law.proofs.TurnAlike.{learn_alike, turn_same}
 
@@ -65,6 +68,10 @@ module _ (c : Setup) (p : Outside) (m : NormalKept) (e : Turn) (i : ℕ) (b : Bl
   stream_servers = server_more (fold (λ (sofar : List Moment) (one : Moment). one ∷ sofar) b.told (map by_hand (hand_list e i))) (stream_list c p e (tracks_at c (learnt p) m e i) i)
       ∙ ap (λ (es : List ServerEvent). es ++ stream_list c p e (tracks_at c (learnt p) m e i) i) (server_still b.told (hand_list e i))
 
+  -- the client did nothing
+  pub stream_clients : client_list (stream_turned c p m e i b) ≡ client_list b
+  stream_clients = server-client (fold (λ (sofar : List Moment) (one : Moment). one ∷ sofar) b.told (map by_hand (hand_list e i))) (stream_list c p e (tracks_at c (learnt p) m e i) i) ∙ hand-client b.told (hand_list e i)
+
   stream_hands : told_hand (stream_turned c p m e i b) ≡ told_hand b ++ hand_list e i
   stream_hands = hand_still (fold (λ (sofar : List Moment) (one : Moment). one ∷ sofar) b.told (map by_hand (hand_list e i))) (stream_list c p e (tracks_at c (learnt p) m e i) i) ∙ hand_more b.told (hand_list e i)
 
@@ -83,8 +90,11 @@ module _ (links : Links) (s : Session) (run : Run) (x : SessionState) (n : Norma
   abbrev seen_by : Setup → Outside
   seen_by c = outside_of c f e
 
+  found_now : IsFound (mixer_setup x.normal) m e o f
+  found_now = is_found links s run x n o told before after legal runs own report comers
+
   alike : AreAlike m e o (seen_by (mixer_setup x.normal))
-  alike = found_alike (mixer_setup x.normal) m e o f before.normal.tied.sound runs legal.legal (is_found links s run x n o told before after legal runs own report comers)
+  alike = found_alike (mixer_setup x.normal) m e o f before.normal.tied.sound runs legal.legal found_now
 
   -- ## What is kept
 
@@ -96,10 +106,16 @@ module _ (links : Links) (s : Session) (run : Run) (x : SessionState) (n : Norma
 
   -- ## The command blocks
 
-  commands_list : (i : ℕ) → i < length m.tracks → command_list (mixer_setup x.normal) o e (tracks_at (mixer_setup x.normal) (learnt o) m e i) i ≡ command_list (setup_of s) (seen_by (setup_of s)) e (tracks_at (setup_of s) (learnt (seen_by (setup_of s))) run.normal e i) i
-  commands_list i low =
-      command_list_same (mixer_setup x.normal) m e o (seen_by (mixer_setup x.normal)) before.normal.tied.sound alike i low
-      ∙ (λ j. command_list (told.normal.setup j) (seen_by (told.normal.setup j)) e (tracks_at (told.normal.setup j) (learnt (seen_by (told.normal.setup j))) (told.normal.kept j) e i) i)
+  commands_setup : (i : ℕ) → command_list (mixer_setup x.normal) (seen_by (mixer_setup x.normal)) e (tracks_at (mixer_setup x.normal) (learnt (seen_by (mixer_setup x.normal))) m e i) i ≡ command_list (setup_of s) (seen_by (setup_of s)) e (tracks_at (setup_of s) (learnt (seen_by (setup_of s))) run.normal e i) i
+  commands_setup i = λ j. command_list (told.normal.setup j) (seen_by (told.normal.setup j)) e (tracks_at (told.normal.setup j) (learnt (seen_by (told.normal.setup j))) (told.normal.kept j) e i) i
+
+  -- on a block that wasn't poked
+  commands_list : (i : ℕ) → i < length m.tracks → is_tame (told_at run i).commands ≡ true
+      → command_list (mixer_setup x.normal) o e (tracks_at (mixer_setup x.normal) (learnt o) m e i) i ≡ command_list (setup_of s) (seen_by (setup_of s)) e (tracks_at (setup_of s) (learnt (seen_by (setup_of s))) run.normal e i) i
+  commands_list i low tame =
+      command_list_same (mixer_setup x.normal) m e o (seen_by (mixer_setup x.normal)) before.normal.tied.sound alike i low (found_now.same_commands i low tame)
+      (looks_same_fronts (mixer_setup x.normal) m e o f before.normal.tied.sound runs legal.legal found_now i low tame)
+      ∙ commands_setup i
 
   pub turned_commands : (i : ℕ) (t : ServerState) → i < length m.tracks → slice_get n.commands i ≡ Some t → TellsCommands (commands_turned (setup_of s) (seen_by (setup_of s)) run.normal e i (told_at run i).commands) t
   turned_commands i t low is =
@@ -115,7 +131,14 @@ module _ (links : Links) (s : Session) (run : Run) (x : SessionState) (n : Norma
       let words : words_taken (track_in e i).looks ≡ going e (words_taken (track_in e i).looks) = sym (ap (λ (b : Bool). if b then [] else words_taken (track_in e i).looks) runs) in record {
         server = record {
           shape = adds.shape ∙ was.server.shape;
-          events = adds.list ∙ (λ j. was.server.events j ++ commands_list i low j) ∙ sym (server_more b.told es);
+          events = (λ lawful. let tame : is_tame b ≡ true = sym (ap is_lawful (server-client b.told es)) ∙ lawful in
+              adds.list ∙ (λ j. was.server.events tame j ++ commands_list i low tame j) ∙ sym (server_more b.told es));
+          alike = subst (λ (z : List ServerEvent × List ServerEvent). TellAlike b.shape z.0 z.1)
+              (λ j. (
+                sym (adds.list ∙ ap (λ (l : Listed). l.events ++ command_list (mixer_setup x.normal) o e (tracks_at (mixer_setup x.normal) (learnt o) m e i) i) (sym (legal.commands i here.0 here.1))) j,
+                (ap (λ (zs : List ServerEvent). server_list b ++ zs) (commands_setup i) ∙ sym (server_more b.told es)) j,
+              ))
+              (command_list_alike (mixer_setup x.normal) m e o (seen_by (mixer_setup x.normal)) before.normal.tied.sound alike legal.legal runs i low refl);
           taken = adds.took ∙ (λ j. was.server.taken j ++ words j);
         };
         whole = legal.lists.whole i here.0 t here.1 is ∙ was.whole;
@@ -124,19 +147,34 @@ module _ (links : Links) (s : Session) (run : Run) (x : SessionState) (n : Norma
 
   -- ## The streams
 
-  pub streams_list : (i : ℕ) → i < length m.tracks → stream_list (mixer_setup x.normal) o e (tracks_at (mixer_setup x.normal) (learnt o) m e i) i ≡ stream_list (setup_of s) (seen_by (setup_of s)) e (tracks_at (setup_of s) (learnt (seen_by (setup_of s))) run.normal e i) i
-  streams_list i low =
-      stream_list_same (mixer_setup x.normal) m e o (seen_by (mixer_setup x.normal)) before.normal.tied.sound alike legal.legal i low
-      ∙ (λ j. stream_list (told.normal.setup j) (seen_by (told.normal.setup j)) e (tracks_at (told.normal.setup j) (learnt (seen_by (told.normal.setup j))) (told.normal.kept j) e i) i)
+  streams_setup : (i : ℕ) → stream_list (mixer_setup x.normal) (seen_by (mixer_setup x.normal)) e (tracks_at (mixer_setup x.normal) (learnt (seen_by (mixer_setup x.normal))) m e i) i ≡ stream_list (setup_of s) (seen_by (setup_of s)) e (tracks_at (setup_of s) (learnt (seen_by (setup_of s))) run.normal e i) i
+  streams_setup i = λ j. stream_list (told.normal.setup j) (seen_by (told.normal.setup j)) e (tracks_at (told.normal.setup j) (learnt (seen_by (told.normal.setup j))) (told.normal.kept j) e i) i
+
+  -- of a stream from which nothing was taken, or whose list and front are the same
+  streams_list : (i : ℕ) → i < length m.tracks → (takes_from e.mixes i ≡ []) ⊎ ((o.streams i ≡ listed (f.streams i)) × SameFront (o.streams i) (o.stream_front i) ((seen_by (mixer_setup x.normal)).stream_front i))
+      → stream_list (mixer_setup x.normal) o e (tracks_at (mixer_setup x.normal) (learnt o) m e i) i ≡ stream_list (setup_of s) (seen_by (setup_of s)) e (tracks_at (setup_of s) (learnt (seen_by (setup_of s))) run.normal e i) i
+  streams_list i low taken = stream_list_same (mixer_setup x.normal) m e o (seen_by (mixer_setup x.normal)) before.normal.tied.sound alike i low taken ∙ streams_setup i
+
+  -- where nothing was done nothing is told
+  pub streams_quiet : (i : ℕ) → i < length m.tracks → stream_list (mixer_setup x.normal) o e (tracks_at (mixer_setup x.normal) (learnt o) m e i) i ≡ []
+      → stream_list (setup_of s) (seen_by (setup_of s)) e (tracks_at (setup_of s) (learnt (seen_by (setup_of s))) run.normal e i) i ≡ []
+  streams_quiet i low none = sym (streams_list i low (inl (nothing_taken (mixer_setup x.normal) o e (tracks_at (mixer_setup x.normal) (learnt o) m e i) i runs none))) ∙ none
 
   -- a proxy that was home in the turn, and took the words of its takes, whether it stays or is lent
   pub turned_stream : (i : ℕ) (t : ServerState) → i < length m.tracks → is_home (track_at (after_ack e.ack m).tracks i).holder ≡ true → GoesOnFrom (o.streams i) (stream_list (mixer_setup x.normal) o e (tracks_at (mixer_setup x.normal) (learnt o) m e i) i) t
       → t.pass.part.frames ≡ (told_at run i).stream.taken ++ stream_words e i → TellsServer (stream_turned (setup_of s) (seen_by (setup_of s)) run.normal e i (told_at run i).stream) t
   turned_stream i t low home goes took =
       let b : BlockTold = (told_at run i).stream in
-      let list = stream_found links s run x n o told before after legal runs own report comers i low home in record {
-        shape = goes.1 ∙ (λ j. (list j).shape);
-        events = goes.0 ∙ (λ j. (list j).events ++ streams_list i low j) ∙ sym (stream_servers (setup_of s) (seen_by (setup_of s)) run.normal e i b);
+      let c : Setup = mixer_setup x.normal in
+      let near = found_now.streams i low home in
+      let es : List ServerEvent = stream_list c o e (tracks_at c (learnt o) m e i) i in
+      let grown = stream_servers (setup_of s) (seen_by (setup_of s)) run.normal e i b in record {
+        shape = goes.1 ∙ near.shape;
+        events = (λ lawful. let tame : is_tame b ≡ true = sym (ap is_lawful (stream_clients (setup_of s) (seen_by (setup_of s)) run.normal e i b)) ∙ lawful in
+            goes.0 ∙ (λ j. (found_now.same_streams i low tame home j).events ++ streams_list i low (taken_same c m e o f before.normal.tied.sound runs legal.legal found_now i tame) j) ∙ sym grown);
+        alike = subst (λ (z : List ServerEvent × List ServerEvent). TellAlike b.shape z.0 z.1)
+            (λ j. (sym goes.0 j, (ap (λ (zs : List ServerEvent). server_list b ++ zs) (streams_setup i) ∙ sym grown) j))
+            (stream_list_alike c m e o (seen_by c) before.normal.tied.sound alike legal.legal runs i low near refl);
         taken = took;
       }
 
@@ -149,8 +187,9 @@ module _ (links : Links) (s : Session) (run : Run) (x : SessionState) (n : Norma
       let empty : stream_list c o e (tracks_at c (learnt o) m e i) i ≡ [] =
       (λ j. if runs j then [] else ((if gone j then invalid (learnt o) (track_in e i) (tracks_at c (learnt o) m e i) i else []) ++ mixes untaken j)) in record {
         shape = refl;
-        events = stream_servers (setup_of s) (seen_by (setup_of s)) run.normal e i b ∙ ap (λ (es : List ServerEvent). server_list b ++ es) (sym (streams_list i low) ∙ empty) ∙ append-nil (server_list b);
+        events = stream_servers (setup_of s) (seen_by (setup_of s)) run.normal e i b ∙ ap (λ (es : List ServerEvent). server_list b ++ es) (streams_quiet i low empty) ∙ append-nil (server_list b);
         taken = ap (λ (ws : List ℕ). b.taken ++ ws) words ∙ append-nil b.taken;
+        tame = (λ h. sym (ap is_lawful (stream_clients (setup_of s) (seen_by (setup_of s)) run.normal e i b)) ∙ h);
       }
     where
       untaken : takes_from e.mixes i ≡ []

@@ -18,7 +18,7 @@ pub record AreSmall (y : SessionState) : Type 0 where
   pub streams : (i : ℕ) (p : PartyState) → slice_get y.clients i ≡ Some p → p.stream.pass.part.shape.frames ≤ 65536
   pub commands : (i : ℕ) (p : PartyState) → slice_get y.clients i ≡ Some p → p.command.pass.part.shape.frames ≤ 65536
 
--- ## Runs without pokes
+-- ## Runs
 
 -- a track whose blocks have no more frames than a block may have
 abbrev pub IsTrackSmall : TrackTold → Type 0
@@ -27,14 +27,14 @@ IsTrackSmall t = (t.stream.shape.frames ≤ 65536) × (t.commands.shape.frames �
 abbrev pub IsSmallRun : Run → Type 0
 IsSmallRun run = (n : ℕ) → n < length run.tracks → IsTrackSmall (told_at run n)
 
--- a track whose blocks are so small, and were not poked
-pub record IsTrackTame (t : TrackTold) : Type 0 where
-  pub stream : is_tame t.stream ≡ true
-  pub commands : is_tame t.commands ≡ true
+-- a track whose blocks are so small, and weren't poked so far where the marks call them lawful in the whole journal
+pub record IsTrackMarked (marks : Marks) (n : ℕ) (t : TrackTold) : Type 0 where
+  pub stream : marks.streams n ≡ true → is_tame t.stream ≡ true
+  pub commands : marks.commands n ≡ true → is_tame t.commands ≡ true
   pub few : IsTrackSmall t
 
-abbrev pub IsTameRun : Run → Type 0
-IsTameRun run = (n : ℕ) → n < length run.tracks → IsTrackTame (told_at run n)
+abbrev pub IsMarkedRun : Marks → Run → Type 0
+IsMarkedRun marks run = (n : ℕ) → n < length run.tracks → IsTrackMarked marks n (told_at run n)
 
 -- ## A round of the fast mixer
 

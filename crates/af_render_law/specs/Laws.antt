@@ -1,7 +1,8 @@
 -- What the laws say.
-use Rattle.std.specs.Prelude.{◌≡◌, ℕ, drop, take, List, [], ◌∷◌}
+use Rattle.std.specs.Prelude.{◌≡◌, ℕ, drop, take, List, [], ◌∷◌, Some}
 use Rattle.af_base.specs.declared.frame.Frame.{Frame}
 use Rattle.af_base.specs.declared.log.CycleEntry.{CycleEntry}
+use Rattle.af_base.specs.Turn.{Turn}
 use Rattle.af_script.specs.declared.op.TurnSpec.{TurnSpec}
 use Rattle.af_fast.specs.Mixer.{MixerState}
 use Rattle.af_model.specs.StateQueue.{HasHistory}
@@ -11,22 +12,24 @@ use Rattle.af_runs.specs.Told.{PipeTold}
 use Rattle.af_model.specs.Journals.{EntrySeen, RoundNoted, RoundSeen, taken_by}
 use Rattle.af_runs.specs.Blocks.{Marks}
 use Rattle.af_runs.specs.Rounds.{HaveHistories}
-use Rattle.af_runs.specs.Runs.{Run, with_ends}
+use Rattle.af_runs.specs.Runs.{Run, found_before, with_ends}
 use Rattle.af_runs.specs.Sessions.{Session}
 use Rattle.af_runs.specs.TurnRuns.{IsMadeBy, met_alone}
 use Rattle.af_session.specs.Leads.{InStep, LeadAway}
 use Rattle.af_session.specs.Together.{SessionState}
+use Rattle.af_turn_law.specs.Acting.{FindsShutUnseen}
 use Rattle.af_render_law.specs.Tells.{Tells}
 
 -- a round as the journal has it, where these entries are left
 abbrev pub round_of : RoundNoted → List EntrySeen → RoundSeen
 round_of r entries = record { calls = r.calls; turn = r.turn; entries = take r.cycles entries }
 
--- a turn of one party is made legally after this run, the lists have their histories after it, and the run after the round tells the session y
+-- A turn of one party is made legally after this run, the lists have their histories after it, and the run after the round tells the session y. Of a track that a turn of the normal mixer finds shut as its stream proxy comes home, the client has not seen INVALID
 pub record StepIsTold (s : Session) (marks : Marks) (run : Run) (turn : TurnSpec) (round : RoundSeen) (y : SessionState) : Type 0 where
   pub made : IsMadeBy s marks run turn round
   pub histories : HaveHistories s (met_alone s run turn round)
   pub told : Tells s (with_ends (met_alone s run turn round)) y
+  pub unseen : (e : Turn) → round.turn ≡ Some e → FindsShutUnseen s run (found_before s run [] e) e
 
 -- the rounds are such turns, one after the other, up to the session y
 abbrev pub AreSteps : Session → Marks → Run → List TurnSpec → List RoundSeen → SessionState → Type 0

@@ -1,9 +1,10 @@
+pub mod Marked
+pub mod Alike
 pub mod Tells
 pub mod Laws
 pub mod Own
 pub mod Between
 pub mod QueueTurned
-pub mod Chain
 pub mod MixLaws
 pub mod FastRound
 pub mod Places
@@ -11,3 +12,4 @@ pub mod Outsides
 pub mod Comers
 pub mod NormalLaws
 pub mod RenderLaws
+pub mod Aware

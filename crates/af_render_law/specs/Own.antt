@@ -1,5 +1,5 @@
--- What the meetings after a turn show of it: each front that a look saw is the server's own.
-use Rattle.std.specs.Prelude.{◌≡◌, ℕ, ◌<◌, true, length, slice_get, Some}
+-- What the meetings after a turn show of it: each front that a look saw at a block whose client hasn't poked is the server's own.
+use Rattle.std.specs.Prelude.{◌≡◌, ℕ, true, slice_get, Some}
 use Rattle.af_link.specs.PipeEnds.{SeesTaken}
 use Rattle.af_model.specs.History.{is_lawful}
 use Rattle.af_model.specs.ServerCalls.{server_begins}
@@ -14,14 +14,9 @@ use Rattle.af_session.specs.Together.{SessionState}
 abbrev pub SawOwn : ServerState → Type 0
 SawOwn s = AllSeeOwn s.pass.part.shape (server_begins s.pass.part.shape) s.pass.part.events
 
--- so did the stream proxies that are home, those that the observer holds, and the command proxies; and each look at the pipe saw the number of frames taken before
+-- On each block whose client hasn't poked so did the stream proxy that is home, the one that the observer holds, and the command proxy; and each look at the pipe saw the number of frames taken before
 pub record SeesOwn (y : SessionState) : Type 0 where
-  pub homes : (i : ℕ) (s : ServerState) → i < length y.clients → stream_at y.normal.streams i ≡ Some s → SawOwn s
-  pub held : (i : ℕ) (s : ServerState) → i < length y.clients → item_at y.fast.observer.items (slot_for y.fast.observer.past.state i) ≡ Some s → SawOwn s
-  pub commands : (i : ℕ) (s : ServerState) → i < length y.clients → slice_get y.normal.commands i ≡ Some s → SawOwn s
+  pub homes : (i : ℕ) (p : PartyState) (s : ServerState) → slice_get y.clients i ≡ Some p → is_lawful p.stream.pass.part.events ≡ true → stream_at y.normal.streams i ≡ Some s → SawOwn s
+  pub held : (i : ℕ) (p : PartyState) (s : ServerState) → slice_get y.clients i ≡ Some p → is_lawful p.stream.pass.part.events ≡ true → item_at y.fast.observer.items (slot_for y.fast.observer.past.state i) ≡ Some s → SawOwn s
+  pub commands : (i : ℕ) (p : PartyState) (s : ServerState) → slice_get y.clients i ≡ Some p → is_lawful p.command.pass.part.events ≡ true → slice_get y.normal.commands i ≡ Some s → SawOwn s
   pub pipe : SeesTaken 0 y.fast.pipe.pass.part.events
-
--- no client of the session poked a block so far
-pub record AreTame (y : SessionState) : Type 0 where
-  pub streams : (i : ℕ) (p : PartyState) → slice_get y.clients i ≡ Some p → is_lawful p.stream.pass.part.events ≡ true
-  pub commands : (i : ℕ) (p : PartyState) → slice_get y.clients i ≡ Some p → is_lawful p.command.pass.part.events ≡ true

@@ -2,7 +2,6 @@
 use Rattle.std.specs.Prelude.{◌≡◌, List, length, map}
 use Rattle.af_base.specs.declared.frame.Frame.{Frame}
 use Rattle.af_model.specs.Journals.{JournalData, entries_of, frames_of}
-use Rattle.af_one_turn_run.specs.NoPokes.{HasNoPokes}
 use Rattle.af_runs.specs.LegalRuns.{session_of}
 use Rattle.af_runs.specs.Runs.{Run, new_run}
 use Rattle.af_runs.specs.TurnRuns.{IsTurnRun, run_alone}
@@ -25,10 +24,10 @@ summary_alone script files j =
     let seen = entries_of j.rounds in
     summary_of (shows run.states script.frames j.tracks (map (λ r. r.calls) j.rounds) (map (λ r. r.turn) j.rounds) (frames_of seen) (map (λ e. e.entry) seen)) (map (λ t. length t.stream.released) run.tracks)
 
--- What a render of a script without pokes hands back: its journal is by itself a turn run, and the summary that of the journal alone
+-- What a render hands back: its journal is by itself a turn run of the script and its files, and the summary is that of the journal alone
 pub record IsToldAlone (script : ScriptData) (files : List (List Frame)) (j : JournalData) (ends : EndsState) : Type 0 where
-  pub turns : IsTurnRun script files j
+  pub run : IsTurnRun script files j
   pub summary : summary_told script.frames j ends ≡ summary_alone script files j
 
-abbrev pub RendersAreTurnRuns : ScriptData → List (List Frame) → JournalData → EndsState → Type 0
-RendersAreTurnRuns script files j ends = IsScript script → HasNoPokes script → HandsBack script files j ends → IsToldAlone script files j ends
+abbrev pub RendersAreToldAlone : ScriptData → List (List Frame) → JournalData → EndsState → Type 0
+RendersAreToldAlone script files j ends = IsScript script → HandsBack script files j ends → IsToldAlone script files j ends

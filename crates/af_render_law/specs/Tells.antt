@@ -4,13 +4,12 @@ use Rattle.af_base.specs.declared.report.Report.{Report}
 use Rattle.af_base.specs.declared.state.FastState.{FastState}
 use Rattle.af_base.specs.Log.{entry_slot, frames_taken, slots}
 use Rattle.af_fast.specs.Mixer.{MixerState}
-use Rattle.af_fast.specs.Slots.{SlotPlayed}
 use Rattle.af_life.specs.Kept.{is_home, pipe_size, slot_number, track_at}
 use Rattle.af_model.specs.declared.newest.WriterEvent.{WriterEvent}
 use Rattle.af_model.specs.declared.newest.WriterEvent.TheVariants as writes
 use Rattle.af_model.specs.declared.states.ObserverEvent.{ObserverEvent}
 use Rattle.af_model.specs.declared.states.ObserverEvent.TheVariants as observer
-use Rattle.af_model.specs.Cycles.{cycle_events, last_used}
+use Rattle.af_model.specs.Cycles.{last_used}
 use Rattle.af_model.specs.Draft.{initial}
 use Rattle.af_model.specs.Order.{ones, twos}
 use Rattle.af_model.specs.Reports.{no_slot, report_at}
@@ -19,14 +18,12 @@ use Rattle.af_normal.specs.LegalTurned.{hand_events}
 use Rattle.af_normal.specs.Mixing.{stream_at}
 use Rattle.af_normal.specs.State.{NormalState, kept_of, setup_of as mixer_setup}
 use Rattle.af_party.specs.Parties.{PartyState, track_of}
-use Rattle.af_runs.specs.Blocks.{BlockTold, hand_list, server_list}
+use Rattle.af_runs.specs.Blocks.{BlockTold, hand_list, is_tame, server_list}
 use Rattle.af_model.specs.Journals.{EntrySeen, slot_frames}
-use Rattle.af_runs.specs.Fronts.{front_of}
 use Rattle.af_runs.specs.KeptLists.{KeepsMutator, KeepsPipe, KeepsReader, marked}
 use Rattle.af_runs.specs.Runs.{Run, TrackTold, fast_ended, frames_before, last_report, sides_of, told_at}
 use Rattle.af_runs.specs.Sessions.{Session, cycle_frames, setup_of, track_count}
 use Rattle.af_runs.specs.Told.{Item, state_at}
-use Rattle.af_server.specs.Slot.{listed}
 use Rattle.af_server.specs.Order.{ServerState}
 use Rattle.af_stateq.specs.Ends.{acknowledged, took}
 use Rattle.af_stateq.specs.Laws.{pushed_states}
@@ -34,13 +31,15 @@ use Rattle.af_stateq.specs.Mutates.{at}
 use Rattle.af_session.specs.Met.{item_at, slot_for}
 use Rattle.af_session.specs.Rounds.{Given, file_at, ops_at}
 use Rattle.af_session.specs.Together.{SessionState}
+use Rattle.af_render_law.specs.Alike.{TellAlike}
 
 -- ## The proxies of a track
 
--- the proxy has the sizes of its block, and did and took what is told
+-- The proxy has the sizes of its block, and took what is told. It did what is told while the block is tame; on one that was poked a look may have seen another front than the one told, by which it answered and left the same
 pub record TellsServer (b : BlockTold) (s : ServerState) : Type 0 where
   pub shape : s.pass.part.shape ≡ b.shape
-  pub events : s.pass.part.events ≡ server_list b
+  pub events : is_tame b ≡ true → s.pass.part.events ≡ server_list b
+  pub alike : TellAlike b.shape s.pass.part.events (server_list b)
   pub taken : s.pass.part.frames ≡ b.taken
 
 -- so does one that may be there
@@ -174,8 +173,6 @@ pub record FindsLast (m : NormalState) (f g : MixerState) : Type 0 where
 
 -- ## Mixes
 
--- what the looks of a mix from f to g did is what the run tells of the entry: each slot took its frames, and did what it does by the front told (one that was shut saw none)
+-- what the looks of a mix from f to g took is what the run tells of the entry
 pub record SawTold (f g : MixerState) (e : EntrySeen) : Type 0 where
   pub frames : (k : ℕ) → k < slots → frames_taken g.log.frames (entry_slot e.entry k) ≡ slot_frames e k
-  pub looks : (k : ℕ) (one : SlotPlayed f.frames (at f.observer.items k) (at g.observer.items k) g.log.frames (entry_slot e.entry k))
-      → cycle_events f.frames (listed one.old) (entry_slot e.entry k) one.plays.front ≡ cycle_events f.frames (listed one.old) (entry_slot e.entry k) (front_of f.frames (listed one.old) (entry_slot e.entry k))

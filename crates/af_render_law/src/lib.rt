@@ -3,4 +3,4 @@
 
 mod laws;
 
-pub use laws::a_render_without_pokes_is_a_turn_run;
+pub use laws::a_render_is_told_by_its_journal;

@@ -1,5 +1,5 @@
 //! The proxy, how it is made, and what it keeps.
-ghost use Rattle.std.specs.Prelude.{◌≡◌, ◌+◌, ◌≤◌, true, false, None};
+ghost use Rattle.std.specs.Prelude.{[], ◌≡◌, ◌+◌, ◌≤◌, true, false, None};
 ghost use Rattle.std.specs.Borrow.{Lends, sem};
 ghost use Rattle.af_cblk.specs.Rule.{new_server, new_hand};
 ghost use Rattle.af_cblk.specs.Sides.{server_made, hand_made};
@@ -99,7 +99,7 @@ impl Server {
         requires first { self.old.pass.has_hand ≡ true }
         ensures ready { IsServerOf block.now self.new }
         ensures split { self.new ≡ (record self.old { pass = record self.old.pass { has_hand = false }; shown = None }) }
-        ensures hand { (hand_made result ≡ block.now) × (result.part ≡ new_hand block.now.shape) }
+        ensures hand { (hand_made result ≡ block.now) × (result.part ≡ new_hand block.now.shape) × (result.known ≡ []) }
         ensures steps { steps.new ≡ steps.old + 1 }
     {
         self.shown = None;

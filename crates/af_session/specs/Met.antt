@@ -1,6 +1,5 @@
 -- What the meetings of all parties come to.
 use Rattle.std.specs.Prelude.{◌≡◌, ℕ, zero, suc, ◌<◌, ◌≤◌, ◌==◌, ◌&&◌, ◌⊎◌, Bool, true, if◌then◌else◌, List, length, slice_get, Option, Some, None, option_and_then}
-use Rattle.af_base.specs.declared.event.ServerEvent.{ServerEvent}
 use Rattle.af_base.specs.declared.state.FastState.{FastState}
 use Rattle.af_base.specs.Log.{slots}
 use Rattle.af_cblk.specs.Parts.{hand_met}
@@ -82,12 +81,12 @@ item_at items slot = option_and_then (λ k. at items k) slot
 abbrev pub spot_of : FastState → Proxies → ℕ → Spot
 spot_of x p i = record { stream = stream_at p.streams i; held = item_at p.items (slot_for x i); hand = slice_get p.hands i; command = slice_get p.commands i }
 
--- The hand alone met the client, which stays as it is. Where that has not poked their lists have a history with some server's list, which goes on from what the client had learnt
+-- The hand alone met the client, which stays as it is. Where that has not poked their lists have a history with the server's list as the hand knows it, which goes on from what the client had learnt
 pub record MeetsFlag (block : Made) (c d : ClientState) (h g : HandSide) : Type 0 where
   pub client : d ≡ c
   pub hand : g.part ≡ hand_met h.part (length c.pass.part.events)
   pub history : is_lawful c.pass.part.events ≡ true
-      → (server : List ServerEvent) × (taken : List ℕ) × StartsWith server c.pass.part.learnt × HasHistory block.shape c.pass.part.events c.pass.part.frames server taken g.part.events
+      → (taken : List ℕ) × StartsWith g.known c.pass.part.learnt × HasHistory block.shape c.pass.part.events c.pass.part.frames g.known taken g.part.events
 
 -- a proxy that isn't home meets its client and its hand where the observer holds it, and else the hand meets the client
 abbrev pub MeetsAway : Made → Option ServerState → HandSide → ClientState → Option ServerState → HandSide → ClientState → Type 0

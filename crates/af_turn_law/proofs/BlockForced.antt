@@ -6,11 +6,13 @@ use Rattle.af_model.specs.declared.shape.Shape.{Shape}
 use Rattle.af_model.specs.History.{Moment, by_client, by_server, by_hand, client_of, server_of, hand_of, after, met_in, IsLegal, with_taken, taken_of}
 use Rattle.af_model.specs.Point.{start, ClientMay, ServerMay, after_client, after_server, after_hand}
 use Rattle.af_runs.specs.Blocks.{BlockTold, HasBlockHistory, IsHistoryAsTold}
-use Rattle.af_turn_law.specs.Marking.{learnt, KnowsAll, client_marks, server_marks, hand_marks, client_is_mark, server_is_mark, hand_is_mark}
+use Rattle.af_turn_law.specs.Marking.{learnt, KnowsAll, client_marks, server_marks, hand_marks, client_is_mark, server_is_mark, server_named, hand_is_mark}
+use Rattle.af_turn_law.specs.Acting.{SawNoInvalid}
 use Rattle.af_turn_law.specs.Phased.{IsBlockPhased, ends_met}
 use Rattle.af_turn_law.proofs.Marked.{by_flag, learnt_last}
 use Rattle.af_turn_law.proofs.SharedForced.{client_plain, server_plain}
-use Rattle.af_turn_law.proofs.BlockPulls.{met_learnt, pull_client, pull_server, pull_hand}
+use Rattle.af_turn_law.proofs.BlockPulls.{Pulled, ServerAllowed, met_learnt, pull_client, pull_server, pull_hand}
+use Rattle.af_turn_law.proofs.InvalidPulls.{pull_invalid}
 
 -- ## What was learnt in an order in phases was done before
 
@@ -31,9 +33,12 @@ phased_server [] h = omega arith
 phased_server (by_server e ∷ told) h =
     let r = phased_server told h.1 in
     let last = learnt_last server_marks (server_of told) e in
-    elim (by_flag (server_is_mark e) h.0) [
-      | inl (is, few) ↦ omega (arith, r, last, few)
-      | inr (is, knows) ↦ (let none = server_plain e is in omega (arith, r, last, none))
+    elim h.0 [
+      | inl due ↦ elim (by_flag (server_is_mark e) due) [
+        | inl (is, few) ↦ omega (arith, r, last, few)
+        | inr (is, knows) ↦ (let none = server_plain e is in omega (arith, r, last, none))
+      ]
+      | inr (invalid, unseen) ↦ (let none : server_named e ≡ 0 = ap server_named invalid in omega (arith, r, last, none))
     ]
 phased_server (by_client e ∷ told) h = let r = phased_server told h.1 in let n = length-append (client_of told) (e ∷ []) in omega (arith, r, n)
 phased_server (by_hand e ∷ told) h = phased_server told h.1
@@ -88,11 +93,14 @@ forced k frames (by_client e ∷ told) order h l cs ss hs =
 forced k frames (by_server e ∷ told) order h l cs ss hs =
     let learnt_few = phased_client told h.1 in
     let same_learnt = ap (learnt client_marks) cs in
-    let r = pull_server k frames (server_of told) e order ss l (omega (arith, learnt_few, same_learnt))
-    (λ plain. elim (by_flag (server_is_mark e) h.0) [
-      | inl (is, few) ↦ absurd (true≢false (sym is ∙ plain))
-      | inr (is, knows) ↦ subst (λ l. KnowsAll server_marks client_marks (server_of told) l) (sym cs) knows
-    ]) in
+    let r : Pulled k frames (by_server e) (client_of order) (server_of told) (hand_of order) order (ServerAllowed k frames e) = elim h.0 [
+      | inl due ↦ pull_server k frames (server_of told) e order ss l (omega (arith, learnt_few, same_learnt))
+          (λ plain. elim (by_flag (server_is_mark e) due) [
+            | inl (is, few) ↦ absurd (true≢false (sym is ∙ plain))
+            | inr (is, knows) ↦ subst (λ l. KnowsAll server_marks client_marks (server_of told) l) (sym cs) knows
+          ])
+      | inr (invalid, unseen) ↦ pull_invalid k frames (server_of told) e invalid order ss l (omega (arith, learnt_few, same_learnt)) (subst SawNoInvalid (sym cs) unseen)
+    ] in
     let f = forced k frames told r.rest h.1 r.legal (r.client_is ∙ cs) r.server_is (r.hand_is ∙ hs) in
     record {
       legal = (subst (λ n. ServerMay (after (start k) told) n e) (ap length (r.client_is ∙ cs)) (subst (λ z. ServerMay z (length (client_of r.rest)) e) (sym f.ends) r.may), f.legal);

@@ -58,7 +58,7 @@ met_learnt (by_client e ∷ order) = met_learnt order
 met_learnt (by_server e ∷ order) = met_learnt order
 met_learnt (by_hand e ∷ order) = let r = met_learnt order in let last = learnt_last hand_marks (hand_of order) e in let same = met_named e in omega (arith, r, last, same)
 
-hand_met : (n met at : ℕ) (e : HandEvent) → HandMay n met at e → met ≤ n
+pub hand_met : (n met at : ℕ) (e : HandEvent) → HandMay n met at e → met ≤ n
 hand_met n met at (hand.SetFlags bits) h = h
 hand_met n met at (hand.Met k) h = h.0
 
@@ -100,7 +100,7 @@ either true b h = refl
 either false true h = refl
 either false false h = absurd (h refl refl)
 
-hand_fewer : (n m met less at low : ℕ) (e : HandEvent) → HandMay n met at e → less ≤ m → low ≤ at → HandMay m less low e
+pub hand_fewer : (n m met less at low : ℕ) (e : HandEvent) → HandMay n met at e → less ≤ m → low ≤ at → HandMay m less low e
 hand_fewer n m met less at low (hand.SetFlags bits) h le down = le
 hand_fewer n m met less at low (hand.Met k) h le down = (le, (let a = h.1 in omega (arith, a, down)))
 
@@ -193,7 +193,7 @@ module _ (k : Shape) (frames : List ℕ) where
 
   -- ## The server's
 
-  abbrev ServerAllowed : ServerEvent → List Moment → Type 0
+  abbrev pub ServerAllowed : ServerEvent → List Moment → Type 0
   ServerAllowed e rest = ServerMay (after p rest) (length (client_of rest)) e
 
   pub pull_server : (ss : List ServerEvent) (e : ServerEvent) (order : List Moment) → server_of order ≡ ss ++ e ∷ [] → IsLegal p order → learnt client_marks (client_of order) ≤ length ss

@@ -1,5 +1,5 @@
 -- What each step of a run leaves of a block that is told in phases.
-use Rattle.std.proofs.Common.{◌≡◌, ℕ, Bool, true, false, true≢false, fold, map, List, [], ◌∷◌, ◌++◌, length, refl, sym, subst, arith, length-append}
+use Rattle.std.proofs.Common.{◌≡◌, ◌⊎◌, inl, inr, ℕ, Bool, true, false, true≢false, fold, map, List, [], ◌∷◌, ◌++◌, length, refl, sym, subst, arith, length-append}
 use Rattle.af_base.specs.declared.event.ClientEvent.{ClientEvent}
 use Rattle.af_base.specs.declared.event.ClientEvent.TheVariants as client
 use Rattle.af_base.specs.declared.event.ServerEvent.{ServerEvent}
@@ -9,6 +9,7 @@ use Rattle.af_base.specs.declared.event.HandEvent.TheVariants as hand
 use Rattle.af_model.specs.History.{Moment, by_client, by_server, by_hand, client_of, server_of, hand_of}
 use Rattle.af_runs.specs.Blocks.{BlockTold}
 use Rattle.af_runs.specs.Runs.{stream_met}
+use Rattle.af_turn_law.specs.Acting.{SawNoInvalid}
 use Rattle.af_turn_law.specs.Marking.{KnowsAll, NoMarks, client_marks, server_marks, hand_marks}
 use Rattle.af_turn_law.specs.Phased.{IsBlockPhased, ends_met}
 use Rattle.af_turn_law.proofs.Marked.{knows_more, knows_met, knows_now, due_plain}
@@ -68,7 +69,7 @@ client_done part after handed es told plain h = by_events es told plain h.phased
 server_phased : (es : List ServerEvent) (told : List Moment) → NoMarks server_marks es → IsBlockPhased told → ServerKnows told → IsBlockPhased (told_more told (map by_server es))
 server_phased [] told plain phased knows = phased
 server_phased (e ∷ es) told plain phased knows =
-    server_phased es (by_server e ∷ told) plain.1 (due_plain server_marks client_marks (server_of told) (client_of told) e plain.0 knows, phased)
+    server_phased es (by_server e ∷ told) plain.1 (inl (due_plain server_marks client_marks (server_of told) (client_of told) e plain.0 knows), phased)
     (knows_more server_marks client_marks (server_of told) (e ∷ []) (client_of told) knows)
 
 server_keeps : (P : List ClientEvent → List HandEvent → Type 0) (es : List ServerEvent) (told : List Moment) → P (client_of told) (hand_of told) → P (client_of (told_more told (map by_server es))) (hand_of (told_more told (map by_server es)))
@@ -87,17 +88,30 @@ server_done handed es told plain h = record {
 pub hand_ready : (part : Bool) (bits : ℕ) (told : List Moment) → Ready part true told → (part ≡ true → ServerKnows (by_hand (hand.SetFlags bits) ∷ told)) × IsBlockPhased (by_hand (hand.SetFlags bits) ∷ told) × ClientKnows (by_hand (hand.SetFlags bits) ∷ told)
 hand_ready part bits told h = (h.server, ((h.hand refl, phased_hand told h.phased), h.phased), h.client)
 
+-- a fact of the client's events, whatever the hand does
+pub hand_keeps : (P : List ClientEvent → Type 0) (hs : List HandEvent) (told : List Moment) → P (client_of told) → P (client_of (told_more told (map by_hand hs)))
+hand_keeps P [] told h = h
+hand_keeps P (e ∷ hs) told h = hand_keeps P hs (by_hand e ∷ told) h
+
+-- the server does nothing, or sets an INVALID that is unseen
+abbrev pub OnlyInvalid : List ServerEvent → List Moment → Type 0
+OnlyInvalid es told = (es ≡ []) ⊎ ((es ≡ server.SetFlags 4 ∷ []) × SawNoInvalid (client_of told))
+
 -- the hand and then the server in a turn; the hand has met after it
 pub turn_done : (part after : Bool) (hs : List HandEvent) (es : List ServerEvent) (told : List Moment) → IsBlockPhased (told_more told (map by_hand hs)) → ClientKnows (told_more told (map by_hand hs)) → (part ≡ true → ServerKnows (told_more told (map by_hand hs)))
-    → NoMarks server_marks es → (after ≡ false → es ≡ []) → (part ≡ false → es ≡ []) → Done after true (told_more (told_more told (map by_hand hs)) (map by_server es))
-turn_done true after hs es told phased knows server plain away none = record {
-  phased = server_phased es (told_more told (map by_hand hs)) plain phased (server refl);
+    → NoMarks server_marks es → (after ≡ false → es ≡ []) → (part ≡ false → OnlyInvalid es told) → Done after true (told_more (told_more told (map by_hand hs)) (map by_server es))
+turn_done part after hs es told phased knows server plain away only = record {
+  phased = by_part part server only;
   client = λ e. subst (λ es. ClientKnows (told_more (told_more told (map by_hand hs)) (map by_server es))) (sym (away e)) knows;
   met = λ e. absurd (true≢false e);
 }
-turn_done false after hs es told phased knows server plain away none =
-    subst (λ es. Done after true (told_more (told_more told (map by_hand hs)) (map by_server es))) (sym (none refl))
-    (record { phased = phased; client = λ e. knows; met = λ e. absurd (true≢false e) })
+  where
+    by_part : (b : Bool) → (b ≡ true → ServerKnows (told_more told (map by_hand hs))) → (b ≡ false → OnlyInvalid es told) → IsBlockPhased (told_more (told_more told (map by_hand hs)) (map by_server es))
+    by_part true server only = server_phased es (told_more told (map by_hand hs)) plain phased (server refl)
+    by_part false server only = elim (only refl) [
+      | inl none ↦ subst (λ es. IsBlockPhased (told_more (told_more told (map by_hand hs)) (map by_server es))) (sym none) phased
+      | inr (invalid, unseen) ↦ subst (λ es. IsBlockPhased (told_more (told_more told (map by_hand hs)) (map by_server es))) (sym invalid) (inr (refl, hand_keeps SawNoInvalid hs told unseen), phased)
+    ]
 
 -- ## Meetings
 
@@ -108,7 +122,7 @@ abbrev with_flag : List Moment → List Moment
 with_flag told = by_hand (hand.Met (length (client_of told))) ∷ told
 
 met_phased : (told : List Moment) → IsBlockPhased told → IsBlockPhased (with_met told)
-met_phased told h = (let n = length-append (client_of told) (client.Learn (length (server_of told)) ∷ []) in omega (arith, n), ((omega arith, λ p. absurd (true≢false p)), h))
+met_phased told h = (inl (let n = length-append (client_of told) (client.Learn (length (server_of told)) ∷ []) in omega (arith, n)), ((omega arith, λ p. absurd (true≢false p)), h))
 
 met_client : (told : List Moment) → ClientKnows (with_met told)
 met_client told = knows_met client_marks server_marks (client_of told ++ client.Learn (length (server_of told)) ∷ []) (server_of told) (server.Learn (length (client_of told))) refl

@@ -3,8 +3,10 @@ pub mod TwoForced
 pub mod SharedForced
 pub mod BlockSwaps
 pub mod BlockPulls
+pub mod InvalidPulls
 pub mod BlockForced
 pub mod BlockSteps
+pub mod BlocksTame
 pub mod PlainLists
 pub mod EndsSteps
 pub mod RunShared
@@ -12,6 +14,7 @@ pub mod RunBlocks
 pub mod RunTurns
 pub mod RunPolls
 pub mod MixedHome
+pub mod ShutHome
 pub mod TurnActs
 pub mod TurnsForced
 pub mod RunBegins

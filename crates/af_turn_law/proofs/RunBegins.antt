@@ -13,7 +13,7 @@ use Rattle.af_runs.specs.Sessions.{Session, track_count, setup_of}
 use Rattle.af_runs.specs.TurnRuns.{AreTurns}
 use Rattle.af_judge.proofs.SoundTurns.{sound_new}
 use Rattle.af_judge.proofs.StatesRuns.{scales_of}
-use Rattle.af_turn_law.specs.ListTurns.{AreListTurns, FindNoneShut}
+use Rattle.af_turn_law.specs.ListTurns.{AreListTurns, FindShutUnseen}
 use Rattle.af_turn_law.proofs.BlockSteps.{Ready, new_ready}
 use Rattle.af_turn_law.proofs.RunShared.{shared_new}
 use Rattle.af_turn_law.proofs.TurnsForced.{TurnsReady, turns_forced}
@@ -27,12 +27,12 @@ new_told s (m ∷ ns) (suc n) = new_told s ns n
 pub turns_new : (s : Session) → TurnsReady s (new_run s)
 turns_new s = record {
   blocks = record {
-    streams = λ n low. subst (Ready (takes_part s (new_run s) n) false) (sym (new_told s (range_with_len 0 (track_count s)) n).0) (new_ready (takes_part s (new_run s) n) false);
+    streams = λ n low tame. subst (Ready (takes_part s (new_run s) n) false) (sym (new_told s (range_with_len 0 (track_count s)) n).0) (new_ready (takes_part s (new_run s) n) false);
     commands = λ n low. subst (Ready true false) (sym (new_told s (range_with_len 0 (track_count s)) n).1) (new_ready true false);
   };
   shared = shared_new s;
   normal = record { sound = sound_new (setup_of s); long = length-replicate (length (setup_of s).settings) first_track; new = λ e. refl };
 }
 
-pub forced_run : (s : Session) (marks : Marks) (turns : List TurnSpec) (rounds : List RoundSeen) → IsScript s.script → AreListTurns s marks (new_run s) turns rounds → FindNoneShut s (new_run s) turns rounds → AreTurns s marks (new_run s) turns rounds
-forced_run s marks turns rounds script are unshut = turns_forced s marks (scales_of s script) turns rounds (new_run s) (turns_new s) are unshut
+pub forced_run : (s : Session) (marks : Marks) (turns : List TurnSpec) (rounds : List RoundSeen) → IsScript s.script → AreListTurns s marks (new_run s) turns rounds → FindShutUnseen s (new_run s) turns rounds → AreTurns s marks (new_run s) turns rounds
+forced_run s marks turns rounds script are unseen = turns_forced s marks (scales_of s script) turns rounds (new_run s) (turns_new s) are unseen

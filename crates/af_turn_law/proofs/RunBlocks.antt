@@ -1,4 +1,4 @@
--- The blocks of a turn run are told in phases: what each step leaves of them.
+-- The command blocks of a turn run, and the stream blocks that are tame so far, are told in phases: what each step leaves of them.
 use Rattle.std.proofs.Common.{◌≡◌, inl, inr, ℕ, zero, suc, ◌+◌, ◌<◌, ◌==◌, ◌&&◌, ◌||◌, nat_le, Bool, true, false, true≢false, if◌then◌else◌, unwrap_or, is_some, map, length, drop, Option, Some, None, refl, sym, ap, ◌∙◌, subst, arith}
 use Rattle.std.specs.List.{find, list_any, range_with_len}
 use Rattle.std.proofs.lemmas.Bool.{cases_lt}
@@ -7,7 +7,7 @@ use Rattle.af_base.specs.Log.{slots, entry_slot}
 use Rattle.af_life.specs.Kept.{is_home, track_at}
 use Rattle.af_model.proofs.Logic.{is_le}
 use Rattle.af_model.specs.Cycles.{cycle_events, state_of}
-use Rattle.af_model.specs.History.{by_server}
+use Rattle.af_model.specs.History.{by_client, by_server}
 use Rattle.af_model.specs.Journals.{EntrySeen, RoundSeen}
 use Rattle.af_model.specs.StateQueue.{slot_of, carries}
 use Rattle.af_runs.specs.Blocks.{client_list, listed}
@@ -22,21 +22,22 @@ use Rattle.af_judge.proofs.BlocksMeet.{met_at, met_many}
 use Rattle.af_judge.proofs.EachTrack.{each_long, told_each}
 use Rattle.af_judge.proofs.StatesAt.{state_outside}
 use Rattle.af_turn_law.proofs.BlockSteps.{Ready, Done, told_more, rest_done, client_done, server_done, block_met}
+use Rattle.af_turn_law.proofs.BlocksTame.{StreamReady, StreamDone, tame_told, tame_met}
 use Rattle.af_turn_law.proofs.PlainLists.{plain_turn, plain_cycle}
 
--- all blocks between two rounds
+-- these blocks between two rounds
 pub record RunReady (s : Session) (run : Run) : Type 0 where
-  pub streams : (n : ℕ) → n < length run.tracks → Ready (takes_part s run n) run.handed (told_at run n).stream.told
+  pub streams : (n : ℕ) → n < length run.tracks → StreamReady (takes_part s run n) run.handed (told_at run n)
   pub commands : (n : ℕ) → n < length run.tracks → Ready true false (told_at run n).commands.told
 
 -- before the meetings
 pub record RunDone (s : Session) (run : Run) : Type 0 where
-  pub streams : (n : ℕ) → n < length run.tracks → Done (takes_part s run n) run.handed (told_at run n).stream.told
+  pub streams : (n : ℕ) → n < length run.tracks → StreamDone (takes_part s run n) run.handed (told_at run n)
   pub commands : (n : ℕ) → n < length run.tracks → Done true false (told_at run n).commands.told
 
 pub nothing_done : (s : Session) (run : Run) → RunReady s run → RunDone s run
 nothing_done s run h = record {
-  streams = λ n low. rest_done (takes_part s run n) (takes_part s run n) run.handed (told_at run n).stream.told (h.streams n low);
+  streams = λ n low tame. rest_done (takes_part s run n) (takes_part s run n) run.handed (told_at run n).stream.told (h.streams n low tame);
   commands = λ n low. rest_done true true false (told_at run n).commands.told (h.commands n low);
 }
 
@@ -49,8 +50,9 @@ run_met s run h = record {
   commands = λ n low. commands_met n (let m = met_many s run in omega (arith, low, m));
 }
   where
-    streams_met : (n : ℕ) → n < length run.tracks → Ready (takes_part s (met s run) n) (met s run).handed (told_at (met s run) n).stream.told
-    streams_met n low = subst (λ (t : TrackTold). Ready (takes_part s run n) run.handed t.stream.told) (sym (met_at s run n low)) (block_met (takes_part s run n) run.handed (told_at run n).stream (h.streams n low))
+    streams_met : (n : ℕ) → n < length run.tracks → StreamReady (takes_part s (met s run) n) (met s run).handed (told_at (met s run) n)
+    streams_met n low = subst (StreamReady (takes_part s run n) run.handed) (sym (met_at s run n low))
+        (λ tame. block_met (takes_part s run n) run.handed (told_at run n).stream (h.streams n low (tame_met (takes_part s run n) run.handed (told_at run n).stream tame)))
 
     commands_met : (n : ℕ) → n < length run.tracks → Ready true false (told_at (met s run) n).commands.told
     commands_met n low = subst (λ (t : TrackTold). Ready true false t.commands.told) (sym (met_at s run n low)) (block_met true false (told_at run n).commands (h.commands n low))
@@ -67,7 +69,7 @@ run_ends s run h = by_end run.normal.ended
 
     by_end : (b : Bool) → RunReady s (if b then each_track (λ track t. record t { client = ends t.client }) run else run)
     by_end true = record {
-      streams = λ n low. subst (λ (t : TrackTold). Ready (takes_part s run n) run.handed t.stream.told) (sym (told_each change run n (let m = many in omega (arith, low, m)))) (h.streams n (let m = many in omega (arith, low, m)));
+      streams = λ n low. subst (StreamReady (takes_part s run n) run.handed) (sym (told_each change run n (let m = many in omega (arith, low, m)))) (h.streams n (let m = many in omega (arith, low, m)));
       commands = λ n low. subst (λ (t : TrackTold). Ready true false t.commands.told) (sym (told_each change run n (let m = many in omega (arith, low, m)))) (h.commands n (let m = many in omega (arith, low, m)));
     }
     by_end false = h
@@ -78,11 +80,12 @@ module _ (s : Session) (track : ℕ) (round : RoundSeen) (run : Run) (h : RunRea
   abbrev called_track : ℕ → TrackTold → TrackTold
   called_track number t = if number == track then called (calls_in round track) t else t
 
-  stream_called : (n : ℕ) (b : Bool) (t : TrackTold) → Ready (takes_part s run n) run.handed t.stream.told → Done (takes_part s run n) run.handed (if b then called (calls_in round track) t else t).stream.told
-  stream_called n true t ready =
-      client_done (takes_part s run n) (takes_part s run n) run.handed (drop (length (client_list t.stream)) (after_calls (sides_of t) (calls_in round track)).stream.events) t.stream.told
-      (plain_turn (sides_of t) t.stream t.commands (calls_in round track) refl refl).0 ready
-  stream_called n false t ready = rest_done (takes_part s run n) (takes_part s run n) run.handed t.stream.told ready
+  stream_called : (n : ℕ) (b : Bool) (t : TrackTold) → StreamReady (takes_part s run n) run.handed t → StreamDone (takes_part s run n) run.handed (if b then called (calls_in round track) t else t)
+  stream_called n true t ready tame =
+      let es = drop (length (client_list t.stream)) (after_calls (sides_of t) (calls_in round track)).stream.events in
+      client_done (takes_part s run n) (takes_part s run n) run.handed es t.stream.told
+      (plain_turn (sides_of t) t.stream t.commands (calls_in round track) refl refl).0 (ready (tame_told t.stream.told (map by_client es) tame))
+  stream_called n false t ready tame = rest_done (takes_part s run n) (takes_part s run n) run.handed t.stream.told (ready tame)
 
   commands_called : (b : Bool) (t : TrackTold) → Ready true false t.commands.told → Done true false (if b then called (calls_in round track) t else t).commands.told
   commands_called true t ready =
@@ -96,7 +99,7 @@ module _ (s : Session) (track : ℕ) (round : RoundSeen) (run : Run) (h : RunRea
   pub run_calls : RunDone s (calls_alone track round run)
   run_calls = record {
     streams = λ n low. (let below : n < length run.tracks = (let m = many_called in omega (arith, low, m)) in
-        subst (λ (t : TrackTold). Done (takes_part s run n) run.handed t.stream.told) (sym (told_each called_track run n below)) (stream_called n (n == track) (told_at run n) (h.streams n below)));
+        subst (StreamDone (takes_part s run n) run.handed) (sym (told_each called_track run n below)) (stream_called n (n == track) (told_at run n) (h.streams n below)));
     commands = λ n low. (let below : n < length run.tracks = (let m = many_called in omega (arith, low, m)) in
         subst (λ (t : TrackTold). Done true false t.commands.told) (sym (told_each called_track run n below)) (commands_called (n == track) (told_at run n) (h.commands n below)));
   }
@@ -107,7 +110,7 @@ module _ (s : Session) (track : ℕ) (round : RoundSeen) (run : Run) (h : RunRea
 poll_first : (s : Session) (k : ℕ) (run : Run) → RunReady s run → RunDone s (with_poll s k run)
 unfolding with_poll
 poll_first s k run h = record {
-  streams = λ n low. rest_done (takes_part s run n) (takes_part s (with_poll s k run) n) run.handed (told_at run n).stream.told (h.streams n low);
+  streams = λ n low tame. rest_done (takes_part s run n) (takes_part s (with_poll s k run) n) run.handed (told_at run n).stream.told (h.streams n low tame);
   commands = λ n low. rest_done true true false (told_at run n).commands.told (h.commands n low);
 }
 
@@ -119,7 +122,7 @@ part_at s run n c = is_home (track_at run.normal.tracks n).holder || (let x = st
 poll_again : (s : Session) (k : ℕ) (run : Run) → (with_poll s k run).current ≡ run.current → RunDone s run → RunDone s (with_poll s k run)
 unfolding with_poll
 poll_again s k run same h = record {
-  streams = λ n low. subst (λ part. Done part run.handed (told_at run n).stream.told) (sym (ap (part_at s run n) same)) (h.streams n low);
+  streams = λ n low. subst (λ part. StreamDone part run.handed (told_at run n)) (sym (ap (part_at s run n) same)) (h.streams n low);
   commands = h.commands;
 }
 
@@ -131,7 +134,7 @@ run_mix : (s : Session) (e : EntrySeen) (run : Run) → PlaysParts s e run → R
 unfolding with_mix
 run_mix s e run parts h = record {
   streams = λ n low. (let below : n < length run.tracks = (let m = many in omega (arith, low, m)) in
-      subst (λ (t : TrackTold). Done (takes_part s run n) run.handed t.stream.told) (sym (told_each (mixed_track s x e) run n below)) (stream_mixed n (slot_for x e.entry n) (parts n) (told_at run n) (h.streams n below)));
+      subst (StreamDone (takes_part s run n) run.handed) (sym (told_each (mixed_track s x e) run n below)) (stream_mixed n (slot_for x e.entry n) (parts n) (told_at run n) (h.streams n below)));
   commands = λ n low. (let below : n < length run.tracks = (let m = many in omega (arith, low, m)) in
       subst (λ (t : TrackTold). Done true false t.commands.told) (sym (told_each (mixed_track s x e) run n below)) (commands_mixed (slot_for x e.entry n) (told_at run n) (h.commands n below)));
 }
@@ -145,13 +148,13 @@ run_mix s e run parts h = record {
     with_slot : Option ℕ → TrackTold → TrackTold
     with_slot o t = elim o as (λ o. TrackTold) [ None ↦ t | Some i ↦ record t { stream = played (cycle_frames s) e i t.stream } ]
 
-    stream_mixed : (n : ℕ) (o : Option ℕ) → ((i : ℕ) → o ≡ Some i → takes_part s run n ≡ true) → (t : TrackTold) → Ready (takes_part s run n) run.handed t.stream.told → Done (takes_part s run n) run.handed (with_slot o t).stream.told
-    stream_mixed n None part t ready = rest_done (takes_part s run n) (takes_part s run n) run.handed t.stream.told ready
-    stream_mixed n (Some i) part t ready =
+    stream_mixed : (n : ℕ) (o : Option ℕ) → ((i : ℕ) → o ≡ Some i → takes_part s run n ≡ true) → (t : TrackTold) → StreamReady (takes_part s run n) run.handed t → StreamDone (takes_part s run n) run.handed (with_slot o t)
+    stream_mixed n None part t ready tame = rest_done (takes_part s run n) (takes_part s run n) run.handed t.stream.told (ready tame)
+    stream_mixed n (Some i) part t ready tame =
         let slot = entry_slot e.entry i in
         let es = cycle_events (cycle_frames s) (listed t.stream) slot (front_of (cycle_frames s) (listed t.stream) slot) in
         subst (λ part. Done part run.handed (told_more t.stream.told (map by_server es))) (sym (part i refl))
-        (server_done run.handed es t.stream.told (plain_cycle (cycle_frames s) (listed t.stream) slot (front_of (cycle_frames s) (listed t.stream) slot)) (subst (λ part. Ready part run.handed t.stream.told) (part i refl) ready))
+        (server_done run.handed es t.stream.told (plain_cycle (cycle_frames s) (listed t.stream) slot (front_of (cycle_frames s) (listed t.stream) slot)) (subst (λ part. Ready part run.handed t.stream.told) (part i refl) (ready (tame_told t.stream.told (map by_server es) tame))))
 
     commands_mixed : (o : Option ℕ) (t : TrackTold) → Ready true false t.commands.told → Done true false (with_slot o t).commands.told
     commands_mixed None t ready = rest_done true true false t.commands.told ready

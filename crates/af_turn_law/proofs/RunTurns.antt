@@ -2,11 +2,12 @@
 use Rattle.std.proofs.Common.{◌≡◌, ◌⊎◌, inl, inr, ℕ, ◌<◌, Bool, true, false, true≢false, if◌then◌else◌, map, List, [], ◌∷◌, length, Option, Some, None, refl, sym, ap, ◌∙◌, subst, arith}
 use Rattle.af_base.specs.declared.event.HandEvent.{HandEvent}
 use Rattle.af_base.specs.declared.event.HandEvent.TheVariants as hand
+use Rattle.af_base.specs.declared.event.ServerEvent.{ServerEvent}
 use Rattle.af_base.specs.Turn.{Turn}
 use Rattle.af_life.specs.Heard.{learnt}
 use Rattle.af_life.specs.Kept.{Setup, Outside, track_in}
 use Rattle.af_life.specs.TurnEvents.{tracks_at, hand_list, stream_list, command_list}
-use Rattle.af_model.specs.History.{Moment, by_hand}
+use Rattle.af_model.specs.History.{Moment, by_hand, by_server}
 use Rattle.af_model.specs.Journals.{RoundSeen}
 use Rattle.af_runs.specs.Found.{TurnFound, outside_of}
 use Rattle.af_runs.specs.Rounds.{loaded, turned}
@@ -14,10 +15,11 @@ use Rattle.af_runs.specs.Runs.{Run, TrackTold, told_at, no_track, with_turn, wit
 use Rattle.af_runs.specs.Sessions.{Session, setup_of}
 use Rattle.af_runs.specs.TurnRuns.{turn_alone}
 use Rattle.af_judge.proofs.EachTrack.{each_at, each_long}
-use Rattle.af_turn_law.specs.Acting.{ActsWhereMet}
+use Rattle.af_turn_law.specs.Acting.{StreamActs, ActsWhereMet}
 use Rattle.af_turn_law.specs.Phased.{IsBlockPhased}
-use Rattle.af_turn_law.proofs.BlockSteps.{Ready, Done, ClientKnows, ServerKnows, told_more, server_done, hand_ready, turn_done}
+use Rattle.af_turn_law.proofs.BlockSteps.{Ready, Done, ClientKnows, ServerKnows, OnlyInvalid, told_more, server_done, hand_ready, turn_done}
 use Rattle.af_turn_law.proofs.PlainLists.{plain_stream_list, plain_command_list}
+use Rattle.af_turn_law.proofs.BlocksTame.{StreamDone, tame_told}
 use Rattle.af_turn_law.proofs.RunBlocks.{RunReady, RunDone, nothing_done}
 
 -- what holds once the hand did something
@@ -36,13 +38,26 @@ hand_done part handed e n told there h = by_end e.ended there
     by_end true there = (h.phased, h.client, h.server)
     by_end false there = hands_done part handed (track_in e n).disabled told there h
 
-none_by : {E : Type 0} (part : Bool) (es : List E) (Other : Type 0) → (es ≡ []) ⊎ ((part ≡ true) × Other) → part ≡ false → es ≡ []
-none_by part es Other (inl none) off = none
-none_by part es Other (inr on) off = absurd (true≢false (sym on.0 ∙ off))
+module _ (s : Session) (f : TurnFound) (e : Turn) (run : Run) (n : ℕ) (es : List ServerEvent) (acts : StreamActs s run f e n es) where
+  -- whoever takes no part in the next meetings does nothing
+  pub none_after : takes_part s (with_turn s f e run) n ≡ false → es ≡ []
+  none_after off = elim acts [
+    | inl none ↦ none
+    | inr does ↦ elim does [
+      | inl (was, on) ↦ absurd (true≢false (sym on ∙ off))
+      | inr (invalid, unseen, on) ↦ absurd (true≢false (sym on ∙ off))
+    ]
+  ]
 
-pub also_by : {E : Type 0} (part : Bool) (es : List E) (Other : Type 0) → (es ≡ []) ⊎ (Other × (part ≡ true)) → part ≡ false → es ≡ []
-also_by part es Other (inl none) off = none
-also_by part es Other (inr on) off = absurd (true≢false (sym on.1 ∙ off))
+  -- and whoever took none in the last ones only sets an INVALID that is unseen
+  only_invalid : takes_part s run n ≡ false → OnlyInvalid es (told_at run n).stream.told
+  only_invalid off = elim acts [
+    | inl none ↦ inl none
+    | inr does ↦ elim does [
+      | inl (was, on) ↦ absurd (true≢false (sym was ∙ off))
+      | inr (invalid, unseen, on) ↦ inr (invalid, unseen)
+    ]
+  ]
 
 run_turned : (s : Session) (f : TurnFound) (e : Turn) (run : Run) → ActsWhereMet s run f e → RunReady s run → RunDone s (with_load e (with_turn s f e run))
 unfolding with_load with_turn
@@ -50,10 +65,12 @@ run_turned s f e run acts h = record {
   streams = λ n low. (let below : n < length run.tracks = (let m = many in omega (arith, low, m)) in
       let es = stream_list c o e (tracks_at c (learnt o) run.normal e n) n in
       let after = takes_part s (with_turn s f e run) n in
-      let by_the_hand = hand_done (takes_part s run n) run.handed e n (told_at run n).stream.told (acts.hands n) (h.streams n below) in
-      subst (λ (t : TrackTold). Done after true t.stream.told) (sym (told n below))
-      (turn_done (takes_part s run n) after (hand_list e n) es (told_at run n).stream.told by_the_hand.0 by_the_hand.1 by_the_hand.2 (plain_stream_list c o e (tracks_at c (learnt o) run.normal e n) n)
-      (also_by after es (takes_part s run n ≡ true) (acts.streams n below)) (none_by (takes_part s run n) es (after ≡ true) (acts.streams n below))));
+      let old = (told_at run n).stream.told in
+      subst (StreamDone after true) (sym (told n below)) (λ tame. (
+      let was = tame_told old (map by_hand (hand_list e n)) (tame_told (told_more old (map by_hand (hand_list e n))) (map by_server es) tame) in
+      let by_the_hand = hand_done (takes_part s run n) run.handed e n old (acts.hands n) (h.streams n below was) in
+      turn_done (takes_part s run n) after (hand_list e n) es old by_the_hand.0 by_the_hand.1 by_the_hand.2 (plain_stream_list c o e (tracks_at c (learnt o) run.normal e n) n)
+      (none_after s f e run n es (acts.streams n below was)) (only_invalid s f e run n es (acts.streams n below was)))));
   commands = λ n low. (let below : n < length run.tracks = (let m = many in omega (arith, low, m)) in
       subst (λ (t : TrackTold). Done true false t.commands.told) (sym (told n below))
       (server_done false (command_list c o e (tracks_at c (learnt o) run.normal e n) n) (told_at run n).commands.told (plain_command_list c o e (tracks_at c (learnt o) run.normal e n) n) (h.commands n below)));

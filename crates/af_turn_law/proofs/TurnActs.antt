@@ -1,10 +1,11 @@
--- In a legal turn that finds no block shut, hands and stream proxies act where they met.
-use Rattle.std.proofs.Common.{◌≡◌, ◌⊎◌, inl, inr, ℕ, ◌<◌, ◌≤◌, ◌==◌, ◌&&◌, ◌||◌, nat_lt, Bool, true, false, true≢false, MatchBool, if◌then◌else◌, filter, List, [], ◌∷◌, ◌++◌, length, map, All, refl, sym, ap, ◌∙◌, subst, arith}
+-- In a legal turn that finds tracks shut as `FindsShutUnseen` says, hands and the stream proxies of the tracks whose stream blocks are tame so far act as `ActsWhereMet` says.
+use Rattle.std.proofs.Common.{◌≡◌, ◌⊎◌, inl, inr, ℕ, ◌<◌, ◌≤◌, ◌&&◌, ◌||◌, nat_lt, Bool, true, false, true≢false, MatchBool, if◌then◌else◌, List, [], ◌∷◌, ◌++◌, length, map, All, refl, sym, ap, ◌∙◌, subst, arith}
 use Rattle.std.specs.List.{flat_map}
 use Rattle.std.proofs.lemmas.Bool.{cases_lt}
 use Rattle.std.proofs.lemmas.List.{get_or_past}
 use Rattle.af_base.specs.declared.event.HandEvent.TheVariants as hand
 use Rattle.af_base.specs.declared.event.ServerEvent.{ServerEvent}
+use Rattle.af_base.specs.declared.event.ServerEvent.TheVariants as server
 use Rattle.af_base.specs.Turn.{Turn, TakeSeen, TrackSeen}
 use Rattle.af_life.specs.declared.kept.Setting.{Setting}
 use Rattle.af_life.specs.declared.kept.TrackKept.{TrackKept}
@@ -21,13 +22,14 @@ use Rattle.af_life.specs.Turn.{after_edits, turn_after, GoesOn}
 use Rattle.af_life.specs.TurnEvents.{tracks_at, invalid, hand_list, mix_events, stream_list}
 use Rattle.af_life.proofs.Lives.{not_yet}
 use Rattle.af_model.specs.Cycles.{cycle_events}
-use Rattle.af_runs.specs.Blocks.{Marks}
+use Rattle.af_runs.specs.Blocks.{Marks, client_list, is_tame}
 use Rattle.af_runs.specs.Found.{TurnFound, LegalTurnBy, outside_of}
-use Rattle.af_runs.specs.Runs.{Run, with_turn, holds, takes_part}
+use Rattle.af_runs.specs.Runs.{Run, told_at, with_turn, holds, takes_part}
 use Rattle.af_runs.specs.Sessions.{Session, setup_of}
 use Rattle.af_judge.proofs.SoundTurns.{Sound, welcomed_at, at_new}
-use Rattle.af_turn_law.specs.Acting.{ActsWhereMet, FindsNoneShut}
+use Rattle.af_turn_law.specs.Acting.{SawNoInvalid, StreamActs, ActsWhereMet, FindsShutUnseen}
 use Rattle.af_turn_law.proofs.MixedHome.{mixed_home}
+use Rattle.af_turn_law.proofs.ShutHome.{is_shut_now, shut_home}
 
 -- what is kept of the normal mixer between two rounds: before it made its hands it is new
 pub record NormalReady (s : Session) (run : Run) : Type 0 where
@@ -95,7 +97,7 @@ part_turned : (s : Session) (f : TurnFound) (e : Turn) (run : Run) (n : ℕ) →
 unfolding with_turn
 part_turned s f e run n home = part_home s (with_turn s f e run) n home
 
-module _ (s : Session) (marks : Marks) (run : Run) (f : TurnFound) (e : Turn) (scales : All (λ (x : Setting). x.scale ≤ 4096) (setup_of s).settings) (t : LegalTurnBy (setup_of s) marks f run.normal e) (kept : NormalReady s run) (unshut : FindsNoneShut s run f e) where
+module _ (s : Session) (marks : Marks) (run : Run) (f : TurnFound) (e : Turn) (scales : All (λ (x : Setting). x.scale ≤ 4096) (setup_of s).settings) (t : LegalTurnBy (setup_of s) marks f run.normal e) (kept : NormalReady s run) (unseen : FindsShutUnseen s run f e) where
   abbrev c : Setup
   c = setup_of s
 
@@ -106,31 +108,46 @@ module _ (s : Session) (marks : Marks) (run : Run) (f : TurnFound) (e : Turn) (s
   same_learnt : learnt t.outside ≡ learnt o
   same_learnt = ap learnt t.found
 
-  abbrev StreamActs : ℕ → List ServerEvent → Type 0
-  StreamActs n es = (es ≡ []) ⊎ ((takes_part s run n ≡ true) × (takes_part s (with_turn s f e run) n ≡ true))
-
-  streams_act : (n : ℕ) → n < length run.tracks → StreamActs n (stream_list c o e (tracks_at c (learnt o) run.normal e n) n)
-  streams_act n low = by_end e.ended refl
+  streams_act : (n : ℕ) → n < length run.tracks → is_tame (told_at run n).stream ≡ true → StreamActs s run f e n (stream_list c o e (tracks_at c (learnt o) run.normal e n) n)
+  streams_act n low tame = by_end e.ended refl
     where
       tracks : List TrackKept
       tracks = tracks_at c (learnt o) run.normal e n
 
-      events : List ServerEvent
-      events = (if is_home (track_at tracks n).holder then invalid (learnt o) (track_in e n) tracks n else []) ++ mix_events c o e.mixes n
+      home : Bool
+      home = is_home (track_at tracks n).holder
 
-      -- it does nothing where nothing was taken
-      still : (h : Bool) → (h ≡ true → invalid (learnt o) (track_in e n) tracks n ≡ []) → filter (λ (take : TakeSeen). take.track == n) e.mixes ≡ [] → (if h then invalid (learnt o) (track_in e n) tracks n else []) ++ mix_events c o e.mixes n ≡ []
-      still true none nothing = (λ i. none refl i ++ mix_events c o e.mixes n) ∙ ap (flat_map (λ (take : TakeSeen). cycle_events (asked c) (o.streams n) take.slot (o.stream_front n))) nothing
-      still false none nothing = ap (flat_map (λ (take : TakeSeen). cycle_events (asked c) (o.streams n) take.slot (o.stream_front n))) nothing
+      shut : Bool
+      shut = is_shut_now (learnt o) (track_in e n) tracks n
 
-      by_end : (b : Bool) → e.ended ≡ b → StreamActs n (if b then [] else events)
+      mixes : List ServerEvent
+      mixes = mix_events c o e.mixes n
+
+      -- it takes part after the turn where it is home and found shut
+      takes_after : e.ended ≡ false → home ≡ true → shut ≡ true → takes_part s (with_turn s f e run) n ≡ true
+      takes_after runs here found =
+          part_turned s f e run n (shut_home c (learnt o) run.normal e n kept.sound runs (λ inside. subst (λ k. LegalTrack c k (track_in e n) (tracks_at c k run.normal e n) n) same_learnt ((t.legal.goes_on runs).tracks n inside)) here found)
+
+      by_shut : e.ended ≡ false → home ≡ true → mixes ≡ [] → (b : Bool) → shut ≡ b → ((if b then server.SetFlags 4 ∷ [] else []) ≡ []) ⊎ ((takes_part s run n ≡ true) ⊎ SawNoInvalid (client_list (told_at run n).stream))
+          → StreamActs s run f e n ((if b then server.SetFlags 4 ∷ [] else []) ++ mixes)
+      by_shut runs here nothing false found finds = inl nothing
+      by_shut runs here nothing true found (inl none) = absurd (let z : ⊥ = (let n : length (server.SetFlags 4 ∷ []) ≡ 0 = ap length none in omega (arith, n)) in z)
+      by_shut runs here nothing true found (inr (inl part)) = inr (inl (part, takes_after runs here found))
+      by_shut runs here nothing true found (inr (inr saw)) = inr (inr (ap (λ es. server.SetFlags 4 ∷ es) nothing, saw, takes_after runs here found))
+
+      -- it does no more than INVALID where nothing was taken
+      still : e.ended ≡ false → mixes ≡ [] → (b : Bool) → home ≡ b → StreamActs s run f e n ((if b then invalid (learnt o) (track_in e n) tracks n else []) ++ mixes)
+      still runs nothing false here = inl nothing
+      still runs nothing true here = by_shut runs here nothing shut refl (unseen runs n low tame here)
+
+      by_end : (b : Bool) → e.ended ≡ b → StreamActs s run f e n (if b then [] else ((if home then invalid (learnt o) (track_in e n) tracks n else []) ++ mixes))
       by_end true is = inl refl
       by_end false is =
           let due : map (λ (take : TakeSeen). take.track) e.mixes ≡ tracks_due c e.room (after_edits c (learnt o) e run.normal).tracks =
           (t.legal.goes_on is).due ∙ ap (λ k. tracks_due c e.room (after_edits c k e run.normal).tracks) same_learnt in
           elim (mixed_home c scales (learnt o) run.normal e n (let l = kept.long in omega (arith, l)) kept.sound is due) [
-            | inl nothing ↦ inl (still (is_home (track_at tracks n).holder) (unshut is n low) nothing)
-            | inr home ↦ inr (part_home s run n home.0, part_turned s f e run n home.1)
+            | inl nothing ↦ still is (ap (flat_map (λ (take : TakeSeen). cycle_events (asked c) (o.streams n) take.slot (o.stream_front n))) nothing) home refl
+            | inr both ↦ inr (inl (part_home s run n both.0, part_turned s f e run n both.1))
           ]
 
   hands_act : (n : ℕ) → (hand_list e n ≡ []) ⊎ (run.handed ≡ true)

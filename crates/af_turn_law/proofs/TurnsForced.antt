@@ -10,7 +10,7 @@ use Rattle.af_life.proofs.Lives.{turn_len}
 use Rattle.af_model.specs.Journals.{EntrySeen, RoundSeen}
 use Rattle.af_script.specs.declared.op.TurnSpec.{TurnSpec}
 use Rattle.af_script.specs.declared.op.TurnSpec.TheVariants as makes
-use Rattle.af_runs.specs.Blocks.{Marks}
+use Rattle.af_runs.specs.Blocks.{Marks, is_tame}
 use Rattle.af_runs.specs.Clients.{ends}
 use Rattle.af_runs.specs.Found.{LegalTurnBy, outside_of}
 use Rattle.af_runs.specs.Rounds.{HaveHistories, LegalTurnIn, loaded, turned}
@@ -18,8 +18,8 @@ use Rattle.af_runs.specs.Runs.{Run, TrackTold, no_track, told_at, each_track, wi
 use Rattle.af_runs.specs.Sessions.{Session, cycle_frames, setup_of}
 use Rattle.af_runs.specs.TurnRuns.{cycle_alone, turn_alone, calls_alone, made_alone, met_alone, IsMadeBy, SeesAllBefore, AreTurns}
 use Rattle.af_judge.proofs.SoundTurns.{Sound, sound_turn}
-use Rattle.af_turn_law.specs.Acting.{FindsNoneShut}
-use Rattle.af_turn_law.specs.ListTurns.{AreListTurns, FindNoneShut}
+use Rattle.af_turn_law.specs.Acting.{FindsShutUnseen}
+use Rattle.af_turn_law.specs.ListTurns.{AreListTurns, FindShutUnseen}
 use Rattle.af_turn_law.specs.Phased.{IsBlockPhased}
 use Rattle.af_turn_law.proofs.BlockForced.{block_forced}
 use Rattle.af_turn_law.proofs.Marked.{by_flag}
@@ -94,18 +94,18 @@ module _ (s : Session) (marks : Marks) (scales : All (λ (x : Setting). x.scale 
   unfolding met
   queue_told made shared h = (legal_parts queued.legal queued.next (begin s) made.queue _ (queue_forced (cycle_frames s) (met s made).queue (shared_met s made shared).queue.phased h.shared.queue)).0
 
-  made_so : (run : Run) (turn : TurnSpec) (round : RoundSeen) → TurnsReady s run → IsMadeBy s marks run turn round → HaveHistories s (met_alone s run turn round) → ((e : Turn) → round.turn ≡ Some e → FindsNoneShut s run (found_before s run [] e) e) → MadeSo (made_alone s run turn round)
-  made_so run (makes.Client track) round h made histories unshut = record {
+  made_so : (run : Run) (turn : TurnSpec) (round : RoundSeen) → TurnsReady s run → IsMadeBy s marks run turn round → HaveHistories s (met_alone s run turn round) → ((e : Turn) → round.turn ≡ Some e → FindsShutUnseen s run (found_before s run [] e) e) → MadeSo (made_alone s run turn round)
+  made_so run (makes.Client track) round h made histories unseen = record {
     blocks = run_calls s track round run h.blocks;
     shared = shared_calls track round run h.shared;
     normal = normal_same s run (calls_alone track round run) refl refl h.normal;
   }
-  made_so run makes.Normal round h made histories unshut = record {
-    blocks = run_turn s round run (λ e is. acts s marks run (found_before s run [] e) e scales (turn_by run round e is made.2) h.normal (unshut e is)) h.blocks;
+  made_so run makes.Normal round h made histories unseen = record {
+    blocks = run_turn s round run (λ e is. acts s marks run (found_before s run [] e) e scales (turn_by run round e is made.2) h.normal (unseen e is)) h.blocks;
     shared = shared_turn s round run h.shared;
     normal = normal_turned s round run scales h.normal;
   }
-  made_so run (makes.Fast cycles) round h made histories unshut =
+  made_so run (makes.Fast cycles) round h made histories unseen =
       let shared : SharedDone (fold (cycle_alone s) run round.entries) = shared_mixed (fold (cycle_alone s) run round.entries) (shared_cycles s round.entries run (shared_rest run h.shared)) in
       let same = cycles_same s round.entries run in
       record {
@@ -114,37 +114,37 @@ module _ (s : Session) (marks : Marks) (scales : All (λ (x : Setting). x.scale 
         normal = normal_same s run (fold (cycle_alone s) run round.entries) same.0 same.1 h.normal;
       }
 
-  -- all blocks are told in phases, also those of tracks that aren't there
-  all_phased : (run : Run) (n : ℕ) → RunReady s run → IsBlockPhased (told_at run n).stream.told × IsBlockPhased (told_at run n).commands.told
+  -- the blocks are told in phases, also those of tracks that aren't there
+  all_phased : (run : Run) (n : ℕ) → RunReady s run → (is_tame (told_at run n).stream ≡ true → IsBlockPhased (told_at run n).stream.told) × IsBlockPhased (told_at run n).commands.told
   all_phased run n h = elim (cases_lt n (length run.tracks)) [
-    | inl low ↦ ((h.streams n low).phased, (h.commands n low).phased)
+    | inl low ↦ (λ tame. (h.streams n low tame).phased, (h.commands n low).phased)
     | inr high ↦ (let none : told_at run n ≡ no_track = get_or_past run.tracks n no_track high in
-        subst (λ (t : TrackTold). IsBlockPhased t.stream.told × IsBlockPhased t.commands.told) (sym none) (tt, tt))
+        subst (λ (t : TrackTold). (is_tame t.stream ≡ true → IsBlockPhased t.stream.told) × IsBlockPhased t.commands.told) (sym none) (λ tame. tt, tt))
   ]
 
   sees_all : (run : Run) → RunReady s run → SharedReady run → HaveHistories s run → SeesAllBefore s run
   sees_all run blocks shared h = record {
-    streams = λ n there part tame. block_forced (told_at run n).stream (all_phased run n blocks).0 ((h.blocks n there).stream part tame);
+    streams = λ n there part tame. block_forced (told_at run n).stream ((all_phased run n blocks).0 tame) ((h.blocks n there).stream part tame);
     commands = λ n there tame. block_forced (told_at run n).commands (all_phased run n blocks).1 ((h.blocks n there).commands refl tame);
     queue = queue_forced (cycle_frames s) run.queue shared.queue.phased h.shared.queue;
     report = report_forced run.report shared.report.phased h.shared.report;
     pipe = pipe_forced (pipe_size (setup_of s)) run.pipe shared.pipe.phased h.shared.pipe;
   }
 
-  pub round_forced : (run : Run) (turn : TurnSpec) (round : RoundSeen) → TurnsReady s run → IsMadeBy s marks run turn round → HaveHistories s (met_alone s run turn round) → ((e : Turn) → round.turn ≡ Some e → FindsNoneShut s run (found_before s run [] e) e)
+  pub round_forced : (run : Run) (turn : TurnSpec) (round : RoundSeen) → TurnsReady s run → IsMadeBy s marks run turn round → HaveHistories s (met_alone s run turn round) → ((e : Turn) → round.turn ≡ Some e → FindsShutUnseen s run (found_before s run [] e) e)
       → SeesAllBefore s (met_alone s run turn round) × TurnsReady s (with_ends (met_alone s run turn round))
-  round_forced run turn round h made histories unshut =
+  round_forced run turn round h made histories unseen =
       let m = made_alone s run turn round in
-      let so = made_so run turn round h made histories unshut in
+      let so = made_so run turn round h made histories unseen in
       let blocks = run_met s m so.blocks in
       let shared = shared_met s m so.shared in
       (sees_all (met s m) blocks shared histories, record { blocks = run_ends s (met s m) blocks; shared = shared_ends (met s m) shared; normal = normal_met s m so.normal })
 
   -- ## All rounds
 
-  pub turns_forced : (turns : List TurnSpec) (rounds : List RoundSeen) (run : Run) → TurnsReady s run → AreListTurns s marks run turns rounds → FindNoneShut s run turns rounds → AreTurns s marks run turns rounds
-  turns_forced [] rounds run h are unshut = are
-  turns_forced (turn ∷ turns) [] run h are unshut = are
-  turns_forced (turn ∷ turns) (round ∷ rounds) run h are unshut =
-      let one = round_forced run turn round h are.0 are.1 unshut.0 in
-      (are.0, one.0, turns_forced turns rounds (with_ends (met_alone s run turn round)) one.1 are.2 unshut.1)
+  pub turns_forced : (turns : List TurnSpec) (rounds : List RoundSeen) (run : Run) → TurnsReady s run → AreListTurns s marks run turns rounds → FindShutUnseen s run turns rounds → AreTurns s marks run turns rounds
+  turns_forced [] rounds run h are unseen = are
+  turns_forced (turn ∷ turns) [] run h are unseen = are
+  turns_forced (turn ∷ turns) (round ∷ rounds) run h are unseen =
+      let one = round_forced run turn round h are.0 are.1 unseen.0 in
+      (are.0, one.0, turns_forced turns rounds (with_ends (met_alone s run turn round)) one.1 are.2 unseen.1)

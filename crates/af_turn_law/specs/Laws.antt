@@ -8,7 +8,7 @@ use Rattle.af_runs.specs.Runs.{new_run}
 use Rattle.af_runs.specs.Sessions.{Session}
 use Rattle.af_runs.specs.Told.{QueueTold, ReportTold, PipeTold, HasQueueHistory, IsQueueAsTold, HasReportHistory, IsReportAsTold, HasPipeTold, IsPipeAsTold}
 use Rattle.af_runs.specs.TurnRuns.{AreTurns}
-use Rattle.af_turn_law.specs.ListTurns.{AreListTurns, FindNoneShut}
+use Rattle.af_turn_law.specs.ListTurns.{AreListTurns, FindShutUnseen}
 use Rattle.af_turn_law.specs.Marking.{client_marks, server_marks, mutator_marks, observer_marks, writer_marks, reader_marks}
 use Rattle.af_turn_law.specs.Phased.{IsPhased, IsBlockPhased}
 
@@ -26,4 +26,4 @@ BlockIsAsTold b = IsBlockPhased b.told → HasBlockHistory b → IsHistoryAsTold
 
 -- from the beginning of a run of a script
 abbrev pub ListTurnsAreTurns : Session → Marks → List TurnSpec → List RoundSeen → Type 0
-ListTurnsAreTurns s marks turns rounds = IsScript s.script → AreListTurns s marks (new_run s) turns rounds → FindNoneShut s (new_run s) turns rounds → AreTurns s marks (new_run s) turns rounds
+ListTurnsAreTurns s marks turns rounds = IsScript s.script → AreListTurns s marks (new_run s) turns rounds → FindShutUnseen s (new_run s) turns rounds → AreTurns s marks (new_run s) turns rounds

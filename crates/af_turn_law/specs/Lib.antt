@@ -1,5 +1,5 @@
 pub mod Marking
-pub mod Phased
 pub mod Acting
+pub mod Phased
 pub mod ListTurns
 pub mod Laws

@@ -19,7 +19,7 @@ pub fn a_block_told_in_phases_is_as_told()
     ensures { (b : BlockTold) → BlockIsAsTold b }
 {}
 
-/// Turns after each of which all lists have histories, and none of which finds a block shut, are those of a turn run: each event sees what all events before it left.
+/// Turns after each of which all lists have histories are those of a turn run, in which each event sees what all events before it left: so long as no turn finds a track shut whose stream block is tame so far, but where its proxy took part in the last meetings or its client saw no INVALID so far.
 pub fn turns_whose_lists_have_histories_are_a_turn_run()
     ensures { (s : Session) (marks : Marks) (turns : List TurnSpec) (rounds : List RoundSeen) → ListTurnsAreTurns s marks turns rounds }
 {}

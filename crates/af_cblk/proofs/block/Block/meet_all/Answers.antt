@@ -20,11 +20,11 @@ returns-clause-history g c = λ ok.
     let v = c.bring_hand.new.to.me.0 in
     let after = subst (λ m. is_lawful m.0.client.events ≡ true) (sym learnt) (lawful_more v.client.events (client.Learn (length v.server.events)) refl (subst (λ es. is_lawful es ≡ true) (sym before) ok)) in
     let told = c.learn_hand.ensures.history after in
-    let his = told.3 (ap (λ m. m.0.is_server) learnt ∙ ap (λ m. m.0.is_server) all ∙ ap (λ m. m.0.is_server) two ∙ c.server.invariant.0) in
+    let has = ap (λ m. m.0.is_server) learnt ∙ ap (λ m. m.0.is_server) all ∙ ap (λ m. m.0.is_server) two ∙ c.server.invariant.0 in
     let base = ap (λ m. m.0.client.shape) learnt ∙ ap (λ m. m.0.client.shape) all ∙ ap (λ m. m.0.client.shape) two ∙ ap (λ (m : Made). m.shape) (ap client_made c.client.view_is ∙ c.requires.client) in
     let client_out = ap (λ m. m.0.client) out.alone ∙ ap (λ m. m.0.client) hand.rest ∙ ap (λ m. m.0.client) last in
     let server_out = ap (λ m. m.0.server) out.rest ∙ ap (λ m. m.0.server) hand.rest ∙ ap (λ m. m.0.server) last in
-    met _ _ _ _ c.learn_both.new.seat.me.0.client c.learn_both.new.seat.me.0.server c.learn_hand.new.seat.me.0.hand _ _ _ base his.0 his.1 (sym client_out) (sym server_out) (sym (ap (λ m. m.0.hand) hand.alone)) told.4
+    met _ _ _ _ c.learn_both.new.seat.me.0.client c.learn_both.new.seat.me.0.server c.learn_hand.new.seat.me.0.hand _ _ _ base (c.learn_hand.ensures.known has) (told.2 has) (sym client_out) (sym server_out) (sym (ap (λ m. m.0.hand) hand.alone)) told.3
 
 pub invariant_of-client : goal.invariant_of-client
 invariant_of-client g c =

@@ -1,8 +1,6 @@
--- What holds of a track on whose blocks nothing was poked, through each step of a turn run: its server is not shut while it takes part in no meeting.
-use Rattle.std.proofs.Common.{◌≡◌, inl, ℕ, ◌≤◌, Bool, true, false, true≢false, map, List, [], ◌∷◌, ◌++◌, drop, length, Option, Some, None, refl, sym, ap, ◌∙◌, subst, append-nil}
-use Rattle.std.specs.List.{list_any}
+-- What holds of a track through each step of a turn run: while its stream block is tame, its server is not shut where it takes part in no meeting.
+use Rattle.std.proofs.Common.{◌≡◌, inl, ℕ, ◌≤◌, Bool, true, false, true≢false, map, List, [], ◌++◌, drop, length, Option, Some, None, refl, sym, ap, ◌∙◌, subst, append-nil}
 use Rattle.af_base.specs.declared.event.ClientCall.{ClientCall}
-use Rattle.af_base.specs.declared.event.ClientEvent.TheVariants as client
 use Rattle.af_base.specs.declared.event.HandEvent.{HandEvent}
 use Rattle.af_base.specs.declared.event.ServerEvent.{ServerEvent}
 use Rattle.af_base.specs.declared.state.FastState.{FastState}
@@ -12,32 +10,29 @@ use Rattle.af_life.specs.Kept.{NormalKept, Outside, Setup}
 use Rattle.af_life.specs.Turn.{LegalTurn}
 use Rattle.af_life.specs.TurnEvents.{hand_list, stream_list, tracks_at}
 use Rattle.af_model.specs.Cycles.{kept}
-use Rattle.af_model.specs.History.{by_hand}
+use Rattle.af_model.specs.History.{by_client, by_hand, by_server}
 use Rattle.af_model.specs.JournalForm.{TracksRise}
 use Rattle.af_model.specs.Journals.{EntrySeen}
 use Rattle.af_model.specs.ServerCalls.{server_kept}
 use Rattle.af_model.specs.declared.shape.Shape.{Shape}
-use Rattle.af_model.proofs.RoomKept.{never_corrupt, never_shut}
-use Rattle.af_runs.specs.Blocks.{BlockTold, HasBlockHistory, client_list, listed, meets, server_list}
+use Rattle.af_runs.specs.Blocks.{BlockTold, HasBlockHistory, client_list, is_tame, listed, meets, server_list}
 use Rattle.af_runs.specs.Clients.{ends}
 use Rattle.af_runs.specs.ClientTurns.{LegalClientTurn, Track, after_calls}
 use Rattle.af_runs.specs.Found.{TurnFound, outside_of}
-use Rattle.af_runs.specs.LegalRuns.{is_poke_on}
 use Rattle.af_runs.specs.Runs.{TrackTold, called, mixed_track, played, sides_of, slot_for, stream_met, turned_track}
 use Rattle.af_runs.specs.Sessions.{Session, cycle_frames}
 use Rattle.af_judge.specs.Tracks.{AreSpelled, IsSpelled}
 use Rattle.af_judge.proofs.BlocksTold.{client-server}
 use Rattle.af_judge.proofs.Spelled.{spelled_turn, spelled_met}
 use Rattle.af_judge.proofs.TracksTold.{sides_called, shapes_called}
-use Rattle.af_audit.proofs.FileReleased.{IsFromFile, calls_from_file, lawful_join}
 use Rattle.af_audit.proofs.RearsSeen.{server_unshut}
 use Rattle.af_audit.proofs.SidesKept.{sides_mixed, sides_turned}
 use Rattle.af_audit.proofs.TrackStands.{hand-server, server-server, told_more}
-use Rattle.af_audit.proofs.TrackUnshut.{IsTrim, IsUnshut, trim_called, trim_ended, trim_met, trim_mixed, trim_turned}
+use Rattle.af_audit.proofs.TrackUnshut.{IsTrim, trim_called, trim_ended, trim_met, trim_mixed, trim_turned}
+use Rattle.af_turn_law.proofs.BlocksTame.{tame_told}
 
--- a client that poked nothing on its stream block, and whose lists are spelled by calls
+-- a client whose lists are spelled by calls
 pub record IsCalmClient (t : Track) : Type 0 where
-  pub from_file : IsFromFile t
   pub spelled : AreSpelled t
   pub stream : t.stream.shape.frames ≤ 65536
   pub commands : t.commands.shape.frames ≤ 65536
@@ -46,49 +41,53 @@ pub record IsCalmClient (t : Track) : Type 0 where
 abbrev pub IsOpenBlock : BlockTold → Type 0
 IsOpenBlock b = (kept (listed b)).shut ≡ None
 
+-- nor that of a stream block, if it is tame so far
+abbrev pub IsOpenStream : TrackTold → Type 0
+IsOpenStream t = is_tame t.stream ≡ true → IsOpenBlock t.stream
+
 -- of a track, whose stream proxy takes part in the meetings or not
 pub record TrackCalm (part : Bool) (t : TrackTold) : Type 0 where
-  pub trim : IsTrim true t
+  pub trim : IsTrim false t
   pub client : IsCalmClient (sides_of t)
-  pub unshut : part ≡ false → IsOpenBlock t.stream
+  pub unshut : part ≡ false → IsOpenStream t
 
 -- ## Steps
 
 calm_sides : (t u : Track) → t ≡ u → IsCalmClient u → IsCalmClient t
 calm_sides t u same h = subst IsCalmClient (sym same) h
 
-pub calm_called : (part : Bool) (calls : List ClientCall) (t : TrackTold) → list_any (is_poke_on false) calls ≡ false → list_any (is_poke_on true) calls ≡ false → LegalClientTurn (sides_of t) calls → TrackCalm part t → TrackCalm part (called calls t)
-calm_called part calls t no_stream no_commands legal h =
+pub calm_called : (part : Bool) (calls : List ClientCall) (t : TrackTold) → LegalClientTurn (sides_of t) calls → TrackCalm part t → TrackCalm part (called calls t)
+calm_called part calls t legal h =
+    let es = drop (length (client_list t.stream)) (after_calls (sides_of t) calls).stream.events in
     let shapes = shapes_called (sides_of t) calls in
     let c = h.client in
     record {
-      trim = trim_called true calls t (λ on. no_commands) h.trim;
+      trim = trim_called false calls t (λ on. absurd (true≢false (sym on))) h.trim;
       client = calm_sides (sides_of (called calls t)) (after_calls (sides_of t) calls) (sides_called t calls) (record {
-        from_file = calls_from_file (sides_of t) calls no_stream c.from_file;
         spelled = spelled_turn (sides_of t) calls c.spelled legal;
         stream = subst (λ (k : Shape). k.frames ≤ 65536) (sym shapes.0) c.stream;
         commands = subst (λ (k : Shape). k.frames ≤ 65536) (sym shapes.1) c.commands;
       });
-      unshut = λ off. subst (λ es. (server_kept t.stream.shape es).shut ≡ None) (sym (client-server t.stream.told (drop (length (client_list t.stream)) (after_calls (sides_of t) calls).stream.events))) (h.unshut off);
+      unshut = λ off tame. subst (λ es. (server_kept t.stream.shape es).shut ≡ None) (sym (client-server t.stream.told es)) (h.unshut off (tame_told t.stream.told (map by_client es) tame));
     }
 
 pub calm_mixed : (part : Bool) (s : Session) (x : FastState) (e : EntrySeen) (n : ℕ) (t : TrackTold) → ((i : ℕ) → slot_for x e.entry n ≡ Some i → part ≡ true) → TrackCalm part t → TrackCalm part (mixed_track s x e n t)
 calm_mixed part s x e n t parts h = record {
-  trim = trim_mixed true s x e n t h.trim;
+  trim = trim_mixed false s x e n t h.trim;
   client = calm_sides (sides_of (mixed_track s x e n t)) (sides_of t) (sides_mixed s x e n t) h.client;
   unshut = by_slot (slot_for x e.entry n) parts;
 }
   where
-    by_slot : (o : Option ℕ) → ((i : ℕ) → o ≡ Some i → part ≡ true) → part ≡ false → IsOpenBlock (let u : TrackTold = elim o as (λ o. TrackTold) [ None ↦ t | Some i ↦ record t { stream = played (cycle_frames s) e i t.stream } ] in u.stream)
+    by_slot : (o : Option ℕ) → ((i : ℕ) → o ≡ Some i → part ≡ true) → part ≡ false → IsOpenStream (elim o as (λ o. TrackTold) [ None ↦ t | Some i ↦ record t { stream = played (cycle_frames s) e i t.stream } ])
     by_slot None parts off = h.unshut off
     by_slot (Some i) parts off = absurd (true≢false (sym (parts i refl) ∙ off))
 
 pub calm_turned : (part after : Bool) (c : Setup) (f : TurnFound) (m : NormalKept) (e : Turn) (o : Outside) (n : ℕ) (t : TrackTold) → o ≡ record (outside_of c f e) { stream_front = o.stream_front; command_fronts = o.command_fronts } → TracksRise 0 e.mixes → LegalTurn c o m e
-    → f.streams n ≡ t.stream → f.commands n ≡ t.commands → (after ≡ false → stream_list c (outside_of c f e) e (tracks_at c (learnt (outside_of c f e)) m e n) n ≡ []) → IsOpenBlock t.stream → TrackCalm part t → TrackCalm after (turned_track c (outside_of c f e) m e n t)
+    → f.streams n ≡ t.stream → f.commands n ≡ t.commands → (after ≡ false → is_tame t.stream ≡ true → stream_list c (outside_of c f e) e (tracks_at c (learnt (outside_of c f e)) m e n) n ≡ []) → IsOpenStream t → TrackCalm part t → TrackCalm after (turned_track c (outside_of c f e) m e n t)
 calm_turned part after c f m e o n t found rise legal streams commands rests is_open h = record {
-  trim = subst (λ (u : TrackTold). IsTrim true (turned_track c told m e n u)) is (trim_turned c f m e o n found rise legal t true (subst (IsTrim true) (sym is) h.trim));
+  trim = subst (λ (u : TrackTold). IsTrim false (turned_track c told m e n u)) is (trim_turned c f m e o n found rise legal t false (subst (IsTrim false) (sym is) h.trim));
   client = calm_sides (sides_of (turned_track c told m e n t)) (sides_of t) (sides_turned c told m e n t) h.client;
-  unshut = λ off. subst (λ l. (server_kept t.stream.shape l).shut ≡ None) (sym (server-server (told_more t.stream.told (map by_hand hs)) es ∙ (λ i. hand-server t.stream.told hs i ++ rests off i) ∙ append-nil (server_list t.stream))) is_open;
+  unshut = λ off tame. subst (λ l. (server_kept t.stream.shape l).shut ≡ None) (sym (server-server (told_more t.stream.told (map by_hand hs)) es ∙ (λ i. hand-server t.stream.told hs i ++ rests off (was tame) i) ∙ append-nil (server_list t.stream))) (is_open (was tame));
 }
   where
     told : Outside
@@ -103,40 +102,34 @@ calm_turned part after c f m e o n t found rise legal streams commands rests is_
     is : record t { stream = f.streams n; commands = f.commands n } ≡ t
     is = λ i. record t { stream = streams i; commands = commands i }
 
+    was : is_tame (turned_track c told m e n t).stream ≡ true → is_tame t.stream ≡ true
+    was tame = tame_told t.stream.told (map by_hand hs) (tame_told (told_more t.stream.told (map by_hand hs)) (map by_server es) tame)
+
 client_met : (there hands : Bool) (t : TrackTold) → IsCalmClient (sides_of t) → IsCalmClient (sides_of (record t { stream = stream_met there hands t.stream; commands = meets t.commands }))
 client_met there hands t h = by_meeting there hands (spelled_met there hands t.stream h.spelled.stream)
   where
-    learnt_more : IsFromFile (record (sides_of t) { stream = record (sides_of t).stream { events = client_list t.stream ++ client.Learn (length (server_list t.stream)) ∷ [] } })
-    learnt_more = record { begins = h.from_file.begins; tame = lawful_join (client_list t.stream) (client.Learn (length (server_list t.stream)) ∷ []) h.from_file.tame refl }
-
     by_meeting : (there hands : Bool) → IsSpelled t.stream.shape (client_list (stream_met there hands t.stream)) → IsCalmClient (sides_of (record t { stream = stream_met there hands t.stream; commands = meets t.commands }))
-    by_meeting true true spelled = record { from_file = record { begins = learnt_more.begins; tame = learnt_more.tame }; spelled = record { stream = spelled; commands = spelled_met true false t.commands h.spelled.commands }; stream = h.stream; commands = h.commands }
-    by_meeting true false spelled = record { from_file = record { begins = learnt_more.begins; tame = learnt_more.tame }; spelled = record { stream = spelled; commands = spelled_met true false t.commands h.spelled.commands }; stream = h.stream; commands = h.commands }
-    by_meeting false true spelled = record { from_file = record { begins = h.from_file.begins; tame = h.from_file.tame }; spelled = record { stream = spelled; commands = spelled_met true false t.commands h.spelled.commands }; stream = h.stream; commands = h.commands }
-    by_meeting false false spelled = record { from_file = record { begins = h.from_file.begins; tame = h.from_file.tame }; spelled = record { stream = spelled; commands = spelled_met true false t.commands h.spelled.commands }; stream = h.stream; commands = h.commands }
+    by_meeting true true spelled = record { spelled = record { stream = spelled; commands = spelled_met true false t.commands h.spelled.commands }; stream = h.stream; commands = h.commands }
+    by_meeting true false spelled = record { spelled = record { stream = spelled; commands = spelled_met true false t.commands h.spelled.commands }; stream = h.stream; commands = h.commands }
+    by_meeting false true spelled = record { spelled = record { stream = spelled; commands = spelled_met true false t.commands h.spelled.commands }; stream = h.stream; commands = h.commands }
+    by_meeting false false spelled = record { spelled = record { stream = spelled; commands = spelled_met true false t.commands h.spelled.commands }; stream = h.stream; commands = h.commands }
 
 pub calm_met : (part hands : Bool) (t : TrackTold) → TrackCalm part t → TrackCalm part (record t { stream = stream_met part hands t.stream; commands = meets t.commands })
-calm_met part hands t h = record { trim = trim_met true part hands t h.trim; client = client_met part hands t h.client; unshut = by_meeting part hands h.unshut }
+calm_met part hands t h = record { trim = trim_met false part hands t h.trim; client = client_met part hands t h.client; unshut = by_meeting part hands h.unshut }
   where
-    by_meeting : (part hands : Bool) → (part ≡ false → IsOpenBlock t.stream) → part ≡ false → IsOpenBlock (stream_met part hands t.stream)
+    by_meeting : (part hands : Bool) → (part ≡ false → IsOpenStream t) → part ≡ false → is_tame (stream_met part hands t.stream) ≡ true → IsOpenBlock (stream_met part hands t.stream)
     by_meeting true hands is off = absurd (true≢false off)
     by_meeting false true is off = is off
     by_meeting false false is off = is off
 
 pub calm_ended : (part : Bool) (t : TrackTold) → TrackCalm part t → TrackCalm part (record t { client = ends t.client })
-calm_ended part t h = record { trim = trim_ended true t h.trim; client = record { from_file = record { begins = h.client.from_file.begins; tame = h.client.from_file.tame }; spelled = record { stream = h.client.spelled.stream; commands = h.client.spelled.commands }; stream = h.client.stream; commands = h.client.commands }; unshut = h.unshut }
+calm_ended part t h = record { trim = trim_ended false t h.trim; client = record { spelled = record { stream = h.client.spelled.stream; commands = h.client.spelled.commands }; stream = h.client.stream; commands = h.client.commands }; unshut = h.unshut }
 
 -- who takes part changes nothing where the server isn't shut
-pub calm_first : (part after : Bool) (t : TrackTold) → IsOpenBlock t.stream → TrackCalm part t → TrackCalm after t
+pub calm_first : (part after : Bool) (t : TrackTold) → IsOpenStream t → TrackCalm part t → TrackCalm after t
 calm_first part after t is h = record { trim = h.trim; client = h.client; unshut = λ off. is }
 
 -- ## Blocks that have histories
 
 pub stream_open : (part : Bool) (t : TrackTold) → TrackCalm part t → HasBlockHistory t.stream → IsOpenBlock t.stream
 stream_open part t h history = server_unshut t.stream h.client.stream history h.client.spelled.stream h.trim.rears
-
-pub commands_unshut : (part : Bool) (t : TrackTold) → TrackCalm part t → HasBlockHistory t.commands → IsUnshut true t
-commands_unshut part t h history = record {
-  client = never_corrupt t.commands.shape h.client.commands history h.client.spelled.commands;
-  server = never_shut t.commands.shape h.client.commands history h.client.spelled.commands (inl (ap (λ (k : Shape). k.wrap) h.trim.shape));
-}

@@ -1,7 +1,6 @@
--- All tracks of a turn run without pokes stay calm: what each step leaves of them.
+-- All tracks of a turn run stay calm: what each step leaves of them.
 use Rattle.std.proofs.Common.{◌≡◌, ℕ, ◌<◌, ◌==◌, Bool, true, false, if◌then◌else◌, fold, List, [], ◌∷◌, length, refl, sym, ap, ◌∙◌, subst, arith, eqb-true}
 use Rattle.std.specs.Prelude.{slice_index_or}
-use Rattle.std.specs.List.{list_any}
 use Rattle.af_base.specs.Turn.{Turn}
 use Rattle.af_life.specs.Heard.{learnt}
 use Rattle.af_life.specs.TurnEvents.{tracks_at, stream_list}
@@ -11,7 +10,6 @@ use Rattle.af_runs.specs.Blocks.{Marks}
 use Rattle.af_runs.specs.Clients.{ends}
 use Rattle.af_runs.specs.ClientTurns.{LegalClientTurn}
 use Rattle.af_runs.specs.Found.{LegalTurnBy, outside_of}
-use Rattle.af_runs.specs.LegalRuns.{is_poke_on}
 use Rattle.af_runs.specs.Runs.{Run, TrackTold, no_track, told_at, each_from, each_track, called, calls_in, sides_of, state_for, mixed_track, turned_track, track_met, with_poll, with_mix, with_turn, with_load, with_ends, found_before, met, takes_part}
 use Rattle.af_runs.specs.Sessions.{Session, track_count, setup_of}
 use Rattle.af_runs.specs.TurnRuns.{cycle_alone, calls_alone}
@@ -19,16 +17,16 @@ use Rattle.af_judge.proofs.EachTrack.{each_long, told_each}
 use Rattle.af_turn_law.specs.Acting.{ActsWhereMet}
 use Rattle.af_turn_law.proofs.RunBlocks.{part_at, PlaysParts, holds_played}
 use Rattle.af_turn_law.proofs.RunPolls.{AllFind, same_current}
-use Rattle.af_turn_law.proofs.RunTurns.{also_by}
-use Rattle.af_turn_tame.proofs.TrackCalm.{TrackCalm, IsOpenBlock, calm_called, calm_mixed, calm_turned, calm_met, calm_ended, calm_first}
+use Rattle.af_turn_law.proofs.RunTurns.{none_after}
+use Rattle.af_render_law.proofs.TrackCalm.{TrackCalm, IsOpenStream, calm_called, calm_mixed, calm_turned, calm_met, calm_ended, calm_first}
 
 pub record RunCalm (s : Session) (run : Run) : Type 0 where
   pub many : length run.tracks ≡ track_count s
   pub tracks : (n : ℕ) → n < length run.tracks → TrackCalm (takes_part s run n) (told_at run n)
 
--- no server of a stream block is shut
+-- no server of a stream block that is tame so far is shut
 abbrev pub AllOpen : Run → Type 0
-AllOpen run = (n : ℕ) → n < length run.tracks → IsOpenBlock (told_at run n).stream
+AllOpen run = (n : ℕ) → n < length run.tracks → IsOpenStream (told_at run n)
 
 -- each track is changed by its number
 calm_each : (s : Session) (run after : Run) (change : ℕ → TrackTold → TrackTold) → after.tracks ≡ each_from change 0 run.tracks → length run.tracks ≡ track_count s
@@ -60,18 +58,17 @@ open_ends run h = by_end run.normal.ended
   where
     by_end : (b : Bool) → AllOpen (if b then each_track (λ track t. record t { client = ends t.client }) run else run)
     by_end true = λ n low. (let below : n < length run.tracks = (let l = each_long (λ track t. record t { client = ends t.client }) 0 run.tracks in omega (arith, low, l)) in
-        subst (λ (t : TrackTold). IsOpenBlock t.stream) (sym (told_each (λ track t. record t { client = ends t.client }) run n below)) (h n below))
+        subst IsOpenStream (sym (told_each (λ track t. record t { client = ends t.client }) run n below)) (h n below))
     by_end false = h
 
 -- ## A client's turn
 
-pub run_calm_calls : (s : Session) (track : ℕ) (round : RoundSeen) (run : Run) → list_any (is_poke_on false) (calls_in round track) ≡ false → list_any (is_poke_on true) (calls_in round track) ≡ false
-    → LegalClientTurn (sides_of (told_at run track)) (calls_in round track) → RunCalm s run → RunCalm s (calls_alone track round run)
-run_calm_calls s track round run no_stream no_commands legal h =
+pub run_calm_calls : (s : Session) (track : ℕ) (round : RoundSeen) (run : Run) → LegalClientTurn (sides_of (told_at run track)) (calls_in round track) → RunCalm s run → RunCalm s (calls_alone track round run)
+run_calm_calls s track round run legal h =
     calm_each s run (calls_alone track round run) (λ number t. if number == track then called (calls_in round track) t else t) refl h.many (λ n low. by_number n (n == track) refl (h.tracks n low))
   where
     by_number : (n : ℕ) (b : Bool) → (n == track) ≡ b → TrackCalm (takes_part s run n) (told_at run n) → TrackCalm (takes_part s run n) (if b then called (calls_in round track) (told_at run n) else told_at run n)
-    by_number n true is c = calm_called (takes_part s run n) (calls_in round track) (told_at run n) no_stream no_commands (subst (λ j. LegalClientTurn (sides_of (told_at run j)) (calls_in round track)) (sym (eqb-true n track is)) legal) c
+    by_number n true is c = calm_called (takes_part s run n) (calls_in round track) (told_at run n) (subst (λ j. LegalClientTurn (sides_of (told_at run j)) (calls_in round track)) (sym (eqb-true n track is)) legal) c
     by_number n false is c = c
 
 -- ## Fast cycles
@@ -110,4 +107,4 @@ run_calm_turned s marks e run rise t acts is h =
     calm_each s run (with_load e (with_turn s (found_before s run [] e) e run)) (turned_track (setup_of s) (outside_of (setup_of s) (found_before s run [] e) e) run.normal e) refl h.many
     (λ n low. (let f = found_before s run [] e in let after = takes_part s (with_turn s f e run) n in
     calm_turned (takes_part s run n) after (setup_of s) f run.normal e t.outside n (told_at run n) t.found rise t.legal refl refl
-    (also_by after (stream_list (setup_of s) (outside_of (setup_of s) f e) e (tracks_at (setup_of s) (learnt (outside_of (setup_of s) f e)) run.normal e n) n) (takes_part s run n ≡ true) (acts.streams n low)) (is n low) (h.tracks n low)))
+    (λ off tame. none_after s f e run n (stream_list (setup_of s) (outside_of (setup_of s) f e) e (tracks_at (setup_of s) (learnt (outside_of (setup_of s) f e)) run.normal e n) n) (acts.streams n low tame) off) (is n low) (h.tracks n low)))

@@ -1,4 +1,4 @@
-use Rattle.af_render_law.proofs.laws.a_render_without_pokes_is_a_turn_run.Goals as goal
+use Rattle.af_render_law.proofs.laws.a_render_is_told_by_its_journal.Goals as goal
 use Rattle.af_render_law.proofs.RendersTold.{render_told}
 
 pub returns : goal.returns

@@ -1,0 +1,53 @@
+-- What is known of a session and of the run that tells it between two rounds of a script, by the marks of its lawful blocks.
+use Rattle.std.specs.Prelude.{◌≡◌, ℕ, ◌+◌, ◌≤◌, false, List, length, drop, slice_get, Some}
+use Rattle.af_base.specs.Log.{Logged}
+use Rattle.af_model.specs.Journals.{EntrySeen, RoundNoted, entries_seen}
+use Rattle.af_party.specs.Parties.{PartyState}
+use Rattle.af_runs.specs.Blocks.{Marks}
+use Rattle.af_runs.specs.Runs.{Run, pipe_cells, with_ends}
+use Rattle.af_runs.specs.Sessions.{Session, cycle_frames, setup_of}
+use Rattle.af_runs.specs.TurnRuns.{met_alone}
+use Rattle.af_script.specs.declared.op.TurnSpec.TheVariants as makes
+use Rattle.af_session.specs.Rounds.{IsRound}
+use Rattle.af_session.specs.Together.{SessionState}
+use Rattle.af_render_law.specs.Aware.{KnowsAway}
+use Rattle.af_render_law.specs.Between.{StandsBetween}
+use Rattle.af_render_law.specs.FastRound.{IsMarkedRun, IsSmallRun}
+use Rattle.af_render_law.specs.Laws.{StepIsTold, round_of}
+use Rattle.af_render_law.specs.QueueTurned.{QueueKnown, ReportMet}
+use Rattle.af_render_law.specs.Tells.{Tells, given_of}
+use Rattle.af_render_law.proofs.InvalidKept.{InvalidKept}
+use Rattle.af_render_law.proofs.TameRounds.{TameReady}
+
+-- the entries by which a log grew to another one, each with its frames
+abbrev pub entries_grown : Logged → Logged → List EntrySeen
+entries_grown a b = entries_seen (drop (length a.frames) b.frames) (drop (length a.entries) b.entries)
+
+-- each client counts the frames that it released
+abbrev pub AreCounted : SessionState → Type 0
+AreCounted x = (i : ℕ) (p : PartyState) → slice_get x.clients i ≡ Some p → p.stream.released ≡ length p.stream.pass.part.frames
+
+-- the run tells the session, no lawful block was poked so far, blocks and pipe have their sizes, the ends of the queue and the report are known, the hands know what proxies on their way did, INVALID was set for none of them, and the log has room for so many cycles
+pub record Holds (s : Session) (marks : Marks) (run : Run) (x : SessionState) (left : ℕ) : Type 0 where
+  pub told : Tells s run x
+  pub stands : StandsBetween x
+  pub marked : IsMarkedRun marks run
+  pub small : IsSmallRun run
+  pub cells : x.normal.pipe.pass.part.shape.cells ≡ pipe_cells (setup_of s)
+  pub queue : QueueKnown (cycle_frames s) run x.normal
+  pub report : ReportMet run
+  pub counted : AreCounted x
+  pub aware : KnowsAway x
+  pub tame : TameReady s run
+  pub invalid : InvalidKept run
+  pub room : length run.entries + left ≤ s.script.cycles
+
+-- a turn of the normal mixer is a step, and the queue is known again after it
+abbrev pub NormalTurnIsAStep : Session → Marks → Type 0
+NormalTurnIsAStep s marks = (run : Run) (x : SessionState) (r : RoundNoted) (bytes : List ℕ) (y : SessionState) (entries : List EntrySeen) (left : ℕ) → Holds s marks run x left → x.normal.ended ≡ false → IsRound (given_of s) makes.Normal x r bytes y
+    → StepIsTold s marks run makes.Normal (round_of r entries) y × QueueKnown (cycle_frames s) (with_ends (met_alone s run makes.Normal (round_of r entries))) y.normal
+
+-- a turn of the fast mixer is a step, and the queue stands again after it; the entries of the round are those by which the log grew
+abbrev pub FastTurnIsAStep : Session → Marks → Type 0
+FastTurnIsAStep s marks = (run : Run) (count : ℕ) (x : SessionState) (r : RoundNoted) (bytes : List ℕ) (y : SessionState) (entries : List EntrySeen) (left : ℕ) → Holds s marks run x left → x.fast.exited ≡ false → 1 ≤ count → length run.entries + count ≤ s.script.cycles
+    → (round_of r entries).entries ≡ entries_grown x.fast.log y.fast.log → IsRound (given_of s) (makes.Fast count) x r bytes y → StepIsTold s marks run (makes.Fast count) (round_of r entries) y × StandsBetween y

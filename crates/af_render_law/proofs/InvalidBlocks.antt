@@ -1,0 +1,168 @@
+-- What each step of a run leaves of a stream block on which no INVALID is set while its server isn't shut, and its track hasn't ended and isn't there yet or has a slot.
+use Rattle.std.proofs.Common.{◌≡◌, ℕ, ◌-◌, ◌==◌, Bool, true, false, true≢false, if◌then◌else◌, is_some, map, List, [], ◌∷◌, ◌++◌, drop, length, Option, Some, None, refl, sym, ap, ◌∙◌, subst, append-nil, append_assoc}
+use Rattle.std.proofs.lemmas.Grind.{fold-append}
+use Rattle.std.proofs.lemmas.List.Elements.{All-nil, All-cons, All-append, All-push}
+use Rattle.af_base.specs.declared.event.ClientEvent.{ClientEvent}
+use Rattle.af_base.specs.declared.event.HandEvent.{HandEvent}
+use Rattle.af_base.specs.declared.event.HandEvent.TheVariants as hand
+use Rattle.af_base.specs.declared.event.ServerEvent.{ServerEvent}
+use Rattle.af_base.specs.declared.event.ServerEvent.TheVariants as server
+use Rattle.af_base.specs.declared.log.SlotEntry.{SlotEntry}
+use Rattle.af_base.specs.declared.seen.Seen.{Seen}
+use Rattle.af_base.specs.declared.seen.Seen.TheVariants as seen
+use Rattle.af_base.specs.declared.state.FastState.{FastState}
+use Rattle.af_base.specs.Log.{entry_slot}
+use Rattle.af_base.specs.Turn.{Turn}
+use Rattle.af_life.specs.declared.kept.TrackKept.{TrackKept}
+use Rattle.af_life.specs.Kept.{track_in}
+use Rattle.af_life.specs.Obeys.{is_shut}
+use Rattle.af_life.specs.TurnEvents as turn
+use Rattle.af_model.specs.Cycles.{Listed, tally, after_look, cycle_events, kept}
+use Rattle.af_model.specs.History.{Moment, by_hand, by_server, server_of, hand_of}
+use Rattle.af_model.specs.Journals.{EntrySeen}
+use Rattle.af_model.specs.ServerCalls.{ServerKept, drops_of, look_events, server_begins, server_keeps, server_kept}
+use Rattle.af_model.specs.declared.shape.Shape.{Shape}
+use Rattle.af_runs.specs.Blocks.{BlockTold, client_list, hand_list, listed, server_list}
+use Rattle.af_runs.specs.ClientTurns.{Side}
+use Rattle.af_runs.specs.Fronts.{front_of}
+use Rattle.af_runs.specs.Runs.{TrackTold, mixed_track, played, slot_for, stream_met, with_side}
+use Rattle.af_runs.specs.Sessions.{Session, cycle_frames}
+use Rattle.af_judge.proofs.BlocksTold.{client-hand, client-server}
+use Rattle.af_audit.proofs.TrackStands.{hand-server, server-server, told_more}
+use Rattle.af_render_law.proofs.MixedOpen.{Looked, played_open}
+use Rattle.af_render_law.proofs.NoInvalid.{SetsNoInvalid, SetNoInvalid, HandSetsNoInvalid, HandSetNoInvalid}
+use Rattle.af_render_law.proofs.Unmixed.{Unmixed}
+
+-- of a block of this shape with these lists of its server and its hand
+pub record SetsNone (s : TrackKept) (k : Shape) (events : List ServerEvent) (hands : List HandEvent) : Type 0 where
+  pub server : Unmixed s → (server_kept k events).shut ≡ None → SetNoInvalid events
+  pub hand : HandSetNoInvalid hands
+
+abbrev pub StreamUnset : TrackKept → BlockTold → Type 0
+StreamUnset s b = SetsNone s b.shape (server_list b) (hand_list b)
+
+pub unset_new : (s : TrackKept) (k : Shape) → SetsNone s k [] []
+unset_new s k = record { server = λ u fine. All-nil SetsNoInvalid; hand = All-nil HandSetsNoInvalid }
+
+-- ## Lists
+
+server-hand : (told : List Moment) (es : List ServerEvent) → hand_of (told_more told (map by_server es)) ≡ hand_of told
+server-hand told [] = refl
+server-hand told (e ∷ es) = server-hand (by_server e ∷ told) es
+
+hand-hand : (told : List Moment) (es : List HandEvent) → hand_of (told_more told (map by_hand es)) ≡ hand_of told ++ es
+hand-hand told [] = sym (append-nil (hand_of told))
+hand-hand told (e ∷ es) = hand-hand (by_hand e ∷ told) es ∙ append_assoc (hand_of told) (e ∷ []) es
+
+either_sets : (b : Bool) (xs ys : List ServerEvent) → SetNoInvalid xs → SetNoInvalid ys → SetNoInvalid (if b then xs else ys)
+either_sets true xs ys g h = g
+either_sets false xs ys g h = h
+
+-- ## A cycle whose look isn't Shut
+
+tally_sets : (missing : ℕ) → SetNoInvalid (tally missing)
+tally_sets missing = either_sets (missing == 0) [] (server.Tally missing ∷ server.SetFlags 1 ∷ []) (All-nil SetsNoInvalid)
+    (All-cons SetsNoInvalid (server.Tally missing) (server.SetFlags 1 ∷ []) tt (All-cons SetsNoInvalid (server.SetFlags 1) [] refl (All-nil SetsNoInvalid)))
+
+after_sets : (asked : ℕ) (was : Bool) (answer : Seen) → is_shut answer ≡ false → SetNoInvalid (after_look asked was answer)
+after_sets asked was seen.Absent h = All-nil SetsNoInvalid
+after_sets asked was (seen.Frames count) h = All-cons SetsNoInvalid (server.Take count) (tally (asked - count)) tt (tally_sets (asked - count))
+after_sets asked was seen.Empty h = tally_sets asked
+after_sets asked was (seen.Flushed dropped) h = All-nil SetsNoInvalid
+after_sets asked was (seen.Shut front rear) h = absurd (true≢false h)
+
+drops_set : (answer : Seen) (front : ℕ) → SetNoInvalid (drops_of answer front)
+drops_set seen.Absent front = All-nil SetsNoInvalid
+drops_set (seen.Frames count) front = All-nil SetsNoInvalid
+drops_set seen.Empty front = All-nil SetsNoInvalid
+drops_set (seen.Flushed dropped) front = All-cons SetsNoInvalid (server.Drop _) [] tt (All-nil SetsNoInvalid)
+drops_set (seen.Shut back rear) front = All-nil SetsNoInvalid
+
+look_sets : (answer : Seen) (flush rear front : ℕ) → SetNoInvalid (look_events answer flush rear front)
+look_sets answer flush rear front =
+    All-cons SetsNoInvalid (server.SawFlush flush) (server.SawRear rear ∷ server.SawFront front ∷ drops_of answer front) tt
+    (All-cons SetsNoInvalid (server.SawRear rear) (server.SawFront front ∷ drops_of answer front) tt (All-cons SetsNoInvalid (server.SawFront front) (drops_of answer front) tt (drops_set answer front)))
+
+cycle_sets : (asked : ℕ) (x : Listed) (slot : SlotEntry) (front : ℕ) → is_shut slot.seen ≡ false → SetNoInvalid (cycle_events asked x slot front)
+cycle_sets asked x slot front h =
+    let was : Bool = is_some (kept x).shut in
+    let looks : List ServerEvent = (if was then [] else look_events slot.seen slot.flush slot.rear front) in
+    All-cons SetsNoInvalid (server.SawGain slot.gains) (looks ++ after_look asked was slot.seen) tt
+    (All-append SetsNoInvalid looks (after_look asked was slot.seen) (either_sets was [] (look_events slot.seen slot.flush slot.rear front) (All-nil SetsNoInvalid) (look_sets slot.seen slot.flush slot.rear front)) (after_sets asked was slot.seen h))
+
+-- ## The steps
+
+module _ (s : TrackKept) where
+  -- its client does something
+  pub unset_called : (side : Side) (b : BlockTold) → StreamUnset s b → StreamUnset s (with_side side b)
+  unset_called side b h =
+      let es : List ClientEvent = drop (length (client_list b)) side.events in
+      subst (λ hs. SetsNone s b.shape (server_list (with_side side b)) hs) (sym (client-hand b.told es)) (subst (λ xs. SetsNone s b.shape xs (hand_list b)) (sym (client-server b.told es)) h)
+
+  -- a meeting
+  learns : (k : Shape) (es : List ServerEvent) (hs : List HandEvent) (count : ℕ) → SetsNone s k es hs → SetsNone s k (es ++ server.Learn count ∷ []) hs
+  learns k es hs count h = record {
+    server = λ u fine. All-push SetsNoInvalid es (server.Learn count) (h.server u (sym (ap (λ (x : ServerKept). x.shut) (fold-append (server_keeps k) (server_begins k) es (server.Learn count ∷ []))) ∙ fine)) tt;
+    hand = h.hand;
+  }
+
+  hand_meets : (k : Shape) (es : List ServerEvent) (hs : List HandEvent) (count : ℕ) → SetsNone s k es hs → SetsNone s k es (hs ++ hand.Met count ∷ [])
+  hand_meets k es hs count h = record { server = h.server; hand = All-push HandSetsNoInvalid hs (hand.Met count) h.hand tt }
+
+  pub unset_met : (there handed : Bool) (b : BlockTold) → StreamUnset s b → StreamUnset s (stream_met there handed b)
+  unset_met true true b h = hand_meets b.shape _ (hand_list b) _ (learns b.shape (server_list b) (hand_list b) _ h)
+  unset_met true false b h = learns b.shape (server_list b) (hand_list b) _ h
+  unset_met false true b h = hand_meets b.shape (server_list b) (hand_list b) _ h
+  unset_met false false b h = h
+
+  -- an entry plays it, whose look wasn't Shut where the server isn't shut after it
+  unset_played : (asked : ℕ) (e : EntrySeen) (i : ℕ) (b : BlockTold) → ((server_kept b.shape (server_list (played asked e i b))).shut ≡ None → ((kept (listed b)).shut ≡ None) × (is_shut (entry_slot e.entry i).seen ≡ false))
+      → StreamUnset s b → StreamUnset s (played asked e i b)
+  unset_played asked e i b open_is h =
+      subst (λ hs. SetsNone s b.shape (server_list (played asked e i b)) hs) (sym (server-hand b.told es)) (subst (λ xs. SetsNone s b.shape xs (hand_list b)) (sym is) (record {
+        server = λ u fine. (
+            let one = open_is (subst (λ xs. (server_kept b.shape xs).shut ≡ None) (sym is) fine) in
+            All-append SetsNoInvalid (server_list b) es (h.server u one.0) (cycle_sets asked (listed b) (entry_slot e.entry i) (front_of asked (listed b) (entry_slot e.entry i)) one.1));
+        hand = h.hand;
+      }))
+    where
+      es : List ServerEvent
+      es = cycle_events asked (listed b) (entry_slot e.entry i) (front_of asked (listed b) (entry_slot e.entry i))
+
+      is : server_list (played asked e i b) ≡ server_list b ++ es
+      is = server-server b.told es
+
+  pub unset_mixed : (session : Session) (x : FastState) (e : EntrySeen) (n : ℕ) (t : TrackTold) → ((i : ℕ) → slot_for x e.entry n ≡ Some i → Looked session e i t.stream) → StreamUnset s t.stream → StreamUnset s (mixed_track session x e n t).stream
+  unset_mixed session x e n t looks h = by_slot (slot_for x e.entry n) refl
+    where
+      by_slot : (o : Option ℕ) → slot_for x e.entry n ≡ o → StreamUnset s (elim o as (λ o. TrackTold) [ None ↦ t | Some i ↦ record t { stream = played (cycle_frames session) e i t.stream } ]).stream
+      by_slot None is = h
+      by_slot (Some i) is = unset_played (cycle_frames session) e i t.stream (played_open session x e n i t.stream is (looks i is)) h
+
+-- ## A turn
+
+hands_set : (e : Turn) (n : ℕ) → HandSetNoInvalid (turn.hand_list e n)
+hands_set e n = by_flags e.ended (track_in e n).disabled
+  where
+    by_flags : (ended off : Bool) → HandSetNoInvalid (if ended then [] else (if off then hand.SetFlags 8 ∷ [] else []))
+    by_flags true off = All-nil HandSetsNoInvalid
+    by_flags false true = All-cons HandSetsNoInvalid (hand.SetFlags 8) [] refl (All-nil HandSetsNoInvalid)
+    by_flags false false = All-nil HandSetsNoInvalid
+
+-- the hand does what a turn does, and the server these events: none where the track is so after it, which was so before
+pub unset_turned : (s t : TrackKept) (e : Turn) (n : ℕ) (es : List ServerEvent) (k : Shape) (told : List Moment) → (Unmixed t → Unmixed s) → (Unmixed t → es ≡ []) → SetsNone s k (server_of told) (hand_of told)
+    → (let after = told_more (told_more told (map by_hand (turn.hand_list e n))) (map by_server es) in SetsNone t k (server_of after) (hand_of after))
+unset_turned s t e n es k told was none h =
+    subst (λ hs. SetsNone t k (server_of after) hs) (sym (server-hand with_hand es ∙ hand-hand told (turn.hand_list e n)))
+    (subst (λ xs. SetsNone t k xs (hand_of told ++ turn.hand_list e n)) (sym (server-server with_hand es ∙ ap (λ l. l ++ es) (hand-server told (turn.hand_list e n)))) (record {
+      server = λ u fine. (
+          let same : server_of told ++ es ≡ server_of told = ap (λ l. server_of told ++ l) (none u) ∙ append-nil (server_of told) in
+          subst SetNoInvalid (sym same) (h.server (was u) (subst (λ xs. (server_kept k xs).shut ≡ None) same fine)));
+      hand = All-append HandSetsNoInvalid (hand_of told) (turn.hand_list e n) h.hand (hands_set e n);
+    }))
+  where
+    with_hand : List Moment
+    with_hand = told_more told (map by_hand (turn.hand_list e n))
+
+    after : List Moment
+    after = told_more with_hand (map by_server es)

@@ -1,4 +1,0 @@
-pub mod TrackCalm
-pub mod RunCalm
-pub mod NoneShut
-pub mod TurnsTame
