@@ -42,6 +42,8 @@ pub mod RunOfAll
 pub mod RoundsOfAll
 pub mod GoingOn
 pub mod PlayAnswers
+pub mod StagesRun
+pub mod KeptPlays
 pub mod ClientsSpelled
 pub mod RunSpelled
 pub mod RunPushed

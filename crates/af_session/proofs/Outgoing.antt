@@ -5,9 +5,9 @@ use Rattle.af_io.specs.Files.{Files, SetsFile, LeavesFront, AppendsTo}
 use Rattle.af_io.specs.declared.store.StoreError.{StoreError}
 use Rattle.af_io.specs.declared.store.StoreError.TheVariants as store
 use Rattle.af_io.proofs.Steps.{SetsFile-adds, AddsFront-append, LeavesFront-added}
-use Rattle.af_session.specs.declared.rendering.SessionFault.{SessionFault}
-use Rattle.af_session.specs.declared.rendering.SessionFault.TheVariants as fault
-use Rattle.af_session.specs.Rendered.{HasStoreCause, fault_of}
+use Rattle.af_session.specs.declared.answering.PlayFault.{PlayFault}
+use Rattle.af_session.specs.declared.answering.PlayFault.TheVariants as fault
+use Rattle.af_session.specs.PlayedRuns.{HasStoreCause, fault_of}
 
 -- ## Pieces
 
@@ -42,24 +42,24 @@ stays_at before now x cause = same_count before now cause.later (λ rose. no_fau
 pub then_cause : (before mid now : ℕ) (x : Unit {0}) (r : Result (Unit {0}) StoreError) → HasCause {T = Unit {0}} before mid (Ok x) → HasCause mid now r → HasCause before now r
 then_cause before mid now x r first next = subst (λ (n : ℕ). HasCause n now r) (sym (stays_at before mid x first)) next
 
--- ## Causes in a session
+-- ## Causes in a play
 
-other_fault : {T : Type 0} → IsErrOf {T = T} {E = SessionFault} (Err fault.Memory) fault.Store → ⊥
+other_fault : {T : Type 0} → IsErrOf {T = T} {E = PlayFault} (Err fault.Memory) fault.Store → ⊥
 other_fault {T} h = let e : ⊥ = cc in e
 
 other_error : IsErrOf {T = Unit {0}} {E = StoreError} (Err store.Memory) store.Failed → ⊥
 other_error h = let e : ⊥ = cc in e
 
-not_err : {T : Type 0} (x : T) (f : SessionFault) → IsErrOf {T = T} {E = SessionFault} (Ok x) f → ⊥
+not_err : {T : Type 0} (x : T) (f : PlayFault) → IsErrOf {T = T} {E = PlayFault} (Ok x) f → ⊥
 not_err x f h = let e : ⊥ = cc in e
 
 -- memory ran out, and the store did nothing
-by_memory : {T : Type 0} (f : SessionFault) (n : ℕ) → f ≡ fault.Memory → HasStoreCause {T = T} n n (Err f)
+by_memory : {T : Type 0} (f : PlayFault) (n : ℕ) → f ≡ fault.Memory → HasStoreCause {T = T} n n (Err f)
 by_memory {T} f n is =
-    subst (λ (x : SessionFault). HasStoreCause {T = T} n n (Err x)) (sym is)
+    subst (λ (x : PlayFault). HasStoreCause {T = T} n n (Err x)) (sym is)
     (record { later = omega arith; failed = (λ h. absurd (other_fault {T = T} h)); only = (λ lt. absurd (omega (arith, lt))) })
 
-pub cause_memory : {T : Type 0} (r : Result T SessionFault) (n : ℕ) → IsErrAnd r (λ f. f ≡ fault.Memory) → HasStoreCause n n r
+pub cause_memory : {T : Type 0} (r : Result T PlayFault) (n : ℕ) → IsErrAnd r (λ f. f ≡ fault.Memory) → HasStoreCause n n r
 cause_memory (Ok x) n is = absurd is
 cause_memory {T} (Err f) n is = by_memory {T = T} f n is
 
@@ -72,9 +72,9 @@ by_store {T} store.Memory before now cause = record {
   only = (λ lt. absurd (other_error (cause.only lt)));
 }
 
-pub cause_store : {T : Type 0} (r : Result T SessionFault) (e : StoreError) (before now : ℕ) → IsErrAnd r (λ f. f ≡ fault_of e) → HasCause {T = Unit {0}} before now (Err e) → HasStoreCause before now r
+pub cause_store : {T : Type 0} (r : Result T PlayFault) (e : StoreError) (before now : ℕ) → IsErrAnd r (λ f. f ≡ fault_of e) → HasCause {T = Unit {0}} before now (Err e) → HasStoreCause before now r
 cause_store (Ok x) e before now is cause = absurd is
-cause_store {T} (Err f) e before now is cause = subst (λ (x : SessionFault). HasStoreCause {T = T} before now (Err x)) (sym is) (by_store {T = T} e before now cause)
+cause_store {T} (Err f) e before now is cause = subst (λ (x : PlayFault). HasStoreCause {T = T} before now (Err x)) (sym is) (by_store {T = T} e before now cause)
 
 -- all went well
 pub cause_ok : {T : Type 0} (played : T) (x : Unit {0}) (before now : ℕ) → HasCause {T = Unit {0}} before now (Ok x) → HasStoreCause {T = T} before now (Ok played)
@@ -85,13 +85,51 @@ cause_ok {T} played x before now cause = record {
 }
 
 -- all went well, and then memory ran out
-pub cause_behind : {T : Type 0} (r : Result T SessionFault) (played : T) (before now : ℕ) → HasStoreCause {T = T} before now (Ok played) → IsErrAnd r (λ f. f ≡ fault.Memory) → HasStoreCause before now r
+pub cause_behind : {T : Type 0} (r : Result T PlayFault) (played : T) (before now : ℕ) → HasStoreCause {T = T} before now (Ok played) → IsErrAnd r (λ f. f ≡ fault.Memory) → HasStoreCause before now r
 cause_behind (Ok x) played before now cause is = absurd is
-cause_behind {T} (Err f) played before now cause is = subst (λ (x : SessionFault). HasStoreCause {T = T} before now (Err x)) (sym is) (record {
+cause_behind {T} (Err f) played before now cause is = subst (λ (x : PlayFault). HasStoreCause {T = T} before now (Err x)) (sym is) (record {
   later = cause.later;
   failed = (λ h. absurd (other_fault {T = T} h));
   only = (λ lt. absurd (not_err {T = T} played fault.Store (cause.only lt)));
 })
+
+-- ## Causes in a render
+
+no_failed : {T : Type 0} → IsErrOf {T = T} {E = StoreError} (Err store.Memory) store.Failed → ⊥
+no_failed {T} h = let e : ⊥ = cc in e
+
+-- memory ran out, and the store did nothing
+pub calm_memory : {T : Type 0} (r : Result T StoreError) (n : ℕ) → IsErrAnd r (λ e. e ≡ store.Memory) → HasCause n n r
+calm_memory (Ok x) n is = absurd is
+calm_memory {T} (Err e) n is =
+    subst (λ (x : StoreError). HasCause {T = T} n n (Err x)) (sym is)
+    (record { later = omega arith; failed = (λ h. absurd (no_failed {T = T} h)); only = (λ lt. absurd (omega (arith, lt))) })
+
+not_failed : {T : Type 0} (x : T) → IsErrOf {T = T} {E = StoreError} (Ok x) store.Failed → ⊥
+not_failed {T} x h = let e : ⊥ = cc in e
+
+-- all went well
+pub calm_ok : {T : Type 0} (played : T) (x : Unit {0}) (before now : ℕ) → HasCause {T = Unit {0}} before now (Ok x) → HasCause {T = T} before now (Ok played)
+calm_ok {T} played x before now cause = record {
+  later = cause.later;
+  failed = (λ h. absurd (not_failed {T = T} played h));
+  only = (λ lt. absurd (no_fault x (cause.only lt)));
+}
+
+failed_same : {T : Type 0} (e : StoreError) → IsErrOf {T = Unit {0}} {E = StoreError} (Err e) store.Failed → IsErrOf {T = T} {E = StoreError} (Err e) store.Failed
+failed_same {T} store.Failed h = refl
+failed_same store.Memory h = absurd (other_error h)
+
+failed_back : {T : Type 0} (e : StoreError) → IsErrOf {T = T} {E = StoreError} (Err e) store.Failed → IsErrOf {T = Unit {0}} {E = StoreError} (Err e) store.Failed
+failed_back store.Failed h = refl
+failed_back {T} store.Memory h = absurd (no_failed {T = T} h)
+
+-- the store refused
+pub cause_same : {T : Type 0} (r : Result T StoreError) (e : StoreError) (before now : ℕ) → IsErrAnd r (λ x. x ≡ e) → HasCause {T = Unit {0}} before now (Err e) → HasCause before now r
+cause_same (Ok x) e before now is cause = absurd is
+cause_same {T} (Err f) e before now is cause =
+    subst (λ (x : StoreError). HasCause {T = T} before now (Err x)) (sym is)
+    (record { later = cause.later; failed = (λ h. cause.failed (failed_back {T = T} e h)); only = (λ lt. failed_same {T = T} e (cause.only lt)) })
 
 -- a fact that holds anyway holds after an error
 pub on_err : {T E P : Type 0} (r : Result T E) → P → OnErr r P

@@ -11,11 +11,10 @@ use Rattle.af_runs.specs.LegalRuns.{IsCutRun}
 use Rattle.af_script.specs.Data.{ScriptData}
 use Rattle.af_session.specs.Ends.{EndsState, ends_from}
 use Rattle.af_session.specs.declared.rendering.Played.{Played}
-use Rattle.af_session.specs.declared.rendering.SessionFault.{SessionFault}
-use Rattle.af_session.specs.declared.rendering.SessionFault.TheVariants as fault
+use Rattle.af_session.specs.declared.answering.PlayFault.{PlayFault}
+use Rattle.af_session.specs.declared.answering.PlayFault.TheVariants as fault
 use Rattle.af_session.specs.Hostile.{PokesSpareOthers}
-use Rattle.af_session.specs.PlayedRuns.{AtFault, AtLimit, HandedBack, HandsBackRun, LeavesRun, Plays, all_ended, is_full}
-use Rattle.af_session.specs.Rendered.{HasStoreCause, fault_of, is_limit}
+use Rattle.af_session.specs.PlayedRuns.{AtFault, AtLimit, HandedBack, HandsBackRun, HasStoreCause, LeavesRun, Plays, all_ended, fault_of, is_full, is_limit}
 use Rattle.af_session.specs.Shown.{released_by, shown_by, shown_in, summary_told}
 use Rattle.af_session.specs.Spelled.{NoneOlder}
 use Rattle.af_tally.specs.Summaries.{Shown, summary_of}
@@ -42,23 +41,23 @@ if_ok_three A B C D (Err e) f a b c = tt
 
 -- ## Want of memory and faults of the store
 
-limits_not : (e : StoreError) → is_limit (fault_of e) ≡ false
+pub limits_not : (e : StoreError) → is_limit (fault_of e) ≡ false
 limits_not store.Failed = refl
 limits_not store.Memory = refl
 
-module _ {T : Type 0} (r : Result T SessionFault) where
+module _ {T : Type 0} (r : Result T PlayFault) where
   -- neither is a limit
   pub memory_never : IsErrAnd r (λ f. f ≡ fault.Memory) → IfErr r (λ f. is_limit f ≡ false)
   memory_never = by_answer r
     where
-      by_answer : (x : Result T SessionFault) → IsErrAnd x (λ f. f ≡ fault.Memory) → IfErr x (λ f. is_limit f ≡ false)
+      by_answer : (x : Result T PlayFault) → IsErrAnd x (λ f. f ≡ fault.Memory) → IfErr x (λ f. is_limit f ≡ false)
       by_answer (Ok y) is = tt
       by_answer (Err f) is = ap is_limit is
 
   pub store_never : (e : StoreError) → IsErrAnd r (λ f. f ≡ fault_of e) → IfErr r (λ f. is_limit f ≡ false)
   store_never e = by_answer r
     where
-      by_answer : (x : Result T SessionFault) → IsErrAnd x (λ f. f ≡ fault_of e) → IfErr x (λ f. is_limit f ≡ false)
+      by_answer : (x : Result T PlayFault) → IsErrAnd x (λ f. f ≡ fault_of e) → IfErr x (λ f. is_limit f ≡ false)
       by_answer (Ok y) is = tt
       by_answer (Err f) is = ap is_limit is ∙ limits_not e
 
@@ -66,12 +65,12 @@ module _ {T : Type 0} (r : Result T SessionFault) where
   pub off_limit : (P : JournalData → EndsState → Type 0) → IfErr r (λ f. is_limit f ≡ false) → IfErr r (AtLimit P)
   off_limit P = by_answer r
     where
-      by_fault : (f : SessionFault) → is_limit f ≡ false → AtLimit P f
+      by_fault : (f : PlayFault) → is_limit f ≡ false → AtLimit P f
       by_fault fault.Store is = tt
       by_fault fault.Memory is = tt
       by_fault (fault.CycleLimit journal ends) is = absurd (let e : ⊥ = cc in e)
 
-      by_answer : (x : Result T SessionFault) → IfErr x (λ f. is_limit f ≡ false) → IfErr x (AtLimit P)
+      by_answer : (x : Result T PlayFault) → IfErr x (λ f. is_limit f ≡ false) → IfErr x (AtLimit P)
       by_answer (Ok y) is = tt
       by_answer (Err f) is = by_fault f is
 
@@ -79,12 +78,12 @@ module _ {T : Type 0} (r : Result T SessionFault) where
   pub never_limited : (P : JournalData → EndsState → Type 0) → ((journal : JournalData) (ends : EndsState) → P journal ends → ⊥) → IfErr r (AtLimit P) → IfErr r (AtLimit (λ journal ends. ⊥))
   never_limited P never = by_answer r
     where
-      by_fault : (f : SessionFault) → AtLimit P f → AtLimit (λ journal ends. ⊥) f
+      by_fault : (f : PlayFault) → AtLimit P f → AtLimit (λ journal ends. ⊥) f
       by_fault fault.Store is = tt
       by_fault fault.Memory is = tt
       by_fault (fault.CycleLimit journal ends) is = never journal ends is
 
-      by_answer : (x : Result T SessionFault) → IfErr x (AtLimit P) → IfErr x (AtLimit (λ journal ends. ⊥))
+      by_answer : (x : Result T PlayFault) → IfErr x (AtLimit P) → IfErr x (AtLimit (λ journal ends. ⊥))
       by_answer (Ok y) is = tt
       by_answer (Err f) is = by_fault f is
 
@@ -92,31 +91,31 @@ module _ {T : Type 0} (r : Result T SessionFault) where
   pub at_fault : (P : Type 0) → P → IfErr r (AtFault P)
   at_fault P p = by_answer r
     where
-      by_fault : (f : SessionFault) → AtFault P f
+      by_fault : (f : PlayFault) → AtFault P f
       by_fault fault.Store = p
       by_fault fault.Memory = p
       by_fault (fault.CycleLimit journal ends) = tt
 
-      by_answer : (x : Result T SessionFault) → IfErr x (AtFault P)
+      by_answer : (x : Result T PlayFault) → IfErr x (AtFault P)
       by_answer (Ok y) = tt
       by_answer (Err f) = by_fault f
 
 -- ## A run that was played to its end, or to that of the log
 
-no_store : {T : Type 0} (j : JournalData) (e : EndsState) → IsErrOf {T = T} {E = SessionFault} (Err (fault.CycleLimit j e)) fault.Store → ⊥
+no_store : {T : Type 0} (j : JournalData) (e : EndsState) → IsErrOf {T = T} {E = PlayFault} (Err (fault.CycleLimit j e)) fault.Store → ⊥
 no_store {T} j e h = let x : ⊥ = cc in x
 
-no_want : {T : Type 0} → IsErrOf {T = T} {E = SessionFault} (Err fault.Memory) fault.Store → ⊥
+no_want : {T : Type 0} → IsErrOf {T = T} {E = PlayFault} (Err fault.Memory) fault.Store → ⊥
 no_want {T} h = let x : ⊥ = cc in x
 
 no_fault : (x : Unit {0}) → IsErrOf {T = Unit {0}} {E = StoreError} (Ok x) store.Failed → ⊥
 no_fault x h = let e : ⊥ = cc in e
 
 -- an answer that is an error was cut off, with this journal and these ends, or memory ran out
-abbrev pub IsCut : Result Played SessionFault → Type 0 → JournalData → EndsState → Type 0
+abbrev pub IsCut : Result Played PlayFault → Type 0 → JournalData → EndsState → Type 0
 IsCut r A j e = IfErr r (λ f. (A × (f ≡ fault.CycleLimit j e)) ⊎ (f ≡ fault.Memory))
 
-pub cut_off : (P : JournalData → EndsState → Type 0) (r : Result Played SessionFault) (A : Type 0) (j : JournalData) (e : EndsState) → (A → P j e) → IsCut r A j e → IfErr r (AtLimit P)
+pub cut_off : (P : JournalData → EndsState → Type 0) (r : Result Played PlayFault) (A : Type 0) (j : JournalData) (e : EndsState) → (A → P j e) → IsCut r A j e → IfErr r (AtLimit P)
 cut_off P (Ok p) A j e h is = tt
 cut_off P (Err f) A j e h (inl is) = subst (AtLimit P) (sym is.1) (h is.0)
 cut_off P (Err f) A j e h (inr is) = subst (AtLimit P) (sym is) tt
@@ -135,10 +134,10 @@ cause_want x before now cause = record {
   only = (λ lt. absurd (no_fault x (cause.only lt)));
 }
 
-pub cause_cut : (r : Result Played SessionFault) (A : Type 0) (j : JournalData) (e : EndsState) (x : Unit {0}) (before now : ℕ) → HasCause {T = Unit {0}} before now (Ok x) → IsCut r A j e → HasStoreCause before now r
+pub cause_cut : (r : Result Played PlayFault) (A : Type 0) (j : JournalData) (e : EndsState) (x : Unit {0}) (before now : ℕ) → HasCause {T = Unit {0}} before now (Ok x) → IsCut r A j e → HasStoreCause before now r
 cause_cut (Ok p) A j e x before now cause is = cause_ok p x before now cause
-cause_cut (Err f) A j e x before now cause (inl is) = subst (λ (y : SessionFault). HasStoreCause {T = Played} before now (Err y)) (sym is.1) (cause_limit A j e x before now cause)
-cause_cut (Err f) A j e x before now cause (inr is) = subst (λ (y : SessionFault). HasStoreCause {T = Played} before now (Err y)) (sym is) (cause_want x before now cause)
+cause_cut (Err f) A j e x before now cause (inl is) = subst (λ (y : PlayFault). HasStoreCause {T = Played} before now (Err y)) (sym is.1) (cause_limit A j e x before now cause)
+cause_cut (Err f) A j e x before now cause (inr is) = subst (λ (y : PlayFault). HasStoreCause {T = Played} before now (Err y)) (sym is) (cause_want x before now cause)
 
 -- what is handed back
 pub hands_back : (ended : Bool) (script : ScriptData) (files : List (List Frame)) (t : SessionState) (noted : RoundsNoted) (j : JournalData) (e : EndsState) → Plays script files noted.rounds t → noted.tracks ≡ length script.tracks
@@ -155,34 +154,22 @@ hands_back ended script files t noted j e played tracks count few over is journa
   cut = (λ more. over (is ∙ more));
 }
 
--- the summary is told by the journal and the ends
-pub told_of : (r : Result Played SessionFault) (len : ℕ) (noted : RoundsNoted) (t : SessionState) (y : Tallied) → IsWhole noted t.fast.log → IsTally (shown_in len noted t.fast.log t.normal.mutator.past.events) y
-    → ((run : Shown) → IsTally run y → IfOk r (λ p. p.summary ≡ summary_of run (released_by t.clients))) → IfOk r (λ p. p.journal ≡ journal_of noted t.fast.log) → IfOk r (λ p. p.ends ≡ ends_from t)
-    → IfOk r (λ p. p.summary ≡ summary_told len p.journal p.ends)
-told_of (Ok p) len noted t y whole tally sums journal ends =
-    is_told len noted t.fast.log t.normal.mutator.past.events t.clients y p.summary p.journal p.ends whole journal (ap (λ (x : EndsState). x.clients) ends) (ap (λ (x : EndsState). x.normal.mutator.past.events) ends) tally sums
-told_of (Err f) len noted t y whole tally sums journal ends = tt
-
 -- what is so of the journal and the ends of a run is so of what is handed back
-pub handed : (P : JournalData → EndsState → Type 0) (r : Result Played SessionFault) (A : Type 0) (j : JournalData) (e : EndsState) → P j e → IfOk r (λ p. p.journal ≡ j) → IfOk r (λ p. p.ends ≡ e) → IsCut r A j e → HandedBack P r
+pub handed : (P : JournalData → EndsState → Type 0) (r : Result Played PlayFault) (A : Type 0) (j : JournalData) (e : EndsState) → P j e → IfOk r (λ p. p.journal ≡ j) → IfOk r (λ p. p.ends ≡ e) → IsCut r A j e → HandedBack P r
 handed P (Ok p) A j e is journal ends cut = subst (λ (x : JournalData × EndsState). P x.0 x.1) (λ i. (sym journal i, sym ends i)) is
 handed P (Err f) A j e is journal ends (inl cut) = subst (AtLimit P) (sym cut.1) is
 handed P (Err f) A j e is journal ends (inr want) = subst (AtLimit P) (sym want) tt
 
 -- nothing is after want of memory or a fault of the store
-pub none_handed : (P : JournalData → EndsState → Type 0) (r : Result Played SessionFault) (fault : SessionFault) → is_limit fault ≡ false → IsErrAnd r (λ f. f ≡ fault) → HandedBack P r
+pub none_handed : (P : JournalData → EndsState → Type 0) (r : Result Played PlayFault) (fault : PlayFault) → is_limit fault ≡ false → IsErrAnd r (λ f. f ≡ fault) → HandedBack P r
 none_handed P (Ok p) fault not is = absurd is
 none_handed P (Err f) fault not is = off_limit {T = Played} (Err f) P (ap is_limit is ∙ not)
 
-pub memory_handed : (P : JournalData → EndsState → Type 0) (r : Result Played SessionFault) → IsErrAnd r (λ f. f ≡ fault.Memory) → HandedBack P r
+pub memory_handed : (P : JournalData → EndsState → Type 0) (r : Result Played PlayFault) → IsErrAnd r (λ f. f ≡ fault.Memory) → HandedBack P r
 memory_handed P r is = none_handed P r fault.Memory refl is
 
-pub store_handed : (P : JournalData → EndsState → Type 0) (r : Result Played SessionFault) (e : StoreError) → IsErrAnd r (λ f. f ≡ fault_of e) → HandedBack P r
+pub store_handed : (P : JournalData → EndsState → Type 0) (r : Result Played PlayFault) (e : StoreError) → IsErrAnd r (λ f. f ≡ fault_of e) → HandedBack P r
 store_handed P r e is = none_handed P r (fault_of e) (limits_not e) is
-
--- what a journal and the ends tell of the tracks that were spared
-abbrev pub spares_by : ℕ → JournalData → EndsState → Type 0
-spares_by len j e = PokesSpareOthers (shown_by len j e.normal.mutator.past.events)
 
 -- what a journal tells of the states that its cycles used
 abbrev pub older_by : JournalData → EndsState → Type 0

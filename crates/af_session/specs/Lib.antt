@@ -17,3 +17,5 @@ pub mod Hostile
 pub mod Leads
 pub mod FastSpared
 pub mod Logging
+pub mod Stages
+pub mod PlayKept

@@ -1,9 +1,12 @@
 -- What the rounds of all parties come to.
-use Rattle.std.specs.Prelude.{◌≡◌, ◌⊎◌, ℕ, ◌≤◌, ◌==◌, ◌&&◌, ◌++◌, Bool, true, false, List, [], ◌∷◌, length, Result, Ok, Err}
+use Rattle.std.specs.Prelude.{◌≡◌, ◌⊎◌, ℕ, ◌<◌, ◌≤◌, ◌==◌, ◌&&◌, ◌++◌, Bool, true, false, List, [], ◌∷◌, length, Result, Ok, Err, IsErrOf}
 use Rattle.std.specs.List.{list_all}
 use Rattle.af_base.specs.declared.frame.Frame.{Frame}
 use Rattle.af_enough.specs.Enough.{HasEnoughCycles}
+use Rattle.af_io.specs.Causes.{Rose}
 use Rattle.af_io.specs.Files.{Files, SameFiles, LeavesFront}
+use Rattle.af_io.specs.declared.store.StoreError.{StoreError}
+use Rattle.af_io.specs.declared.store.StoreError.TheVariants as store
 use Rattle.af_model.specs.Journals.{JournalData, RoundNoted, journal_of}
 use Rattle.af_script.specs.Data.{ScriptData}
 use Rattle.af_audit.specs.Drained.{EachDrainedTrackReachedItsStop}
@@ -16,8 +19,8 @@ use Rattle.af_session.specs.NewSession.{IsNewSession}
 use Rattle.af_party.specs.Parties.{PartyState}
 use Rattle.af_session.specs.Ends.{EndsState, ends_from}
 use Rattle.af_session.specs.declared.rendering.Played.{Played}
-use Rattle.af_session.specs.declared.rendering.SessionFault.{SessionFault}
-use Rattle.af_session.specs.declared.rendering.SessionFault.TheVariants as fault
+use Rattle.af_session.specs.declared.answering.PlayFault.{PlayFault}
+use Rattle.af_session.specs.declared.answering.PlayFault.TheVariants as fault
 use Rattle.af_session.specs.Rounds.{Given}
 use Rattle.af_session.specs.Shares.{SharedState}
 use Rattle.af_session.specs.SideBySide.{IsRoundOfAll}
@@ -96,19 +99,35 @@ IsLegalJournal false script files journal = IsCutRun script files journal × (Ha
 
 -- ## Why a run was not played to its end
 
+-- whether a play was cut off, with its log full
+abbrev pub is_limit : PlayFault → Bool
+is_limit (fault.CycleLimit journal ends) = true
+is_limit _ = false
+
+-- what the store's refusal is in a play
+abbrev pub fault_of : StoreError → PlayFault
+fault_of store.Failed = fault.Store
+fault_of store.Memory = fault.Memory
+
+-- the count of the store's faults never falls, and rises exactly where the answer is Store
+pub record HasStoreCause {T : Type 0} (before now : ℕ) (result : Result T PlayFault) : Type 0 where
+  pub later : before ≤ now
+  pub failed : IsErrOf result fault.Store → Rose before now
+  pub only : before < now → IsErrOf result fault.Store
+
 -- what is so of the journal and the ends of a run that was cut off
-abbrev pub AtLimit : (JournalData → EndsState → Type 0) → SessionFault → Type 0
+abbrev pub AtLimit : (JournalData → EndsState → Type 0) → PlayFault → Type 0
 AtLimit P (fault.CycleLimit journal ends) = P journal ends
 AtLimit P fault.Store = Unit {0}
 AtLimit P fault.Memory = Unit {0}
 
 -- what is so after a fault of the store, and after want of memory
-abbrev pub AtFault : Type 0 → SessionFault → Type 0
+abbrev pub AtFault : Type 0 → PlayFault → Type 0
 AtFault P (fault.CycleLimit journal ends) = Unit {0}
 AtFault P fault.Store = P
 AtFault P fault.Memory = P
 
 -- what is so of the journal and the ends that a play hands back, whether it was played to its end or cut off
-abbrev pub HandedBack : (JournalData → EndsState → Type 0) → Result Played SessionFault → Type 0
+abbrev pub HandedBack : (JournalData → EndsState → Type 0) → Result Played PlayFault → Type 0
 HandedBack P (Ok played) = P played.journal played.ends
 HandedBack P (Err fault) = AtLimit P fault

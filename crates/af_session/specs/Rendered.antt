@@ -1,18 +1,13 @@
 -- What the turns of a script come to, and what they leave in a file.
-use Rattle.std.specs.Prelude.{◌≡◌, ◌⊎◌, ℕ, ◌<◌, ◌≤◌, ◌++◌, Bool, true, false, List, length, take, Result, IsErrOf}
+use Rattle.std.specs.Prelude.{◌≡◌, ◌⊎◌, ℕ, ◌<◌, ◌≤◌, ◌++◌, List, length, take}
 use Rattle.af_base.specs.declared.frame.Frame.{Frame}
-use Rattle.af_io.specs.Causes.{Rose}
 use Rattle.af_io.specs.Files.{Files, SameFiles, LeavesFront}
-use Rattle.af_io.specs.declared.store.StoreError.{StoreError}
-use Rattle.af_io.specs.declared.store.StoreError.TheVariants as store
 use Rattle.af_model.specs.JournalForm.{IsJournal}
 use Rattle.af_model.specs.Journals.{JournalData, RoundNoted, journal_of}
 use Rattle.af_script.specs.Data.{ScriptData}
 use Rattle.af_script.specs.declared.op.Op.{Op}
 use Rattle.af_script.specs.declared.op.TurnSpec.{TurnSpec}
 use Rattle.af_session.specs.Ends.{EndsState, ends_from}
-use Rattle.af_session.specs.declared.rendering.SessionFault.{SessionFault}
-use Rattle.af_session.specs.declared.rendering.SessionFault.TheVariants as fault
 use Rattle.af_session.specs.NewSession.{IsNewSession}
 use Rattle.af_session.specs.Rounds.{Given, IsTurnRun, ops_at, file_at}
 use Rattle.af_session.specs.Shares.{SharedState}
@@ -57,22 +52,6 @@ Rendered script files turns t = (rounds : List RoundNoted) × Renders script fil
 abbrev pub LeavesSound : ScriptData → List (List Frame) → List ℕ → Files → Files → Type 0
 LeavesSound script files name old new = SameFiles old new
     ⊎ ((n : ℕ) × (t : SessionState) × Rendered script files (take n script.turns) t × LeavesFront old name (pcm_of script.frames t.fast.log) new)
-
--- whether a session was cut off, with its log full
-abbrev pub is_limit : SessionFault → Bool
-is_limit (fault.CycleLimit journal ends) = true
-is_limit _ = false
-
--- what the store's refusal is in a session
-abbrev pub fault_of : StoreError → SessionFault
-fault_of store.Failed = fault.Store
-fault_of store.Memory = fault.Memory
-
--- the count of the store's faults never falls, and rises exactly where the answer is Store
-pub record HasStoreCause {T : Type 0} (before now : ℕ) (result : Result T SessionFault) : Type 0 where
-  pub later : before ≤ now
-  pub failed : IsErrOf result fault.Store → Rose before now
-  pub only : before < now → IsErrOf result fault.Store
 
 -- ## What a run hands back
 

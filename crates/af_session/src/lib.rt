@@ -2,6 +2,7 @@
 #![tactic(auto)]
 
 mod alone;
+mod answering;
 mod fast_turns;
 mod given_files;
 mod logging;
@@ -14,11 +15,13 @@ mod rendering;
 mod rounds;
 mod rounds_of_all;
 mod side_by_side;
+mod staging;
 
+pub use answering::PlayFault;
 pub use fast_turns::fast_turn;
 pub use given_files::have_files;
 pub use play_of_all::{play, play_logged};
-pub use rendering::{Ends, Played, SessionFault, render};
+pub use rendering::{Ends, Played, render};
 
 mod making;
 mod parties;

@@ -1,12 +1,17 @@
 //! The log of a play, where one is kept: the end with which the fast mixer's party notes its entries, and the party that reads it.
-ghost use Rattle.std.specs.Prelude.{◌≡◌, ◌+◌, ◌-◌, ◌++◌, ◌<◌, ◌≤◌, ℕ, false, Some, None, IfOk, MatchOption, OnErr, length};
+ghost use Rattle.std.specs.Prelude.{◌≡◌, ◌⊎◌, ◌+◌, ◌-◌, ◌++◌, ◌<◌, ◌≤◌, ℕ, false, List, Ok, Some, None, IfOk, IsErrAnd, MatchOption, OnErr, length};
 ghost use Rattle.af_base.specs.Log.{entry_at};
 ghost use Rattle.af_model.specs.JournalForm.{is_spent};
 ghost use Rattle.af_model.specs.Journals.{JournalData};
 ghost use Rattle.af_nblog.specs.LogText.{log_text};
+ghost use Rattle.af_nblog.specs.declared.entries.Note.{Note as SomeNote};
 ghost use Rattle.af_nblog.specs.NoteEnds.{WriterState, accepted};
-ghost use Rattle.af_session.specs.Logging.{AreEnds, BeginsLog, HasAudited, HasLogged, HasLogOf, HasMetLog, IsAuditor, IsScribe};
+ghost use Rattle.af_session.specs.declared.answering.PlayFault.TheVariants.{Memory as MemoryFault};
+ghost use Rattle.af_session.specs.declared.rendering.Played.{Played as SomePlayed};
+ghost use Rattle.af_session.specs.Logging.{AreEnds, BeginsLog, HasAudited, HasLogged, HasLogOf, HasMetLog, IsAuditor, IsLogOf, IsScribe};
 
+use crate::answering::PlayFault;
+use crate::rendering::Played;
 use af_base::{Items, Memory, Steps};
 use af_cblk::Block;
 use af_fast::FastMixer;
@@ -140,6 +145,24 @@ impl Logging {
         self.finish::<Brand>(Blank::new(1));
         let refused = self.scribe.refused();
         af_nblog::write(alloc, self.auditor.notes.as_slice(), refused, text)
+    }
+
+    /// Hands on what was played: where all parties have ended, once the text of the log was appended to `text`.
+    pub(crate) fn hand_on(
+        mut self,
+        alloc: Global,
+        played: Result<Played, PlayFault>,
+        text: &mut Vec<u8>,
+    ) -> Result<Played, PlayFault>
+        requires told { IfOk played (λ p. (frames : ℕ) × (room : ℕ) × HasLogOf frames room p.journal self) }
+        ensures handed { (result ≡ played) ⊎ ((p : SomePlayed) × (played ≡ Ok p) × IsErrAnd result (λ f. f ≡ MemoryFault)) }
+        ensures log { (frames room : ℕ) → IfOk played (λ p. HasLogOf frames room p.journal self) → IfOk result (λ p. (notes : List SomeNote) × (refused : ℕ) × IsLogOf frames room p.journal notes refused × (text.new.items ≡ text.old.items ++ log_text notes refused) × (32 ≤ room → refused ≡ 0)) }
+        ensures unchanged { OnErr result (text.new.items ≡ text.old.items) }
+    {
+        if played.is_ok() {
+            self.write(alloc, text)?;
+        }
+        played
     }
 }
 
