@@ -1,4 +1,4 @@
-use Rattle.std.proofs.Common.{◌≡◌, ℕ, ap, sym, ◌∙◌}
+use Rattle.std.proofs.Common.{◌≡◌, ℕ, length, ap, sym, ◌∙◌, arith}
 use Rattle.af_base.specs.Roomy.{Roomy}
 use Rattle.af_session.specs.Ends.{EndsState}
 use Rattle.af_session.proofs.ShownWhole.{is_told, tally_tracks}
@@ -7,8 +7,9 @@ use Rattle.af_session.proofs.staging.Stage.finish.Goals as goal
 pub sum_up-summary-requires-clause-room : goal.sum_up-summary-requires-clause-room
 sum_up-summary-requires-clause-room c =
     let noted = c.requires.1 in
-    let room : c.args.self.room.released.room ≡ _ = ap (λ (b : Roomy ℕ). b.room) noted.room in
-    ?
+    let room : c.args.self.room.released.room ≡ length c.requires.0.tracks = ap (λ (b : Roomy ℕ). b.room) noted.room in
+    let count = noted.count in
+    omega (arith, room, count)
 
 pub sum_up-summary-requires-clause-count : goal.sum_up-summary-requires-clause-count
 sum_up-summary-requires-clause-count c =
