@@ -1,5 +1,5 @@
 -- What a play keeps, by how it was answered.
-use Rattle.std.proofs.Common.{◌≡◌, ◌*◌, ◌⊎◌, ℕ, Bool, true, false, List, Some, Result, Ok, Err, IfErr, IfOk, IsErrAnd, inl, inr, refl, sym, ap, subst, ◌∙◌}
+use Rattle.std.proofs.Common.{◌≡◌, ◌*◌, ◌⊎◌, ℕ, Bool, true, false, List, Some, Result, Ok, Err, IfErr, IfOk, OnErr, OnOk, IsErrAnd, inl, inr, refl, sym, ap, subst, ◌∙◌}
 use Rattle.af_audit.specs.Drained.{EachDrainedTrackReachedItsStop}
 use Rattle.af_audit.specs.Emptied.{PipeIsEmptied}
 use Rattle.af_audit.specs.Fates.{EachFrameHasOneFate}
@@ -10,6 +10,7 @@ use Rattle.af_audit.proofs.FatesTold.{frames-have-fates}
 use Rattle.af_audit.proofs.SettledTold.{settled}
 use Rattle.af_audit.proofs.SparedTold.{lawful-blocks-are-spared}
 use Rattle.af_base.specs.declared.frame.Frame.{Frame}
+use Rattle.af_base.specs.declared.want.Memory.{Memory}
 use Rattle.af_enough_law.proofs.NeverCut.{never-cut}
 use Rattle.af_io.specs.Files.{Files, SameFiles, SetsFile}
 use Rattle.af_io.specs.declared.store.StoreError.{StoreError}
@@ -43,10 +44,9 @@ use Rattle.af_session.proofs.Spared.{spares_told}
 module _ (script : ScriptData) (files : List (List Frame)) where
   -- nothing is promised of an error that is no limit
   pub keeps_none : (r : Result Played PlayFault) (f : PlayFault) → is_limit f ≡ false → IsErrAnd r (λ x. x ≡ f) → KeepsPlay script files r
-  keeps_none (Ok p) f no is = absurd is
-  keeps_none (Err x) f no is =
-      let never : is_limit x ≡ false = ap is_limit is ∙ no in
-      let r : Result Played PlayFault = Err x in
+  keeps_none (Ok p) f calm is = absurd is
+  keeps_none (Err x) f calm is =
+      let never : is_limit x ≡ false = ap is_limit is ∙ calm in
       record {
         played = tt;
         limit = off_limit {T = Played} (Err x) (HandsBackRun false script files) never;
@@ -67,9 +67,9 @@ module _ (script : ScriptData) (files : List (List Frame)) where
 
   -- and the file is left
   pub files_none : (name : List ℕ) (old new : Files) (r : Result Played PlayFault) (f : PlayFault) → is_limit f ≡ false → IsErrAnd r (λ x. x ≡ f) → LeavesRun script files name old new → KeepsFiles script files name old new r
-  files_none name old new (Ok p) f no is left = absurd is
-  files_none name old new (Err x) f no is left =
-      let never : is_limit x ≡ false = ap is_limit is ∙ no in
+  files_none name old new (Ok p) f calm is left = absurd is
+  files_none name old new (Err x) f calm is left =
+      let never : is_limit x ≡ false = ap is_limit is ∙ calm in
       record {
         written = tt;
         cut = off_limit {T = Played} (Err x) (λ (j : JournalData) (e : EndsState). SetsFile old name (Some (journal_pcm script.frames j)) new) never;
@@ -145,6 +145,34 @@ module _ (script : ScriptData) (files : List (List Frame)) (s : Stage) (r : Resu
 -- what was played is handed on, or memory ran out where all had ended
 abbrev pub IsHandedOn : Result Played PlayFault → Result Played PlayFault → Type 0
 IsHandedOn played r = (r ≡ played) ⊎ ((p : Played) × (played ≡ Ok p) × IsErrAnd r (λ f. f ≡ fault.Memory))
+
+-- the text of the log was told, or there was no memory for it
+module _ (told : Result (Unit {0}) Memory) (played r : Result Played PlayFault) (same : IfOk told (λ _. r ≡ played)) (memory : IfErr told (λ _. r ≡ Err fault.Memory)) where
+  pub handed_by : OnErr told (IfErr played (λ _. ⊥)) → IsHandedOn played r
+  handed_by = by_told told played same memory
+    where
+      by_told : (x : Result (Unit {0}) Memory) (y : Result Played PlayFault) → IfOk x (λ _. r ≡ y) → IfErr x (λ _. r ≡ Err fault.Memory) → OnErr x (IfErr y (λ _. ⊥)) → IsHandedOn y r
+      by_told (Ok x) y is want never = inl is
+      by_told (Err e) (Ok p) is want never = inr (p, refl, subst (λ (z : Result Played PlayFault). IsErrAnd z (λ f. f ≡ fault.Memory)) (sym want) refl)
+      by_told (Err e) (Err f) is want never = absurd never
+
+  pub told_by : (Q : Played → Type 0) → OnOk told (IfOk played Q) → IfOk r Q
+  told_by Q = by_told told same memory
+    where
+      by_told : (x : Result (Unit {0}) Memory) → IfOk x (λ _. r ≡ played) → IfErr x (λ _. r ≡ Err fault.Memory) → OnOk x (IfOk played Q) → IfOk r Q
+      by_told (Ok x) is want q = subst (λ (z : Result Played PlayFault). IfOk z Q) (sym is) q
+      by_told (Err e) is want q = subst (λ (z : Result Played PlayFault). IfOk z Q) (sym want) tt
+
+  pub kept_by : (E : Type 0) → IfErr played (λ _. E) → OnErr told E → OnErr r E
+  kept_by E none = by_told told same memory
+    where
+      as_played : (y : Result Played PlayFault) → IfErr y (λ _. E) → OnErr y E
+      as_played (Ok p) e = tt
+      as_played (Err f) e = e
+
+      by_told : (x : Result (Unit {0}) Memory) → IfOk x (λ _. r ≡ played) → IfErr x (λ _. r ≡ Err fault.Memory) → OnErr x E → OnErr r E
+      by_told (Ok x) is want e = subst (λ (z : Result Played PlayFault). OnErr z E) (sym is) (as_played played none)
+      by_told (Err w) is want e = subst (λ (z : Result Played PlayFault). OnErr z E) (sym want) e
 
 module _ (script : ScriptData) (files : List (List Frame)) (played r : Result Played PlayFault) where
   pub keeps_on : IsHandedOn played r → KeepsPlay script files played → KeepsPlay script files r

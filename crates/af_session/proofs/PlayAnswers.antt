@@ -1,5 +1,5 @@
 -- What a play answers, by what was played.
-use Rattle.std.proofs.Common.{◌≡◌, ◌⊎◌, ◌≤◌, ℕ, Bool, true, false, List, length, Some, Result, Ok, Err, IfErr, IfOk, IsErrAnd, IsErrOf, inl, inr, refl, sym, ap, subst, ◌∙◌}
+use Rattle.std.proofs.Common.{◌≡◌, ◌⊎◌, ◌≤◌, ℕ, Bool, true, false, List, length, Some, Result, Ok, Err, IfErr, IfOk, OnErr, OnOk, IsErrAnd, IsErrOf, is_err, inl, inr, refl, sym, ap, subst, ◌∙◌}
 use Rattle.af_base.specs.declared.frame.Frame.{Frame}
 use Rattle.af_io.specs.Causes.{HasCause}
 use Rattle.af_io.specs.Files.{Files, SetsFile}
@@ -38,6 +38,35 @@ if_ok_always P (Err e) p = tt
 pub if_ok_three : {T E : Type 0} (A B C D : T → Type 0) (r : Result T E) → ((x : T) → A x → B x → C x → D x) → IfOk r A → IfOk r B → IfOk r C → IfOk r D
 if_ok_three A B C D (Ok x) f a b c = f x a b c
 if_ok_three A B C D (Err e) f a b c = tt
+
+-- what is so where a result is Ok, and it is
+pub when_ok : {T E : Type 0} (P : T → Type 0) (r : Result T E) → is_err r ≡ false → IfOk r P → (x : T) × (r ≡ Ok x) × P x
+when_ok P (Ok x) is p = (x, refl, p)
+when_ok P (Err e) is p = absurd (let e : ⊥ = cc in e)
+
+pub ok_when : {T E : Type 0} (P : T → Type 0) (r : Result T E) (x : T) → r ≡ Ok x → P x → IfOk r P
+ok_when P r x is p = subst (λ y. IfOk y P) (sym is) p
+
+-- nothing is so of an error, and none is so of what is Ok
+pub none_ok : {T E : Type 0} (P : T → Type 0) (r : Result T E) → is_err r ≡ true → IfOk r P
+none_ok P (Ok x) is = absurd (let e : ⊥ = cc in e)
+none_ok P (Err e) is = tt
+
+pub none_err : {T E : Type 0} (P : E → Type 0) (r : Result T E) → is_err r ≡ false → IfErr r P
+none_err P (Ok x) is = tt
+none_err P (Err e) is = absurd (let e : ⊥ = cc in e)
+
+pub if_err_always : {T E : Type 0} (P : Type 0) (r : Result T E) → P → IfErr r (λ _. P)
+if_err_always P (Ok x) p = tt
+if_err_always P (Err e) p = p
+
+pub on_ok_from : {T E : Type 0} (A B : Type 0) (r : Result T E) → (A → B) → IfOk r (λ _. A) → OnOk r B
+on_ok_from A B (Ok x) f a = f a
+on_ok_from A B (Err e) f a = tt
+
+pub on_err_from : {T E : Type 0} (A : Type 0) (r : Result T E) → A → OnErr r A
+on_err_from A (Ok x) a = tt
+on_err_from A (Err e) a = a
 
 -- ## Want of memory and faults of the store
 

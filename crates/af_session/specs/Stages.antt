@@ -6,6 +6,7 @@ use Rattle.af_model.specs.JournalForm.{IsJournal, IsWhole}
 use Rattle.af_model.specs.Journals.{journal_of}
 use Rattle.af_party.specs.Parties.{PartyState}
 use Rattle.af_script.specs.Data.{ScriptData}
+use Rattle.af_script.specs.Form.{IsScript}
 use Rattle.af_session.specs.declared.staging.Room.{Room}
 use Rattle.af_session.specs.declared.staging.Stage.{Stage}
 use Rattle.af_session.specs.Hostile.{PokesSpareEntries, PokesSpareOthers}
@@ -25,8 +26,9 @@ pub record IsNewRoom (frames tracks : ℕ) (room : Room) : Type 0 where
   pub tally : IsTally (nothing_shown tracks) room.tally
   pub released : room.released ≡ record { items = []; room = tracks }
 
--- the new parties of a script with what they share, with such room, and no round
+-- the new parties of an accepted script with what they share, with such room, and no round
 pub record IsNewStage (script : ScriptData) (s : Stage) : Type 0 where
+  pub script_is : IsScript script
   pub new : IsNewSession script s.shared s.parties
   pub together : (links : Links) → AreLinksOf s.shared links → AreTogether links s.parties
   pub room : IsNewRoom script.frames (length script.tracks) s.room

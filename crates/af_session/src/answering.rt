@@ -18,6 +18,7 @@ use af_io::{Pcm, StoreError};
 use af_model::Journal;
 use af_script::Script;
 use std::alloc::Global;
+use std::mem::drop;
 
 /// Why a play was not played to its end.
 #[derive(Drop)]
@@ -86,8 +87,13 @@ impl Stage {
         ensures memory { IfErr result (λ f. f ≡ MemoryFault) }
     {
         let played = self.finish();
-        judged(alloc, script, files, &played.journal, false)?;
-        Ok(played)
+        match judged(alloc, script, files, &played.journal, false) {
+            Ok(()) => Ok(played),
+            Err(_) => {
+                drop(played);
+                Err(PlayFault::Memory)
+            }
+        }
     }
 
     // What is handed back where the log is full first, once the journal was judged.
@@ -99,8 +105,14 @@ impl Stage {
         ensures cut_run { IfErr result (AtLimit (λ journal _. IsCutRun script.now files.now journal)) }
     {
         let (journal, ends) = hand_over(self.parties, self.rounds);
-        judged(alloc, script, files, &journal, true)?;
-        Err(PlayFault::CycleLimit { journal, ends })
+        match judged(alloc, script, files, &journal, true) {
+            Ok(()) => Err(PlayFault::CycleLimit { journal, ends }),
+            Err(_) => {
+                drop(journal);
+                drop(ends);
+                Err(PlayFault::Memory)
+            }
+        }
     }
 
     /// What a play answers of a stage that was played to its end, or to that of the log, once its journal was judged.

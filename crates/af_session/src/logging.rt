@@ -1,13 +1,11 @@
 //! The log of a play, where one is kept: the end with which the fast mixer's party notes its entries, and the party that reads it.
-ghost use Rattle.std.specs.Prelude.{◌≡◌, ◌⊎◌, ◌+◌, ◌-◌, ◌++◌, ◌<◌, ◌≤◌, ℕ, false, List, Ok, Some, None, IfOk, IsErrAnd, MatchOption, OnErr, length};
+ghost use Rattle.std.specs.Prelude.{◌≡◌, ◌+◌, ◌-◌, ◌++◌, ◌<◌, ◌≤◌, ℕ, false, List, Some, None, IfErr, IfOk, MatchOption, OnErr, OnOk, length};
 ghost use Rattle.af_base.specs.Log.{entry_at};
 ghost use Rattle.af_model.specs.JournalForm.{is_spent};
 ghost use Rattle.af_model.specs.Journals.{JournalData};
 ghost use Rattle.af_nblog.specs.LogText.{log_text};
 ghost use Rattle.af_nblog.specs.declared.entries.Note.{Note as SomeNote};
 ghost use Rattle.af_nblog.specs.NoteEnds.{WriterState, accepted};
-ghost use Rattle.af_session.specs.declared.answering.PlayFault.TheVariants.{Memory as MemoryFault};
-ghost use Rattle.af_session.specs.declared.rendering.Played.{Played as SomePlayed};
 ghost use Rattle.af_session.specs.Logging.{AreEnds, BeginsLog, HasAudited, HasLogged, HasLogOf, HasMetLog, IsAuditor, IsLogOf, IsScribe};
 
 use crate::answering::PlayFault;
@@ -147,22 +145,23 @@ impl Logging {
         af_nblog::write(alloc, self.auditor.notes.as_slice(), refused, text)
     }
 
-    /// Hands on what was played: where all parties have ended, once the text of the log was appended to `text`.
-    pub(crate) fn hand_on(
-        mut self,
+    /// Where all parties have ended, drains what is left of a log, and appends its text. Memory is its only refusal; `text` is then as before.
+    pub(crate) fn tell(
+        &mut self,
         alloc: Global,
-        played: Result<Played, PlayFault>,
+        played: &Result<Played, PlayFault>,
         text: &mut Vec<u8>,
-    ) -> Result<Played, PlayFault>
-        requires told { IfOk played (λ p. (frames : ℕ) × (room : ℕ) × HasLogOf frames room p.journal self) }
-        ensures handed { (result ≡ played) ⊎ ((p : SomePlayed) × (played ≡ Ok p) × IsErrAnd result (λ f. f ≡ MemoryFault)) }
-        ensures log { (frames room : ℕ) → IfOk played (λ p. HasLogOf frames room p.journal self) → IfOk result (λ p. (notes : List SomeNote) × (refused : ℕ) × IsLogOf frames room p.journal notes refused × (text.new.items ≡ text.old.items ++ log_text notes refused) × (32 ≤ room → refused ≡ 0)) }
+    ) -> Result<(), Memory>
+        requires told { IfOk played.now (λ p. (frames : ℕ) × (room : ℕ) × HasLogOf frames room p.journal self.old) }
+        ensures log { (frames room : ℕ) → IfOk played.now (λ p. HasLogOf frames room p.journal self.old) → OnOk result (IfOk played.now (λ p. (notes : List SomeNote) × (refused : ℕ) × IsLogOf frames room p.journal notes refused × (text.new.items ≡ text.old.items ++ log_text notes refused) × (32 ≤ room → refused ≡ 0))) }
+        ensures none { IfErr played.now (λ _. text.new.items ≡ text.old.items) }
         ensures unchanged { OnErr result (text.new.items ≡ text.old.items) }
+        ensures memory { OnErr result (IfErr played.now (λ _. ⊥)) }
     {
-        if played.is_ok() {
-            self.write(alloc, text)?;
+        if played.is_err() {
+            return Ok(());
         }
-        played
+        self.write(alloc, text)
     }
 }
 

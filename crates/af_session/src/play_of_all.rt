@@ -1,10 +1,11 @@
 //! A script's rounds from first to last, in which each party is on its own.
-ghost use Rattle.std.specs.Prelude.{◌≡◌, ◌*◌, ◌≤◌, ◌++◌, ℕ, List, [], Option, Some, true, false, IfErr, IfOk, OnErr, OnOk};
+ghost use Rattle.std.specs.Prelude.{◌≡◌, ◌*◌, ◌≤◌, ◌++◌, ℕ, List, [], Option, Some, true, false, Err, IfErr, IfOk, OnErr, OnOk};
 ghost use Rattle.af_io.specs.Causes.{HasCause};
 ghost use Rattle.af_io.specs.Files.{Files, LeavesFront, SetsFile};
 ghost use Rattle.af_model.specs.Journals.{RoundNoted};
 ghost use Rattle.af_nblog.specs.LogText.{log_text};
 ghost use Rattle.af_nblog.specs.declared.entries.Note.{Note as SomeNote};
+ghost use Rattle.af_session.specs.declared.answering.PlayFault.TheVariants.{Memory as MemoryFault};
 ghost use Rattle.af_session.specs.Hostile.{PokesSpareOthers};
 ghost use Rattle.af_session.specs.Logging.{BeginsLog, IsLogOf, LogsPlay, TellsLog};
 ghost use Rattle.af_enough.specs.Enough.{HasEnoughCycles};
@@ -28,9 +29,11 @@ use crate::logging::Logging;
 use crate::rendering::Played;
 use crate::staging::Stage;
 use af_audit::drained_tracks_have_reached_their_stop;
+use af_base::Memory;
 use af_io::{Gate, Pcm, Store, StoreError};
 use af_script::Script;
 use std::alloc::Global;
+use std::mem::drop;
 use std::thread::Threads;
 
 impl Stage {
@@ -131,8 +134,13 @@ fn play_with<R: Threads + Sync, S: Store, G: Gate>(
 {
     drained_tracks_have_reached_their_stop();
     let mut stage = Stage::make(alloc, script)?;
-    stage.play_made(rt, alloc, script, files, store, name, logging, gate)?;
-    stage.answer(alloc, script, files)
+    match stage.play_made(rt, alloc, script, files, store, name, logging, gate) {
+        Ok(()) => stage.answer(alloc, script, files),
+        Err(error) => {
+            drop(stage);
+            Err(PlayFault::from(error))
+        }
+    }
 }
 
 /// Plays a script in rounds. In each every party that has not ended makes one turn, on a thread of its own where one can be made: each client, the normal mixer, and the fast mixer, which makes sixteen cycles, or fewer after one that isn't mixed. Then all parties meet. A party's turn begins at the gate, by its number: the clients' are those of their tracks, and the mixers' come behind. The sound goes to the file of this name, round by round. All blocks, logs and mixers are made before the file is; the rounds are noted as they are played. It makes at most as many rounds as the script has cycles.
@@ -173,6 +181,20 @@ pub fn play<R: Threads + Sync, S: Store, G: Gate>(
 {
     let mut logging = Logging::none(alloc)?;
     play_with(rt, alloc, script, files, store, name, &mut logging, gate)
+}
+
+// Hands on what was played, where the text of its log was told too.
+fn hand_on(played: Result<Played, PlayFault>, told: Result<(), Memory>) -> Result<Played, PlayFault>
+    ensures same { IfOk told (λ _. result ≡ played) }
+    ensures memory { IfErr told (λ _. result ≡ Err MemoryFault) }
+{
+    match told {
+        Ok(()) => played,
+        Err(_) => {
+            drop(played);
+            Err(PlayFault::Memory)
+        }
+    }
 }
 
 /// Plays a script as `play` does, with a log of notes: the fast mixer's party notes each entry that it adds, without waiting, in a log with room for `room` notes, and a party more, whose number is behind that of the fast mixer, reads it in each round until it sees no note left. The text of the log is appended to `text` where all parties have ended; else `text` is as before.
@@ -217,5 +239,7 @@ pub fn play_logged<R: Threads + Sync, S: Store, G: Gate>(
 {
     let mut logging = Logging::of(alloc, room, script.cycles())?;
     let played = play_with(rt, alloc, script, files, store, name, &mut logging, gate);
-    logging.hand_on(alloc, played, text)
+    let told = logging.tell(alloc, &played, text);
+    drop(logging);
+    hand_on(played, told)
 }

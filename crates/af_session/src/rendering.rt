@@ -27,6 +27,7 @@ use af_script::Script;
 use af_tally::{Summary, Tally};
 use std::alloc::Global;
 use std::marker::Model;
+use std::mem::drop;
 
 /// The client proxies and the normal mixer of a run that is over. Contracts see the lists that their passes keep.
 #[derive(Drop)]
@@ -229,6 +230,11 @@ pub fn render<S: Store>(
     ensures cause { HasCause (S.faults store.old) (S.faults store.new) result }
 {
     let mut stage = Stage::make(alloc, script)?;
-    stage.play_new(alloc, script, files, store, name)?;
-    Ok(stage.finish())
+    match stage.play_new(alloc, script, files, store, name) {
+        Ok(()) => Ok(stage.finish()),
+        Err(error) => {
+            drop(stage);
+            Err(error)
+        }
+    }
 }

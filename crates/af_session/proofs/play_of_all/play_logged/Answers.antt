@@ -2,7 +2,7 @@ use Rattle.std.proofs.Common.{◌≡◌, ◌*◌, ℕ, Some, IfOk, inl, refl, su
 use Rattle.af_session.specs.declared.answering.PlayFault.TheVariants as fault
 use Rattle.af_session.specs.declared.rendering.Played.{Played}
 use Rattle.af_session.specs.Logging.{BeginsLog, HasLogOf}
-use Rattle.af_session.proofs.KeptPlays.{cause_on, files_none, files_on, keeps_none, keeps_on}
+use Rattle.af_session.proofs.KeptPlays.{cause_on, files_none, files_on, handed_by, keeps_none, keeps_on, kept_by, told_by}
 use Rattle.af_session.proofs.Outgoing.{cause_memory}
 use Rattle.af_session.proofs.PlayAnswers.{if_ok_one}
 use Rattle.af_session.proofs.play_of_all.play_logged.Goals as goal
@@ -69,61 +69,61 @@ returns-in_err-logging-clause-cause g c = cause_memory c.from_residual.result (g
 -- ## What was played
 
 pub returns-clause-played : goal.returns-clause-played
-returns-clause-played g c = (keeps_on c.args.script.now c.args.files.now c.play_with-played.result c.hand_on.result c.hand_on.ensures.handed c.play_with-played.ensures.keeps).played
+returns-clause-played g c = (keeps_on c.args.script.now c.args.files.now c.play_with-played.result c.hand_on.result (handed_by c.tell-told.result c.play_with-played.result c.hand_on.result c.hand_on.ensures.same c.hand_on.ensures.memory c.tell-told.ensures.memory) c.play_with-played.ensures.keeps).played
 
 pub returns-clause-limit : goal.returns-clause-limit
-returns-clause-limit g c = (keeps_on c.args.script.now c.args.files.now c.play_with-played.result c.hand_on.result c.hand_on.ensures.handed c.play_with-played.ensures.keeps).limit
+returns-clause-limit g c = (keeps_on c.args.script.now c.args.files.now c.play_with-played.result c.hand_on.result (handed_by c.tell-told.result c.play_with-played.result c.hand_on.result c.hand_on.ensures.same c.hand_on.ensures.memory c.tell-told.ensures.memory) c.play_with-played.ensures.keeps).limit
 
 pub returns-clause-legal : goal.returns-clause-legal
-returns-clause-legal g c = (keeps_on c.args.script.now c.args.files.now c.play_with-played.result c.hand_on.result c.hand_on.ensures.handed c.play_with-played.ensures.keeps).legal
+returns-clause-legal g c = (keeps_on c.args.script.now c.args.files.now c.play_with-played.result c.hand_on.result (handed_by c.tell-told.result c.play_with-played.result c.hand_on.result c.hand_on.ensures.same c.hand_on.ensures.memory c.tell-told.ensures.memory) c.play_with-played.ensures.keeps).legal
 
 pub returns-clause-fates : goal.returns-clause-fates
-returns-clause-fates g c = (keeps_on c.args.script.now c.args.files.now c.play_with-played.result c.hand_on.result c.hand_on.ensures.handed c.play_with-played.ensures.keeps).fates
+returns-clause-fates g c = (keeps_on c.args.script.now c.args.files.now c.play_with-played.result c.hand_on.result (handed_by c.tell-told.result c.play_with-played.result c.hand_on.result c.hand_on.ensures.same c.hand_on.ensures.memory c.tell-told.ensures.memory) c.play_with-played.ensures.keeps).fates
 
 pub returns-clause-unshut : goal.returns-clause-unshut
-returns-clause-unshut g c = (keeps_on c.args.script.now c.args.files.now c.play_with-played.result c.hand_on.result c.hand_on.ensures.handed c.play_with-played.ensures.keeps).unshut
+returns-clause-unshut g c = (keeps_on c.args.script.now c.args.files.now c.play_with-played.result c.hand_on.result (handed_by c.tell-told.result c.play_with-played.result c.hand_on.result c.hand_on.ensures.same c.hand_on.ensures.memory c.tell-told.ensures.memory) c.play_with-played.ensures.keeps).unshut
 
 pub returns-clause-drained : goal.returns-clause-drained
-returns-clause-drained g c = (keeps_on c.args.script.now c.args.files.now c.play_with-played.result c.hand_on.result c.hand_on.ensures.handed c.play_with-played.ensures.keeps).drained
+returns-clause-drained g c = (keeps_on c.args.script.now c.args.files.now c.play_with-played.result c.hand_on.result (handed_by c.tell-told.result c.play_with-played.result c.hand_on.result c.hand_on.ensures.same c.hand_on.ensures.memory c.tell-told.ensures.memory) c.play_with-played.ensures.keeps).drained
 
 pub returns-clause-settled : goal.returns-clause-settled
-returns-clause-settled g c = (keeps_on c.args.script.now c.args.files.now c.play_with-played.result c.hand_on.result c.hand_on.ensures.handed c.play_with-played.ensures.keeps).settled
+returns-clause-settled g c = (keeps_on c.args.script.now c.args.files.now c.play_with-played.result c.hand_on.result (handed_by c.tell-told.result c.play_with-played.result c.hand_on.result c.hand_on.ensures.same c.hand_on.ensures.memory c.tell-told.ensures.memory) c.play_with-played.ensures.keeps).settled
 
 pub returns-clause-emptied : goal.returns-clause-emptied
-returns-clause-emptied g c = (keeps_on c.args.script.now c.args.files.now c.play_with-played.result c.hand_on.result c.hand_on.ensures.handed c.play_with-played.ensures.keeps).emptied
+returns-clause-emptied g c = (keeps_on c.args.script.now c.args.files.now c.play_with-played.result c.hand_on.result (handed_by c.tell-told.result c.play_with-played.result c.hand_on.result c.hand_on.ensures.same c.hand_on.ensures.memory c.tell-told.ensures.memory) c.play_with-played.ensures.keeps).emptied
 
 pub returns-clause-cut_run : goal.returns-clause-cut_run
-returns-clause-cut_run g c = (keeps_on c.args.script.now c.args.files.now c.play_with-played.result c.hand_on.result c.hand_on.ensures.handed c.play_with-played.ensures.keeps).cut_run
+returns-clause-cut_run g c = (keeps_on c.args.script.now c.args.files.now c.play_with-played.result c.hand_on.result (handed_by c.tell-told.result c.play_with-played.result c.hand_on.result c.hand_on.ensures.same c.hand_on.ensures.memory c.tell-told.ensures.memory) c.play_with-played.ensures.keeps).cut_run
 
 pub returns-clause-enough : goal.returns-clause-enough
-returns-clause-enough g c = (keeps_on c.args.script.now c.args.files.now c.play_with-played.result c.hand_on.result c.hand_on.ensures.handed c.play_with-played.ensures.keeps).enough
+returns-clause-enough g c = (keeps_on c.args.script.now c.args.files.now c.play_with-played.result c.hand_on.result (handed_by c.tell-told.result c.play_with-played.result c.hand_on.result c.hand_on.ensures.same c.hand_on.ensures.memory c.tell-told.ensures.memory) c.play_with-played.ensures.keeps).enough
 
 pub returns-clause-summary : goal.returns-clause-summary
-returns-clause-summary g c = (keeps_on c.args.script.now c.args.files.now c.play_with-played.result c.hand_on.result c.hand_on.ensures.handed c.play_with-played.ensures.keeps).summary
+returns-clause-summary g c = (keeps_on c.args.script.now c.args.files.now c.play_with-played.result c.hand_on.result (handed_by c.tell-told.result c.play_with-played.result c.hand_on.result c.hand_on.ensures.same c.hand_on.ensures.memory c.tell-told.ensures.memory) c.play_with-played.ensures.keeps).summary
 
 pub returns-clause-calls : goal.returns-clause-calls
-returns-clause-calls g c = (keeps_on c.args.script.now c.args.files.now c.play_with-played.result c.hand_on.result c.hand_on.ensures.handed c.play_with-played.ensures.keeps).calls
+returns-clause-calls g c = (keeps_on c.args.script.now c.args.files.now c.play_with-played.result c.hand_on.result (handed_by c.tell-told.result c.play_with-played.result c.hand_on.result c.hand_on.ensures.same c.hand_on.ensures.memory c.tell-told.ensures.memory) c.play_with-played.ensures.keeps).calls
 
 pub returns-clause-pushes : goal.returns-clause-pushes
-returns-clause-pushes g c = (keeps_on c.args.script.now c.args.files.now c.play_with-played.result c.hand_on.result c.hand_on.ensures.handed c.play_with-played.ensures.keeps).pushes
+returns-clause-pushes g c = (keeps_on c.args.script.now c.args.files.now c.play_with-played.result c.hand_on.result (handed_by c.tell-told.result c.play_with-played.result c.hand_on.result c.hand_on.ensures.same c.hand_on.ensures.memory c.tell-told.ensures.memory) c.play_with-played.ensures.keeps).pushes
 
 pub returns-clause-never_older : goal.returns-clause-never_older
-returns-clause-never_older g c = (keeps_on c.args.script.now c.args.files.now c.play_with-played.result c.hand_on.result c.hand_on.ensures.handed c.play_with-played.ensures.keeps).never_older
+returns-clause-never_older g c = (keeps_on c.args.script.now c.args.files.now c.play_with-played.result c.hand_on.result (handed_by c.tell-told.result c.play_with-played.result c.hand_on.result c.hand_on.ensures.same c.hand_on.ensures.memory c.tell-told.ensures.memory) c.play_with-played.ensures.keeps).never_older
 
 pub returns-clause-spared : goal.returns-clause-spared
-returns-clause-spared g c = (keeps_on c.args.script.now c.args.files.now c.play_with-played.result c.hand_on.result c.hand_on.ensures.handed c.play_with-played.ensures.keeps).spared
+returns-clause-spared g c = (keeps_on c.args.script.now c.args.files.now c.play_with-played.result c.hand_on.result (handed_by c.tell-told.result c.play_with-played.result c.hand_on.result c.hand_on.ensures.same c.hand_on.ensures.memory c.tell-told.ensures.memory) c.play_with-played.ensures.keeps).spared
 
 pub returns-clause-written : goal.returns-clause-written
-returns-clause-written g c = λ told. (files_on c.args.script.now c.args.files.now c.play_with-played.result c.hand_on.result c.args.name.now (g.S.Store.files c.args.store.now) (g.S.Store.files c.play_with-played.new.store) c.hand_on.ensures.handed (c.play_with-played.ensures.files told)).written
+returns-clause-written g c = λ told. (files_on c.args.script.now c.args.files.now c.play_with-played.result c.hand_on.result c.args.name.now (g.S.Store.files c.args.store.now) (g.S.Store.files c.play_with-played.new.store) (handed_by c.tell-told.result c.play_with-played.result c.hand_on.result c.hand_on.ensures.same c.hand_on.ensures.memory c.tell-told.ensures.memory) (c.play_with-played.ensures.files told)).written
 
 pub returns-clause-cut : goal.returns-clause-cut
-returns-clause-cut g c = λ told. (files_on c.args.script.now c.args.files.now c.play_with-played.result c.hand_on.result c.args.name.now (g.S.Store.files c.args.store.now) (g.S.Store.files c.play_with-played.new.store) c.hand_on.ensures.handed (c.play_with-played.ensures.files told)).cut
+returns-clause-cut g c = λ told. (files_on c.args.script.now c.args.files.now c.play_with-played.result c.hand_on.result c.args.name.now (g.S.Store.files c.args.store.now) (g.S.Store.files c.play_with-played.new.store) (handed_by c.tell-told.result c.play_with-played.result c.hand_on.result c.hand_on.ensures.same c.hand_on.ensures.memory c.tell-told.ensures.memory) (c.play_with-played.ensures.files told)).cut
 
 pub returns-clause-left : goal.returns-clause-left
-returns-clause-left g c = λ told. (files_on c.args.script.now c.args.files.now c.play_with-played.result c.hand_on.result c.args.name.now (g.S.Store.files c.args.store.now) (g.S.Store.files c.play_with-played.new.store) c.hand_on.ensures.handed (c.play_with-played.ensures.files told)).left
+returns-clause-left g c = λ told. (files_on c.args.script.now c.args.files.now c.play_with-played.result c.hand_on.result c.args.name.now (g.S.Store.files c.args.store.now) (g.S.Store.files c.play_with-played.new.store) (handed_by c.tell-told.result c.play_with-played.result c.hand_on.result c.hand_on.ensures.same c.hand_on.ensures.memory c.tell-told.ensures.memory) (c.play_with-played.ensures.files told)).left
 
 pub returns-clause-cause : goal.returns-clause-cause
-returns-clause-cause g c = cause_on c.args.script.now c.args.files.now c.play_with-played.result c.hand_on.result (g.S.Store.faults c.args.store.now) (g.S.Store.faults c.play_with-played.new.store) c.hand_on.ensures.handed c.play_with-played.ensures.cause
+returns-clause-cause g c = cause_on c.args.script.now c.args.files.now c.play_with-played.result c.hand_on.result (g.S.Store.faults c.args.store.now) (g.S.Store.faults c.play_with-played.new.store) (handed_by c.tell-told.result c.play_with-played.result c.hand_on.result c.hand_on.ensures.same c.hand_on.ensures.memory c.tell-told.ensures.memory) c.play_with-played.ensures.cause
 
 -- ## The log
 
@@ -133,14 +133,19 @@ play_with-played-requires-clause-log g c = λ κs lives.
     let begins = subst (λ (n : ℕ). BeginsLog (Some c.args.room) n c.in_ok-logging.logging) c.cycles.ensures.value c.in_ok-logging.ensures in
     (Some c.args.room, begins)
 
-pub hand_on-requires : goal.hand_on-requires
-hand_on-requires g c =
+pub tell-told-requires : goal.tell-told-requires
+tell-told-requires g c =
     let begins = subst (λ (n : ℕ). BeginsLog (Some c.args.room) n c.in_ok-logging.logging) c.cycles.ensures.value c.in_ok-logging.ensures in
     let logging = c.play_with-played.new.logging in
-    if_ok_one (λ (p : Played). HasLogOf c.args.script.now.frames c.args.room p.journal logging) (λ (p : Played). (frames : ℕ) × (room : ℕ) × HasLogOf frames room p.journal logging) c.play_with-played.result
-    (λ p log. (c.args.script.now.frames, c.args.room, log)) (c.play_with-played.ensures.log (Some c.args.room) begins)
+    record {
+      told = if_ok_one (λ (p : Played). HasLogOf c.args.script.now.frames c.args.room p.journal logging) (λ (p : Played). (frames : ℕ) × (room : ℕ) × HasLogOf frames room p.journal logging) c.play_with-played.result
+          (λ p log. (c.args.script.now.frames, c.args.room, log)) (c.play_with-played.ensures.log (Some c.args.room) begins);
+    }
 
 pub returns-clause-log : goal.returns-clause-log
 returns-clause-log g c =
     let begins = subst (λ (n : ℕ). BeginsLog (Some c.args.room) n c.in_ok-logging.logging) c.cycles.ensures.value c.in_ok-logging.ensures in
-    c.hand_on.ensures.log c.args.script.now.frames c.args.room (c.play_with-played.ensures.log (Some c.args.room) begins)
+    told_by c.tell-told.result c.play_with-played.result c.hand_on.result c.hand_on.ensures.same c.hand_on.ensures.memory _ (c.tell-told.ensures.log c.args.script.now.frames c.args.room (c.play_with-played.ensures.log (Some c.args.room) begins))
+
+pub returns-clause-unchanged : goal.returns-clause-unchanged
+returns-clause-unchanged g c = kept_by c.tell-told.result c.play_with-played.result c.hand_on.result c.hand_on.ensures.same c.hand_on.ensures.memory _ c.tell-told.ensures.none c.tell-told.ensures.unchanged

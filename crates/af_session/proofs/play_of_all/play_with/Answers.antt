@@ -1,4 +1,4 @@
-use Rattle.std.proofs.Common.{◌≡◌, ◌*◌, ℕ, List, Some, inl, refl, ap}
+use Rattle.std.proofs.Common.{◌≡◌, ◌*◌, ℕ, List, Some, Err, inl, refl, ap}
 use Rattle.af_fast.specs.Mixer.{MixerState}
 use Rattle.af_model.specs.Journals.{journal_of}
 use Rattle.af_session.specs.declared.answering.PlayFault.TheVariants as fault
@@ -26,38 +26,38 @@ returns-in_err-stage-clause-cause g c = cause_memory c.from_residual.result (g.S
 
 -- ## Where the store or memory failed
 
-pub returns-in_err-play_made-clause-keeps : goal.returns-in_err-play_made-clause-keeps
-returns-in_err-play_made-clause-keeps g c =
-    let e = c.in_err-play_made.field-0.0 in
-    keeps_none c.args.script.now c.args.files.now c.from_residual-in_err-play_made.result (fault_of e) (limits_not e) c.from_residual-in_err-play_made.ensures.1
+pub returns-in-Err-clause-keeps : goal.returns-in-Err-clause-keeps
+returns-in-Err-clause-keeps g c =
+    let e = c.in-Err.error in
+    keeps_none c.args.script.now c.args.files.now (Err c.from-in-Err.result) (fault_of e) (limits_not e) c.from-in-Err.ensures.1
 
-pub returns-in_err-play_made-clause-files : goal.returns-in_err-play_made-clause-files
-returns-in_err-play_made-clause-files g c = λ told.
-    let e = c.in_err-play_made.field-0.0 in
-    files_none c.args.script.now c.args.files.now c.args.name.now (g.S.Store.files c.args.store.now) (g.S.Store.files c.play_made.new.store) c.from_residual-in_err-play_made.result (fault_of e) (limits_not e) c.from_residual-in_err-play_made.ensures.1
-    (c.in_err-play_made.ensures.left told)
+pub returns-in-Err-clause-files : goal.returns-in-Err-clause-files
+returns-in-Err-clause-files g c = λ told.
+    let e = c.in-Err.error in
+    files_none c.args.script.now c.args.files.now c.args.name.now (g.S.Store.files c.args.store.now) (g.S.Store.files c.play_made.new.store) (Err c.from-in-Err.result) (fault_of e) (limits_not e) c.from-in-Err.ensures.1
+    (c.in-Err.ensures.left told)
 
-pub returns-in_err-play_made-clause-cause : goal.returns-in_err-play_made-clause-cause
-returns-in_err-play_made-clause-cause g c =
-    cause_store c.from_residual-in_err-play_made.result c.in_err-play_made.field-0.0 (g.S.Store.faults c.args.store.now) (g.S.Store.faults c.play_made.new.store) c.from_residual-in_err-play_made.ensures.1 c.in_err-play_made.ensures.cause
+pub returns-in-Err-clause-cause : goal.returns-in-Err-clause-cause
+returns-in-Err-clause-cause g c =
+    cause_store (Err c.from-in-Err.result) c.in-Err.error (g.S.Store.faults c.args.store.now) (g.S.Store.faults c.play_made.new.store) c.from-in-Err.ensures.1 c.in-Err.ensures.cause
 
 -- ## Where all was played
 
-pub returns-clause-keeps : goal.returns-clause-keeps
-returns-clause-keeps g c =
+pub returns-in-Ok-clause-keeps : goal.returns-in-Ok-clause-keeps
+returns-in-Ok-clause-keeps g c =
     let script = c.args.script.now in
     let files = c.args.files.now in
-    keeps script files c.play_made.new.self c.answer.result c.in_ok-play_made.ensures.played c.answer.ensures ? (λ journal legal. c.drained_tracks_have_reached_their_stop.ensures script files journal ? legal)
+    keeps script files c.play_made.new.self c.answer-in-Ok.result c.in-Ok.ensures.played c.answer-in-Ok.ensures c.in_ok-stage.ensures.script_is (λ journal legal. c.drained_tracks_have_reached_their_stop.ensures script files journal c.in_ok-stage.ensures.script_is legal)
 
-pub returns-clause-files : goal.returns-clause-files
-returns-clause-files g c = λ told.
-    files_kept c.args.script.now c.args.files.now c.play_made.new.self c.answer.result c.in_ok-play_made.ensures.played c.answer.ensures c.args.name.now (g.S.Store.files c.args.store.now) (g.S.Store.files c.play_made.new.store)
-    (c.in_ok-play_made.ensures.written told)
+pub returns-in-Ok-clause-files : goal.returns-in-Ok-clause-files
+returns-in-Ok-clause-files g c = λ told.
+    files_kept c.args.script.now c.args.files.now c.play_made.new.self c.answer-in-Ok.result c.in-Ok.ensures.played c.answer-in-Ok.ensures c.args.name.now (g.S.Store.files c.args.store.now) (g.S.Store.files c.play_made.new.store)
+    (c.in-Ok.ensures.written told)
 
-pub returns-clause-cause : goal.returns-clause-cause
-returns-clause-cause g c =
-    cause_kept c.args.script.now c.args.files.now c.play_made.new.self c.answer.result c.in_ok-play_made.ensures.played c.answer.ensures c.in_ok-play_made.field-0 (g.S.Store.faults c.args.store.now) (g.S.Store.faults c.play_made.new.store)
-    c.in_ok-play_made.ensures.cause
+pub returns-in-Ok-clause-cause : goal.returns-in-Ok-clause-cause
+returns-in-Ok-clause-cause g c =
+    cause_kept c.args.script.now c.args.files.now c.play_made.new.self c.answer-in-Ok.result c.in-Ok.ensures.played c.answer-in-Ok.ensures c.in-Ok.field-0 (g.S.Store.faults c.args.store.now) (g.S.Store.faults c.play_made.new.store)
+    c.in-Ok.ensures.cause
 
 -- ## The log
 
@@ -66,12 +66,12 @@ play_made-requires-clause-log g c = λ κs lives.
     let fast = c.in_ok-stage.ensures.new.fast in
     (c.requires.log.0, c.requires.log.1 c.in_ok-stage.stage.parties.fast (ap (λ (m : MixerState). m.cycles) fast) (ap (λ (m : MixerState). m.log.entries) fast))
 
-pub returns-clause-log : goal.returns-clause-log
-returns-clause-log g c = λ kept begins.
+pub returns-in-Ok-clause-log : goal.returns-in-Ok-clause-log
+returns-in-Ok-clause-log g c = λ kept begins.
     let s = c.play_made.new.self in
-    let have = c.in_ok-play_made.ensures.played in
+    let have = c.in-Ok.ensures.played in
     let fast = c.in_ok-stage.ensures.new.fast in
     let first = begins c.in_ok-stage.stage.parties.fast (ap (λ (m : MixerState). m.cycles) fast) (ap (λ (m : MixerState). m.log.entries) fast) in
-    if_ok_one (λ (p : Played). p.journal ≡ journal_of s.rounds s.parties.fast.log) (λ (p : Played). TellsLog kept c.args.script.now.frames p.journal c.play_made.new.logging) c.answer.result
-    (λ p journal. tells_log kept c.args.script.now.frames s.parties.fast s.rounds p.journal c.play_made.new.logging (c.in_ok-play_made.ensures.log kept first) have.noted.whole have.frames have.entries journal)
-    c.answer.ensures.journal
+    if_ok_one (λ (p : Played). p.journal ≡ journal_of s.rounds s.parties.fast.log) (λ (p : Played). TellsLog kept c.args.script.now.frames p.journal c.play_made.new.logging) c.answer-in-Ok.result
+    (λ p journal. tells_log kept c.args.script.now.frames s.parties.fast s.rounds p.journal c.play_made.new.logging (c.in-Ok.ensures.log kept first) have.noted.whole have.frames have.entries journal)
+    c.answer-in-Ok.ensures.journal
