@@ -1,5 +1,5 @@
 -- The client of a stream whose proxy isn't home meets what is there.
-use Rattle.std.proofs.Common.{◌≡◌, ◌≢◌, ℕ, zero, suc, ◌<◌, ◌≤◌, true, false, true≢false, is_some, List, length, slice_get, slice_index_or, Option, Some, None, refl, sym, ap, subst, ◌∙◌, get_or-set_same, get_or-set_other, arith}
+use Rattle.std.proofs.Common.{◌≡◌, ◌≢◌, ℕ, ◌<◌, true, true≢false, is_some, List, length, slice_get, slice_index_or, Option, Some, None, refl, sym, ap, subst, ◌∙◌, get_or-set_same, get_or-set_other, arith}
 use Rattle.std.proofs.lemmas.Option.{get_or_from_slice_get, same_Some}
 use Rattle.af_cblk.specs.Parts.{hand_met}
 use Rattle.af_cblk.specs.Rule.{StartsWith}
@@ -10,12 +10,9 @@ use Rattle.af_fast.specs.Mixer.{MixerState, IsInOrder as IsFastInOrder, IsLinked
 use Rattle.af_link.specs.Names.{IsStreamOf}
 use Rattle.af_link.specs.declared.links.Links.{Links}
 use Rattle.af_link.specs.declared.names.StreamNames.{StreamNames}
-use Rattle.af_life.specs.Kept.{is_home, track_at}
 use Rattle.af_model.specs.History.{HasHistory, is_lawful}
 use Rattle.af_model.specs.StateQueue.{slot_of}
 use Rattle.af_normal.specs.Meeting.{MeetsAll}
-use Rattle.af_normal.specs.Order.{IsInOrder as IsNormalInOrder}
-use Rattle.af_normal.specs.State.{NormalState}
 use Rattle.af_server.specs.Order.{ServerState}
 use Rattle.af_stateq.specs.Mutates.{at}
 use Rattle.af_stateq.specs.Observes.{Observes}
@@ -135,11 +132,3 @@ none_there block f f' track c c' h h1 h' none same flag client made order hand m
   );
   others = (λ k ne. ap (λ (x : MixerState). at x.observer.items k) same);
 }
-
--- a track whose proxy isn't home has a hand
-pub has_hand : (links : Links) (m : NormalState) (i : ℕ) → IsNormalInOrder links m → is_home (track_at m.tracks i).holder ≡ false → i < length m.tracks → length m.hands ≤ i → ⊥
-has_hand links m i order away inside over = by_turns m.turns refl
-  where
-    by_turns : (n : ℕ) → m.turns ≡ n → ⊥
-    by_turns zero e = true≢false (sym ((order.none_yet e).home i) ∙ away)
-    by_turns (suc n) e = let whole = (order.hands (omega (arith, e))).whole in omega (arith, whole, inside, over)

@@ -80,6 +80,15 @@ loop-i-preserved g c =
           (c.in_ok-play_noted.ensures.written (inv.tells told) base then (inv.written told base set)));
     }
 
+pub play_noted-requires-clause-ready : goal.play_noted-requires-clause-ready
+play_noted-requires-clause-ready g c = (c.loop-i.i, omega (arith, c.loop-i-test.true, c.loop-i.auto.i-end, c.requires.few), c.loop-i.invariant.ready)
+
+pub play_noted-requires-clause-count : goal.play_noted-requires-clause-count
+play_noted-requires-clause-count g c = c.loop-i.invariant.noted.count
+
+pub play_noted-requires-clause-places : goal.play_noted-requires-clause-places
+play_noted-requires-clause-places g c = (c.loop-i.i, omega (arith, c.loop-i-test.true, c.loop-i.auto.i-end, c.requires.few), c.loop-i.invariant.places)
+
 pub returns-in_err-play_noted : goal.returns-in_err-play_noted
 returns-in_err-play_noted g c = record {
   ready = IfOk-from_err c.from_residual.result _ c.from_residual.ensures.0;
