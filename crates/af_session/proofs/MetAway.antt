@@ -1,6 +1,8 @@
 -- The client of a stream whose proxy isn't home meets what is there.
-use Rattle.std.proofs.Common.{◌≡◌, ◌≢◌, ℕ, ◌<◌, true, true≢false, is_some, List, slice_get, Option, Some, None, refl, sym, ap, subst, ◌∙◌, get_or-set_same, get_or-set_other, arith}
-use Rattle.std.proofs.lemmas.Option.{same_Some}
+use Rattle.std.proofs.Common.{◌≡◌, ◌≢◌, ℕ, ◌<◌, true, true≢false, is_some, List, length, slice_get, slice_index_or, Option, Some, None, refl, sym, ap, subst, ◌∙◌, get_or-set_same, get_or-set_other, arith}
+use Rattle.std.proofs.lemmas.Option.{get_or_from_slice_get, same_Some}
+use Rattle.af_cblk.specs.Parts.{hand_met}
+use Rattle.af_cblk.specs.Rule.{StartsWith}
 use Rattle.af_cblk.specs.Sides.{HandSide, Made, client_made, hand_made, server_made}
 use Rattle.af_client.specs.Order.{ClientState, IsInOrder as IsClientInOrder}
 use Rattle.af_fast.specs.Meets.{AreOfBlockOf, MeetsHeld, server_met}
@@ -8,7 +10,7 @@ use Rattle.af_fast.specs.Mixer.{MixerState, IsInOrder as IsFastInOrder, IsLinked
 use Rattle.af_link.specs.Names.{IsStreamOf}
 use Rattle.af_link.specs.declared.links.Links.{Links}
 use Rattle.af_link.specs.declared.names.StreamNames.{StreamNames}
-use Rattle.af_model.specs.History.{HasHistory}
+use Rattle.af_model.specs.History.{HasHistory, is_lawful}
 use Rattle.af_model.specs.StateQueue.{slot_of}
 use Rattle.af_normal.specs.Meeting.{MeetsAll}
 use Rattle.af_server.specs.Order.{ServerState}
@@ -107,3 +109,26 @@ pub held_there : (links : Links) (f f1 f' : MixerState) (track slot : ℕ) (c c'
 held_there links f f1 f' track slot c c' h h1 h' same flag order stream hand found only met =
     there links f track slot c h order stream hand found f' c' h' (subst (λ (y : MixerState). f' ≡ record y { observer = f'.observer }) same only)
     (subst (λ (y : MixerState × HandSide). (s : ServerState) → at y.0.observer.items slot ≡ Some s → MeetsHeld slot s y.0.observer c y.1 f'.observer c' h') (λ i. (same i, flag i)) met)
+
+-- a block that is read at its place
+pub block_at : (blocks : List Made) (i : ℕ) (b other : Made) → slice_get blocks i ≡ Some b → b ≡ slice_index_or blocks i other
+block_at blocks i b other there = sym (get_or_from_slice_get blocks i b other there)
+
+-- where the observer holds none the hand alone meets the client
+pub none_there : (block : Made) (f f' : MixerState) (track : ℕ) (c c' : ClientState) (h h1 h' : HandSide) → slot_for f.observer.past.state track ≡ None → f' ≡ f → h1 ≡ h → c' ≡ c → client_made c.pass ≡ block → IsClientInOrder c
+    → hand_made h ≡ client_made c.pass → hand_made h' ≡ block → h'.part ≡ hand_met h1.part (length c.pass.part.events)
+    → (is_lawful c.pass.part.events ≡ true → (taken : List ℕ) × StartsWith h'.known c.pass.part.learnt × HasHistory block.shape c.pass.part.events c.pass.part.frames h'.known taken h'.part.events) → MeetsThere f track c h f' c' h'
+none_there block f f' track c c' h h1 h' none same flag client made order hand made' part history = record {
+  stream = (ap (λ (x : ClientState). client_made x.pass) client, subst IsClientInOrder (sym client) order);
+  hand = made' ∙ sym made ∙ sym hand;
+  same = subst (λ (x : MixerState). x ≡ record f { observer = record f.observer { items = x.observer.items } }) (sym same) refl;
+  met = subst (λ (o : Option ℕ). MeetsAway (client_made c.pass) (item_at f.observer.items o) h c (item_at f'.observer.items o) h' c') (sym none) (
+    refl,
+    record {
+      client = client;
+      hand = part ∙ ap (λ (x : HandSide). hand_met x.part (length c.pass.part.events)) flag;
+      history = (λ lawful. subst (λ (b : Made). (taken : List ℕ) × StartsWith h'.known c.pass.part.learnt × HasHistory b.shape c.pass.part.events c.pass.part.frames h'.known taken h'.part.events) (sym made) (history lawful));
+    },
+  );
+  others = (λ k ne. ap (λ (x : MixerState). at x.observer.items k) same);
+}

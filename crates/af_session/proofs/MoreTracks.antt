@@ -1,5 +1,5 @@
 -- One track more, each with its parts at its place.
-use Rattle.std.proofs.Common.{◌≡◌, ℕ, zero, suc, ◌+◌, ◌<◌, ◌⊎◌, inl, inr, List, [], ◌∷◌, ◌++◌, length, Some, None, refl, sym, ◌∙◌, subst, arith}
+use Rattle.std.proofs.Common.{◌≡◌, ℕ, zero, suc, ◌+◌, ◌<◌, ◌⊎◌, inl, inr, List, [], ◌∷◌, ◌++◌, length, Some, None, refl, sym, ap, ◌∙◌, subst, arith}
 use Rattle.std.specs.Prelude.{slice_get}
 use Rattle.std.proofs.lemmas.Bool.{cases_eq}
 use Rattle.std.proofs.lemmas.List.{length-append, get_or_append_left, get_or_at}
@@ -9,6 +9,16 @@ use Rattle.af_normal.specs.declared.make.TrackSetup.{TrackSetup}
 use Rattle.af_script.specs.declared.track.TrackSpec.{TrackSpec}
 use Rattle.af_session.specs.NewTracks.{IsNewTrack, IsTrackAt, AreNewTracks}
 use Rattle.af_party.specs.Parties.{PartyState}
+
+-- no tracks
+pub no_tracks : (version : ℕ) (specs : List TrackSpec) (streams commands : List Made) (clients : List PartyState) (tracks : TrackList) → streams ≡ [] → commands ≡ [] → clients ≡ [] → tracks ≡ record { settings = []; streams = []; commands = [] }
+    → AreNewTracks version 0 specs streams commands clients tracks
+no_tracks version specs streams commands clients tracks no_streams no_commands no_clients none = record {
+  blocks = (ap (λ (xs : List Made). length xs) no_streams, ap (λ (xs : List Made). length xs) no_commands);
+  parties = ap (λ (xs : List PartyState). length xs) no_clients;
+  lists = (ap (λ (t : TrackList). length t.settings) none, ap (λ (t : TrackList). length t.streams) none, ap (λ (t : TrackList). length t.commands) none);
+  each = λ i lt. absurd (omega (arith, lt));
+}
 
 -- the last of a list
 pub at_last : {X : Type 0} (xs : List X) (x : X) (n : ℕ) → length xs ≡ n → slice_get (xs ++ x ∷ []) n ≡ Some x

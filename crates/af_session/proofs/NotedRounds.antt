@@ -59,3 +59,14 @@ by_memory e before now x is cause = subst (λ (y : StoreError). HasCause {T = Un
 pub then_memory : (r : Result (Unit {0}) StoreError) (before now : ℕ) (x : Unit {0}) → IsErrAnd r (λ e. e ≡ store.Memory) → HasCause {T = Unit {0}} before now (Ok x) → HasCause before now r
 then_memory (Ok y) before now x is cause = absurd is
 then_memory (Err e) before now x is cause = by_memory e before now x is cause
+
+-- ## The causes of a loop of rounds
+
+-- the store refused a round, before which it had refused nothing
+pub cause_on : (before mid now : ℕ) (e : StoreError) (r : Result (Unit {0}) StoreError) → mid ≡ before → IsErrAnd r (λ f. f ≡ e) → HasCause {T = Unit {0}} mid now (Err e) → HasCause before now r
+cause_on before mid now e (Ok x) same is cause = absurd is
+cause_on before mid now e (Err f) same is cause = subst (λ (y : ℕ × StoreError). HasCause {T = Unit {0}} y.0 now (Err y.1)) (λ i. (same i, sym is i)) cause
+
+-- it refused none
+pub cause_never : (before now : ℕ) (x : Unit {0}) → now ≡ before → HasCause {T = Unit {0}} before now (Ok x)
+cause_never before now x same = record { later = omega (arith, same); failed = (λ h. absurd (no_fault x h)); only = (λ lt. absurd (omega (arith, same, lt))) }

@@ -1,10 +1,10 @@
-use Rattle.std.proofs.Common.{◌≡◌, ℕ, ◌++◌, false, true, List, [], length, append-nil, refl, sym, ap, subst, ◌∙◌, arith}
+use Rattle.std.proofs.Common.{◌≡◌, ℕ, ◌<◌, ◌++◌, false, true, List, [], length, append-nil, refl, sym, ap, subst, ◌∙◌, arith}
 use Rattle.std.proofs.lemmas.List.{length-append}
 use Rattle.af_base.specs.Roomy.{Roomy}
 use Rattle.af_model.specs.Cycles.{is_mixed}
 use Rattle.af_session.specs.Alone.{CyclesOnce, most_cycles}
 use Rattle.af_runs.specs.Pcm.{written}
-use Rattle.af_session.proofs.AloneTurns.{ComesTo, comes_first, comes_on, comes_over, comes_whole}
+use Rattle.af_session.proofs.AloneTurns.{ComesTo, comes_first, comes_on, comes_over, comes_whole, room_on}
 use Rattle.af_session.proofs.FastChains.{long_written, put_behind}
 use Rattle.af_session.proofs.ScribeTurns.{cycle_adds_up_to_one, no_shorter, noted_more, noted_none}
 use Rattle.af_session.proofs.alone.cycles_on.Goals as goal
@@ -94,3 +94,45 @@ returns-then-not-is_mixed-clause-logged g c =
     let inv = c.loop-i.invariant in
     let cycle : CyclesOnce c.loop-i.fast call.result more call.new.fast = call.ensures.cycle in
     noted_more (length c.args.fast.now.log.entries) c.loop-i.fast call.new.fast c.args.scribe.now c.loop-i.scribe call.new.scribe inv.longer cycle.sizes.0 (cycle_adds_up_to_one c.loop-i.fast call.new.fast call.result more cycle) inv.logged call.ensures.logged
+
+pub cycle_logged-cycle-requires-clause-can : goal.cycle_logged-cycle-requires-clause-can
+cycle_logged-cycle-requires-clause-can g c = c.loop-i.invariant.can
+
+pub cycle_logged-cycle-requires-clause-buffer : goal.cycle_logged-cycle-requires-clause-buffer
+cycle_logged-cycle-requires-clause-buffer g c = c.loop-i.invariant.buffer
+
+pub cycle_logged-cycle-requires-clause-room : goal.cycle_logged-cycle-requires-clause-room
+cycle_logged-cycle-requires-clause-room g c =
+    let inv = c.loop-i.invariant in
+    let few : c.loop-i.i < 16 = omega (arith, c.loop-i-test.true) in
+    room_on c.args.bytes.now c.loop-i.bytes inv.turn.0 c.loop-i.i c.args.fast.now.frames c.loop-i.fast.frames inv.turn.1 inv.turn.2 few inv.sizes.0 c.requires.room
+
+pub cycle_logged-cycle-requires-clause-log : goal.cycle_logged-cycle-requires-clause-log
+cycle_logged-cycle-requires-clause-log g c = c.loop-i.invariant.scribe
+
+pub returns-then-not-is_mixed-clause-can : goal.returns-then-not-is_mixed-clause-can
+returns-then-not-is_mixed-clause-can g c = c.cycle_logged-cycle.ensures.can
+
+pub returns-then-not-is_mixed-clause-tally : goal.returns-then-not-is_mixed-clause-tally
+returns-then-not-is_mixed-clause-tally g c = λ first tracks rounds tally. c.cycle_logged-cycle.ensures.tally first tracks rounds (c.loop-i.invariant.follows first tracks rounds tally)
+
+pub returns-then-not-is_mixed-clause-scribe : goal.returns-then-not-is_mixed-clause-scribe
+returns-then-not-is_mixed-clause-scribe g c = c.cycle_logged-cycle.ensures.scribe
+
+pub returns-clause-can : goal.returns-clause-can
+returns-clause-can g c = c.loop-i.invariant.can
+
+pub returns-clause-sizes : goal.returns-clause-sizes
+returns-clause-sizes g c = c.loop-i.invariant.sizes
+
+pub returns-clause-tally : goal.returns-clause-tally
+returns-clause-tally g c = c.loop-i.invariant.follows
+
+pub returns-clause-places : goal.returns-clause-places
+returns-clause-places g c = c.loop-i.invariant.places
+
+pub returns-clause-scribe : goal.returns-clause-scribe
+returns-clause-scribe g c = c.loop-i.invariant.scribe
+
+pub returns-clause-logged : goal.returns-clause-logged
+returns-clause-logged g c = c.loop-i.invariant.logged

@@ -1,50 +1,94 @@
-use Rattle.std.proofs.Common.{◌≡◌, ◌<◌, length, slice_set, false, is_some, sym, ap, subst, ◌∙◌, arith}
+use Rattle.std.proofs.Common.{◌≡◌, ◌<◌, length, slice_set, Some, true, false, is_some, refl, sym, ap, subst, ◌∙◌, arith}
+use Rattle.std.proofs.lemmas.Option.{same_Some}
+use Rattle.af_cblk.specs.Sides.{Made, client_made, hand_made}
 use Rattle.af_party.specs.contracts.party.Party.{the_view}
+use Rattle.af_normal.specs.Meeting.{AreClientsOf}
 use Rattle.af_normal.specs.Mixing.{stream_at}
-use Rattle.af_normal.proofs.MetEnds.{hand_order}
+use Rattle.af_normal.specs.State.{NormalState}
+use Rattle.af_normal.proofs.MetEnds.{hand_order, of_block}
 use Rattle.af_session.specs.Met.{Proxies, TrackMet, proxies_of, slot_for, spot_of}
 use Rattle.af_party.specs.Parties.{PartyState}
-use Rattle.af_session.proofs.MetSpot.{met_away, others_away}
+use Rattle.af_session.proofs.MetSpot.{met_away, met_home, others_away, others_home}
 use Rattle.af_session.proofs.meetings.meet_party.Goals as goal
 
-pub returns-clause-normal : goal.returns-clause-normal
-returns-clause-normal g c =
-    hand_order c.args.links.now c.meet_client.new.self c.party.inside.track c.in-Some.hand.now c.meet_client.ensures.order c.in-Some.ensures.value c.meet_away.new.hand c.meet_away.ensures.hand
+pub meet_client-requires-clause-order : goal.meet_client-requires-clause-order
+meet_client-requires-clause-order g c = c.requires.normal
 
-pub returns-clause-met : goal.returns-clause-met
-returns-clause-met g c =
+pub meet_client-requires-clause-track : goal.meet_client-requires-clause-track
+meet_client-requires-clause-track g c = omega (arith, c.requires.track, ap (λ (y : PartyState). y.track) c.party.view_is)
+
+pub meet_client-requires-clause-clients : goal.meet_client-requires-clause-clients
+meet_client-requires-clause-clients g c = subst (λ (y : PartyState). AreClientsOf c.args.links.now y.track y.stream y.command) (sym c.party.view_is) c.requires.party
+
+pub meet_away-requires-clause-fast : goal.meet_away-requires-clause-fast
+meet_away-requires-clause-fast g c = c.requires.fast
+
+pub meet_away-requires-clause-stream : goal.meet_away-requires-clause-stream
+meet_away-requires-clause-stream g c = (c.meet_client.ensures.clients.stream_is, c.meet_client.ensures.clients.in_order.0)
+
+pub meet_away-requires-clause-hand : goal.meet_away-requires-clause-hand
+meet_away-requires-clause-hand g c =
+    let n = c.meet_client.new.self in
+    let hand = of_block c.args.links.now n c.party.inside.track c.in-Some.hand.now c.meet_client.ensures.order c.in-Some.ensures.value in
+    same_Some (hand_made c.in-Some.hand.now) (client_made c.meet_client.new.stream.pass) (sym hand ∙ c.meet_client.ensures.clients.stream_is)
+
+pub returns-then-meet_client : goal.returns-then-meet_client
+returns-then-meet_client g c =
     let m = c.args.normal.now in
     let f = c.args.fast.now in
     let n = c.meet_client.new.self in
-    let f' = c.meet_away.new.fast in
     let p : PartyState = the_view c.party.inside in
     let x = f.observer.past.state in
     let met = c.meet_client.ensures.met in
-    let before : Proxies = proxies_of m f in
-    let after : Proxies = record { streams = n.streams; commands = n.commands; hands = slice_set n.hands p.track c.meet_away.new.hand; items = f'.observer.items } in
-    let inside : p.track < length m.tracks = omega (arith, c.requires.track, ap (λ (y : PartyState). y.track) c.party.view_is) in
-    let wide : p.track < length m.commands = omega (arith, inside, c.requires.normal.tied.sizes.commands_are) in
-    let away : is_some (stream_at m.streams p.track) ≡ false = c.requires.normal.tied.proxies.there p.track inside ∙ sym c.meet_client.ensures.home ∙ c.if-meet_client.false in
-    subst (λ (y : PartyState). TrackMet (spot_of x before y.track) (spot_of x after y.track) y (record p { stream = c.meet_away.new.stream; command = c.meet_client.new.command })) c.party.view_is
-    (met_away x p.track c.args.links.now m.streams n.streams m.commands n.commands m.hands n.hands f.observer.items p c.meet_client.new.stream c.meet_client.new.command met wide
-    c.in-Some.hand.now c.meet_away.new.hand f'.observer.items c.meet_away.new.stream away c.in-Some.ensures.value c.meet_away.ensures.met)
-
-pub returns-clause-others : goal.returns-clause-others
-returns-clause-others g c =
-    let m = c.args.normal.now in
-    let f = c.args.fast.now in
-    let n = c.meet_client.new.self in
-    let f' = c.meet_away.new.fast in
-    let p : PartyState = the_view c.party.inside in
-    let x = f.observer.past.state in
     let track : p.track ≡ c.args.party.now.track = ap (λ (y : PartyState). y.track) c.party.view_is in
     let inside : p.track < length m.tracks = omega (arith, c.requires.track, track) in
     let wide : p.track < length m.commands = omega (arith, inside, c.requires.normal.tied.sizes.commands_are) in
-    let away : is_some (stream_at m.streams p.track) ≡ false = c.requires.normal.tied.proxies.there p.track inside ∙ sym c.meet_client.ensures.home ∙ c.if-meet_client.false in
-    λ j ne. others_away x p.track c.args.links.now m.streams n.streams m.commands n.commands m.hands n.hands f.observer.items p c.meet_client.new.stream c.meet_client.new.command c.meet_client.ensures.met wide
-    c.in-Some.hand.now c.meet_away.new.hand f'.observer.items c.meet_away.new.stream away c.in-Some.ensures.value c.meet_away.ensures.others j (λ e. ne (e ∙ track))
+    let there : is_some (stream_at m.streams p.track) ≡ c.meet_client.result = c.requires.normal.tied.proxies.there p.track inside ∙ sym c.meet_client.ensures.home in
+    let before : Proxies = proxies_of m f in
+    let home : is_some (stream_at m.streams p.track) ≡ true = there ∙ c.if-meet_client.true in
+    let after : Proxies = proxies_of n f in
+    record {
+      party = subst (λ (y : PartyState). AreClientsOf c.args.links.now y.track c.meet_client.new.stream c.meet_client.new.command) c.party.view_is c.meet_client.ensures.clients;
+      normal = c.meet_client.ensures.order;
+      fast = c.requires.fast;
+      same_normal = c.meet_client.ensures.same;
+      same_fast = refl;
+      met = subst (λ (y : PartyState). TrackMet (spot_of x before y.track) (spot_of x after y.track) y (record p { stream = c.meet_client.new.stream; command = c.meet_client.new.command })) c.party.view_is
+          (met_home x p.track c.args.links.now m.streams n.streams m.commands n.commands m.hands n.hands f.observer.items p c.meet_client.new.stream c.meet_client.new.command met wide home);
+      others = (λ j ne. others_home x p.track c.args.links.now m.streams n.streams m.commands n.commands m.hands n.hands f.observer.items p c.meet_client.new.stream c.meet_client.new.command met wide j (λ e. ne (e ∙ track)));
+      items = (λ k ne. refl);
+    }
 
-pub returns-clause-items : goal.returns-clause-items
-returns-clause-items g c =
-    let track : c.party.inside.track ≡ c.args.party.now.track = ap (λ (y : PartyState). y.track) c.party.view_is in
-    λ k ne. c.meet_away.ensures.others k (λ e. ne (ap (slot_for c.args.fast.now.observer.past.state) (sym track) ∙ e))
+pub returns : goal.returns
+returns g c =
+    let m = c.args.normal.now in
+    let f = c.args.fast.now in
+    let n = c.meet_client.new.self in
+    let p : PartyState = the_view c.party.inside in
+    let x = f.observer.past.state in
+    let met = c.meet_client.ensures.met in
+    let track : p.track ≡ c.args.party.now.track = ap (λ (y : PartyState). y.track) c.party.view_is in
+    let inside : p.track < length m.tracks = omega (arith, c.requires.track, track) in
+    let wide : p.track < length m.commands = omega (arith, inside, c.requires.normal.tied.sizes.commands_are) in
+    let there : is_some (stream_at m.streams p.track) ≡ c.meet_client.result = c.requires.normal.tied.proxies.there p.track inside ∙ sym c.meet_client.ensures.home in
+    let before : Proxies = proxies_of m f in
+    let f' = c.meet_away.new.fast in
+    let hand = c.in-Some.hand.now in
+    let after : Proxies = record { streams = n.streams; commands = n.commands; hands = slice_set n.hands p.track c.meet_away.new.hand; items = f'.observer.items } in
+    let away : is_some (stream_at m.streams p.track) ≡ false = there ∙ c.if-meet_client.false in
+    let clients = c.meet_client.ensures.clients in
+    let stream = c.meet_away.ensures.stream in
+    let made : Some (client_made c.meet_client.new.stream.pass) ≡ Some (client_made c.meet_away.new.stream.pass) = ap (λ (b : Made). Some b) (sym stream.0) in
+    record {
+      party = subst (λ (y : PartyState). AreClientsOf c.args.links.now y.track c.meet_away.new.stream c.meet_client.new.command) c.party.view_is (record { stream_is = clients.stream_is ∙ made; command_is = clients.command_is; in_order = (stream.1, clients.in_order.1) });
+      normal = hand_order c.args.links.now n p.track hand c.meet_client.ensures.order c.in-Some.ensures.value c.meet_away.new.hand c.meet_away.ensures.hand;
+      fast = c.meet_away.ensures.fast;
+      same_normal = ap (λ (y : NormalState). record y { hands = slice_set n.hands p.track c.meet_away.new.hand }) c.meet_client.ensures.same;
+      same_fast = c.meet_away.ensures.same;
+      met = subst (λ (y : PartyState). TrackMet (spot_of x before y.track) (spot_of x after y.track) y (record p { stream = c.meet_away.new.stream; command = c.meet_client.new.command })) c.party.view_is
+          (met_away x p.track c.args.links.now m.streams n.streams m.commands n.commands m.hands n.hands f.observer.items p c.meet_client.new.stream c.meet_client.new.command met wide
+          hand c.meet_away.new.hand f'.observer.items c.meet_away.new.stream away c.in-Some.ensures.value c.meet_away.ensures.met);
+      others = (λ j ne. others_away x p.track c.args.links.now m.streams n.streams m.commands n.commands m.hands n.hands f.observer.items p c.meet_client.new.stream c.meet_client.new.command met wide
+          hand c.meet_away.new.hand f'.observer.items c.meet_away.new.stream away c.in-Some.ensures.value c.meet_away.ensures.others j (λ e. ne (e ∙ track)));
+      items = (λ k ne. c.meet_away.ensures.others k (λ e. ne (ap (slot_for f.observer.past.state) (sym track) ∙ e)));
+    }

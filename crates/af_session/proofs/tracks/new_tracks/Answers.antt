@@ -1,12 +1,18 @@
-use Rattle.std.proofs.Common.{◌≡◌, ◌+◌, List, length, Some, refl, sym, subst}
+use Rattle.std.proofs.Common.{◌≡◌, ◌+◌, List, [], ◌∷◌, ◌++◌, length, Some, refl, sym, ap, ◌∙◌, subst}
 use Rattle.std.specs.Prelude.{slice_get}
 use Rattle.std.proofs.lemmas.Option.{slice_get_read}
 use Rattle.af_cblk.specs.Sides.{Made}
-use Rattle.af_normal.specs.Making.{TrackList}
+use Rattle.af_normal.specs.Making.{TrackList, with_track}
 use Rattle.af_session.specs.NewTracks.{AreNewTracks}
 use Rattle.af_party.specs.Parties.{PartyState}
-use Rattle.af_session.proofs.MoreTracks.{one_track_more}
+use Rattle.af_session.proofs.MoreTracks.{no_tracks, one_track_more}
 use Rattle.af_session.proofs.tracks.new_tracks.Goals as goal
+
+pub loop-index-init : goal.loop-index-init
+loop-index-init c =
+    let made = c.empty-made.result in
+    let none = c.empty-made.ensures in
+    no_tracks c.args.version c.args.specs.now made.streams.items made.commands.items made.clients.items made.tracks none.blocks.0 none.blocks.1 none.parties.0 none.parties.1
 
 pub loop-index-preserved : goal.loop-index-preserved
 loop-index-preserved c =
@@ -14,7 +20,12 @@ loop-index-preserved c =
     let specs = c.args.specs.now in
     let spec = c.index-specs-index.result in
     let one = c.in_ok-track in
+    let same = c.reserve_one.ensures in
+    let added = c.push.ensures in
+    let streams : c.push.new.self.streams.items ≡ l.made.streams.items ++ one.track.stream ∷ [] = added.streams ∙ ap (λ (xs : List Made). xs ++ one.track.stream ∷ []) same.blocks.0 in
+    let commands : c.push.new.self.commands.items ≡ l.made.commands.items ++ one.track.command ∷ [] = added.commands ∙ ap (λ (xs : List Made). xs ++ one.track.command ∷ []) same.blocks.1 in
+    let clients : c.push.new.self.clients.items ≡ l.made.clients.items ++ one.track.client ∷ [] = added.clients ∙ ap (λ (xs : List PartyState). xs ++ one.track.client ∷ []) same.parties.0 in
+    let tracks : c.push.new.self.tracks ≡ with_track one.track.setup l.made.tracks = c.in_ok-push.ensures.tracks ∙ ap (with_track one.track.setup) same.parties.1 in
     let here : slice_get specs l.index ≡ Some spec = slice_get_read specs (length specs) l.index spec refl c.loop-index-test.true c.index-specs-index.is in
-    subst (λ (y : List Made × List Made × List PartyState × TrackList). AreNewTracks c.args.version (l.index + 1) specs y.0 y.1 y.2 y.3)
-    (λ i. (sym c.in_ok-push.ensures.items i, sym c.in_ok-push-2.ensures.items i, sym c.in_ok-push-3.ensures.items i, sym c.in_ok-push-4.ensures.added i))
-    (one_track_more c.args.version l.index specs l.streams.items l.commands.items l.clients.items l.tracks l.invariant spec one.track.stream one.track.command one.track.client one.track.setup here one.ensures)
+    subst (λ (y : List Made × List Made × List PartyState × TrackList). AreNewTracks c.args.version (l.index + 1) specs y.0 y.1 y.2 y.3) (λ i. (sym streams i, sym commands i, sym clients i, sym tracks i))
+    (one_track_more c.args.version l.index specs l.made.streams.items l.made.commands.items l.made.clients.items l.made.tracks l.invariant spec one.track.stream one.track.command one.track.client one.track.setup here one.ensures)

@@ -1,6 +1,7 @@
 use Rattle.std.proofs.Common.{rules, ◌≡◌, ◌+◌, ◌++◌, ℕ, List, [], Some, length, take, refl, sym, ap, subst, ◌∙◌, arith}
 use Rattle.std.specs.Prelude.{All}
 use Rattle.std.proofs.lemmas.List.{take_all}
+use Rattle.std.proofs.lemmas.Result.{IfOk-from_err}
 use Rattle.af_base.specs.Log.{Logged}
 use Rattle.af_base.specs.Sample.{IsFrame}
 use Rattle.af_io.specs.Files.{SetsFile, LeavesFront}
@@ -8,7 +9,7 @@ use Rattle.af_model.specs.Journals.{RoundsNoted}
 use Rattle.af_script.specs.declared.op.TurnSpec.{TurnSpec}
 use Rattle.af_session.specs.Hostile.{SparesSoFar}
 use Rattle.af_session.specs.Rendered.{Runs}
-use Rattle.af_session.specs.Rounds.{Given}
+use Rattle.af_session.specs.Rounds.{Given, IsReady}
 use Rattle.af_base.specs.declared.state.FastState.{FastState}
 use Rattle.af_session.specs.Shown.{shown_at}
 use Rattle.af_tally.specs.Sound.{pcm_of}
@@ -16,6 +17,7 @@ use Rattle.af_tally.specs.Tallies.{IsTally}
 use Rattle.af_session.proofs.ShownWhole.{places_first, tally_first}
 use Rattle.af_session.specs.Together.{SessionState}
 use Rattle.af_session.proofs.JournalSound.{journal_form, journal_whole}
+use Rattle.af_session.proofs.NotedRounds.{cause_never, cause_on}
 use Rattle.af_session.proofs.Outgoing.{on_err, stays_at}
 use Rattle.af_session.proofs.RoundForms.{AreNoted, noted_none, noted_round}
 use Rattle.af_session.proofs.RunMore.{run_none, run_more}
@@ -78,61 +80,72 @@ loop-i-preserved g c =
           (c.in_ok-play_noted.ensures.written (inv.tells told) base then (inv.written told base set)));
     }
 
-pub returns-in_err-play_noted-clause-run : goal.returns-in_err-play_noted-clause-run
-returns-in_err-play_noted-clause-run g c =
-    let given : Given = record { tracks = c.args.tracks.now; files = c.args.files.now } in
-    let inv = c.loop-i.invariant in
-    let i = c.loop-i.i in
-    let now = c.loop-i.self in
-    let next = c.play_noted.new.self in
-    let frames : ℕ = c.args.self.now.fast.frames in
-    let more = c.play_noted.new.bytes.items in
-    let then : List ℕ = pcm_of frames now.fast.log in
-    let grown : then ++ more ≡ pcm_of frames next.fast.log =
-    c.play_noted.ensures.sound then (ap (λ (n : ℕ). pcm_of n now.fast.log) (sym inv.sizes.0)) ∙ ap (λ (n : ℕ). pcm_of n next.fast.log) inv.sizes.0 in
-    (i + 1, _, run_more _ given c.args.turns.now i c.args.self.now now next c.loop-i.rounds.rounds (omega (arith, c.loop-i-test.true, c.loop-i.auto.i-end)) inv.run _ more c.play_noted.ensures.round grown)
+pub play_noted-requires-clause-ready : goal.play_noted-requires-clause-ready
+play_noted-requires-clause-ready g c = (c.loop-i.i, omega (arith, c.loop-i-test.true, c.loop-i.auto.i-end, c.requires.few), c.loop-i.invariant.ready)
 
-pub returns-in_err-play_noted-clause-left : goal.returns-in_err-play_noted-clause-left
-returns-in_err-play_noted-clause-left g c = λ told base set.
-    let inv = c.loop-i.invariant in
-    let now = c.loop-i.self in
-    let next = c.play_noted.new.self in
-    let frames : ℕ = c.args.self.now.fast.frames in
-    let more = c.play_noted.new.bytes.items in
-    let then : List ℕ = pcm_of frames now.fast.log in
-    let grown : then ++ more ≡ pcm_of frames next.fast.log =
-    c.play_noted.ensures.sound then (ap (λ (n : ℕ). pcm_of n now.fast.log) (sym inv.sizes.0)) ∙ ap (λ (n : ℕ). pcm_of n next.fast.log) inv.sizes.0 in
-    let left : LeavesFront base c.args.name.now (pcm_of frames next.fast.log) (g.S.Store.files c.play_noted.new.store) =
-    subst (λ (xs : List ℕ). LeavesFront base c.args.name.now xs (g.S.Store.files c.play_noted.new.store)) grown
-    (c.in_err-play_noted.ensures.left (inv.tells told) base then (inv.written told base set)) in
-    on_err c.from_residual.result left
+pub play_noted-requires-clause-count : goal.play_noted-requires-clause-count
+play_noted-requires-clause-count g c = c.loop-i.invariant.noted.count
 
-pub returns-clause-run : goal.returns-clause-run
-returns-clause-run g c = (c.loop-i.i, c.loop-i.rounds.rounds, c.loop-i.invariant.run)
+pub play_noted-requires-clause-places : goal.play_noted-requires-clause-places
+play_noted-requires-clause-places g c = (c.loop-i.i, omega (arith, c.loop-i-test.true, c.loop-i.auto.i-end, c.requires.few), c.loop-i.invariant.places)
 
-pub returns-clause-all : goal.returns-clause-all
-returns-clause-all g c =
-    let given : Given = record { tracks = c.args.tracks.now; files = c.args.files.now } in
-    subst (λ (xs : List TurnSpec). Runs given xs c.args.self.now c.loop-i.rounds.rounds c.loop-i.self) (take_all c.loop-i.i c.args.turns.now (omega (arith, c.loop-i-test.false, c.loop-i.auto.i-end))) c.loop-i.invariant.run
+pub returns-in_err-play_noted : goal.returns-in_err-play_noted
+returns-in_err-play_noted g c = record {
+  ready = IfOk-from_err c.from_residual.result _ c.from_residual.ensures.0;
+  run = (let given : Given = record { tracks = c.args.tracks.now; files = c.args.files.now } in
+      let inv = c.loop-i.invariant in
+      let i = c.loop-i.i in
+      let now = c.loop-i.self in
+      let next = c.play_noted.new.self in
+      let frames : ℕ = c.args.self.now.fast.frames in
+      let more = c.play_noted.new.bytes.items in
+      let then : List ℕ = pcm_of frames now.fast.log in
+      let grown : then ++ more ≡ pcm_of frames next.fast.log =
+      c.play_noted.ensures.sound then (ap (λ (n : ℕ). pcm_of n now.fast.log) (sym inv.sizes.0)) ∙ ap (λ (n : ℕ). pcm_of n next.fast.log) inv.sizes.0 in
+      (i + 1, _, run_more _ given c.args.turns.now i c.args.self.now now next c.loop-i.rounds.rounds (omega (arith, c.loop-i-test.true, c.loop-i.auto.i-end)) inv.run _ more c.play_noted.ensures.round grown));
+  all = IfOk-from_err c.from_residual.result _ c.from_residual.ensures.0;
+  tracks = IfOk-from_err c.from_residual.result _ c.from_residual.ensures.0;
+  whole = IfOk-from_err c.from_residual.result _ c.from_residual.ensures.0;
+  form = IfOk-from_err c.from_residual.result _ c.from_residual.ensures.0;
+  tally = IfOk-from_err c.from_residual.result _ c.from_residual.ensures.0;
+  frames = IfOk-from_err c.from_residual.result _ c.from_residual.ensures.0;
+  spares = (λ new. IfOk-from_err c.from_residual.result _ c.from_residual.ensures.0);
+  entries = (λ new. IfOk-from_err c.from_residual.result _ c.from_residual.ensures.0);
+  written = (λ told base set. IfOk-from_err c.from_residual.result _ c.from_residual.ensures.0);
+  left = (λ told base set.
+      let inv = c.loop-i.invariant in
+      let now = c.loop-i.self in
+      let next = c.play_noted.new.self in
+      let frames : ℕ = c.args.self.now.fast.frames in
+      let more = c.play_noted.new.bytes.items in
+      let then : List ℕ = pcm_of frames now.fast.log in
+      let grown : then ++ more ≡ pcm_of frames next.fast.log =
+      c.play_noted.ensures.sound then (ap (λ (n : ℕ). pcm_of n now.fast.log) (sym inv.sizes.0)) ∙ ap (λ (n : ℕ). pcm_of n next.fast.log) inv.sizes.0 in
+      let left : LeavesFront base c.args.name.now (pcm_of frames next.fast.log) (g.S.Store.files c.play_noted.new.store) =
+      subst (λ (xs : List ℕ). LeavesFront base c.args.name.now xs (g.S.Store.files c.play_noted.new.store)) grown
+      (c.in_err-play_noted.ensures.left (inv.tells told) base then (inv.written told base set)) in
+      on_err c.from_residual.result left);
+  tells = (λ told. c.play_noted.ensures.tells (c.loop-i.invariant.tells told));
+  cause = cause_on (g.S.Store.faults c.args.store.now) (g.S.Store.faults c.loop-i.store) (g.S.Store.faults c.play_noted.new.store) c.in_err-play_noted.field-0.0 c.from_residual.result c.loop-i.invariant.stays c.from_residual.ensures.1 c.in_err-play_noted.ensures.cause;
+}
 
-pub returns-clause-whole : goal.returns-clause-whole
-returns-clause-whole g c =
-    let samples : All IsFrame c.loop-i.self.fast.log.frames = subst (All IsFrame) (c.frames.ensures ∙ ap (λ (l : Logged). l.frames) c.log.ensures ∙ ap (λ (s : SessionState). s.fast.log.frames) c.self.view_is) c.know_frames.ensures in
-    journal_whole (length c.args.tracks.now) c.loop-i.rounds c.loop-i.self.fast.log c.loop-i.invariant.noted samples
-
-pub returns-clause-form : goal.returns-clause-form
-returns-clause-form g c =
-    let samples : All IsFrame c.loop-i.self.fast.log.frames = subst (All IsFrame) (c.frames.ensures ∙ ap (λ (l : Logged). l.frames) c.log.ensures ∙ ap (λ (s : SessionState). s.fast.log.frames) c.self.view_is) c.know_frames.ensures in
-    journal_form (length c.args.tracks.now) c.loop-i.rounds c.loop-i.self.fast.log c.loop-i.invariant.noted samples
-
-pub returns-clause-tally : goal.returns-clause-tally
-returns-clause-tally g c = c.loop-i.invariant.tally
-
-pub returns-clause-frames : goal.returns-clause-frames
-returns-clause-frames g c = c.loop-i.invariant.sizes.0
-
-pub returns-clause-spares : goal.returns-clause-spares
-returns-clause-spares g c = λ new. c.loop-i.invariant.spares new
-
-pub returns-clause-entries : goal.returns-clause-entries
-returns-clause-entries g c = λ new. c.loop-i.invariant.entries new
+pub returns : goal.returns
+returns g c = record {
+  ready = subst (λ (n : ℕ). IsReady c.args.links.now (record { tracks = c.args.tracks.now; files = c.args.files.now }) n c.loop-i.self) (let all : c.loop-i.i ≡ length c.args.turns.now = omega (arith, c.loop-i-test.false, c.loop-i.auto.i-end) in all) c.loop-i.invariant.ready;
+  run = (c.loop-i.i, c.loop-i.rounds.rounds, c.loop-i.invariant.run);
+  all = (let given : Given = record { tracks = c.args.tracks.now; files = c.args.files.now } in
+      subst (λ (xs : List TurnSpec). Runs given xs c.args.self.now c.loop-i.rounds.rounds c.loop-i.self) (take_all c.loop-i.i c.args.turns.now (omega (arith, c.loop-i-test.false, c.loop-i.auto.i-end))) c.loop-i.invariant.run);
+  tracks = c.loop-i.invariant.noted.tracks_are;
+  whole = (let samples : All IsFrame c.loop-i.self.fast.log.frames = subst (All IsFrame) (c.frames.ensures ∙ ap (λ (l : Logged). l.frames) c.log.ensures ∙ ap (λ (s : SessionState). s.fast.log.frames) c.self.view_is) c.know_frames.ensures in
+      journal_whole (length c.args.tracks.now) c.loop-i.rounds c.loop-i.self.fast.log c.loop-i.invariant.noted samples);
+  form = (let samples : All IsFrame c.loop-i.self.fast.log.frames = subst (All IsFrame) (c.frames.ensures ∙ ap (λ (l : Logged). l.frames) c.log.ensures ∙ ap (λ (s : SessionState). s.fast.log.frames) c.self.view_is) c.know_frames.ensures in
+      journal_form (length c.args.tracks.now) c.loop-i.rounds c.loop-i.self.fast.log c.loop-i.invariant.noted samples);
+  tally = c.loop-i.invariant.tally;
+  frames = c.loop-i.invariant.sizes.0;
+  spares = (λ new. c.loop-i.invariant.spares new);
+  entries = (λ new. c.loop-i.invariant.entries new);
+  written = (λ told base set. c.loop-i.invariant.written told base set);
+  left = (λ told base set. tt);
+  tells = c.loop-i.invariant.tells;
+  cause = cause_never (g.S.Store.faults c.args.store.now) (g.S.Store.faults c.loop-i.store) tt c.loop-i.invariant.stays;
+}

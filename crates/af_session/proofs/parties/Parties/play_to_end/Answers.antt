@@ -1,6 +1,7 @@
 use Rattle.std.proofs.Common.{rules, ◌≡◌, ◌+◌, ◌<◌, ◌++◌, ◌∷◌, ℕ, List, [], Some, length, refl, sym, ap, subst, ◌∙◌, arith}
 use Rattle.std.specs.Prelude.{All}
 use Rattle.std.proofs.lemmas.List.{length-append}
+use Rattle.std.proofs.lemmas.Result.{IfOk-from_err}
 use Rattle.af_base.specs.Log.{Logged}
 use Rattle.af_base.specs.Sample.{IsFrame}
 use Rattle.af_base.specs.declared.state.FastState.{FastState}
@@ -19,6 +20,7 @@ use Rattle.af_session.proofs.ExitSeen.{round_knows}
 use Rattle.af_session.proofs.FirstRound.{empty_first}
 use Rattle.af_session.proofs.GoingOn.{few_so_far, goes_further}
 use Rattle.af_session.proofs.JournalSound.{journal_form, journal_whole}
+use Rattle.af_session.proofs.NotedRounds.{cause_never, cause_on}
 use Rattle.af_session.proofs.Outgoing.{on_err, stays_at}
 use Rattle.af_session.proofs.RoundForms.{AreNoted, noted_none}
 use Rattle.af_session.proofs.RoundsLeft.{IsGoing, going_first}
@@ -136,69 +138,70 @@ noted_round_of_all-requires-clause-places g c = λ κs lives.
     let few = few_so_far (length rounds.rounds) now order.entries.0 goes inv.going in
     (length rounds.rounds, omega (arith, few, order.sized.2), inv.places)
 
-pub returns-in_err-noted_round_of_all-clause-run : goal.returns-in_err-noted_round_of_all-clause-run
-returns-in_err-noted_round_of_all-clause-run g c =
-    let given : Given = record { tracks = c.args.tracks.now; files = c.args.files.now } in
-    let inv = c.loop-alloc.invariant in
-    let rounds : RoundsNoted = c.loop-alloc.rounds in
-    let now : SessionState = c.loop-alloc.self in
-    let next : SessionState = c.noted_round_of_all.new.self in
-    let frames : ℕ = c.args.self.now.fast.frames in
-    let more = c.noted_round_of_all.new.bytes.items in
-    let then : List ℕ = pcm_of frames now.fast.log in
-    let grown : then ++ more ≡ pcm_of frames next.fast.log =
-    c.noted_round_of_all.ensures.sound then (ap (λ (n : ℕ). pcm_of n now.fast.log) (sym inv.sizes.0)) ∙ ap (λ (n : ℕ). pcm_of n next.fast.log) inv.sizes.0 in
-    let goes : GoesOn now = c.goes_on.ensures.yes c.loop-alloc-test.true in
-    (rounds.rounds ++ all_noted now next ∷ [], run_of_more given c.args.self.now now next rounds.rounds inv.run goes (all_noted now next) more c.noted_round_of_all.ensures.round grown)
-
-pub returns-in_err-noted_round_of_all-clause-left : goal.returns-in_err-noted_round_of_all-clause-left
-returns-in_err-noted_round_of_all-clause-left g c = λ told base set.
-    let inv = c.loop-alloc.invariant in
-    let now : SessionState = c.loop-alloc.self in
-    let next : SessionState = c.noted_round_of_all.new.self in
-    let frames : ℕ = c.args.self.now.fast.frames in
-    let more = c.noted_round_of_all.new.bytes.items in
-    let then : List ℕ = pcm_of frames now.fast.log in
-    let grown : then ++ more ≡ pcm_of frames next.fast.log =
-    c.noted_round_of_all.ensures.sound then (ap (λ (n : ℕ). pcm_of n now.fast.log) (sym inv.sizes.0)) ∙ ap (λ (n : ℕ). pcm_of n next.fast.log) inv.sizes.0 in
-    let left : LeavesFront base c.args.name.now (pcm_of frames next.fast.log) (g.S.Store.files c.noted_round_of_all.new.store) =
-    subst (λ (xs : List ℕ). LeavesFront base c.args.name.now xs (g.S.Store.files c.noted_round_of_all.new.store)) grown
-    (c.in_err-noted_round_of_all.ensures.left (inv.tells told) base then (inv.written told base set)) in
-    on_err c.from_residual.result left
-
-pub returns-clause-run : goal.returns-clause-run
-returns-clause-run g c = (c.loop-alloc.rounds.rounds, c.loop-alloc.invariant.run)
-
-pub returns-clause-all : goal.returns-clause-all
-returns-clause-all g c = c.loop-alloc.invariant.run
-
-pub returns-clause-few : goal.returns-clause-few
-returns-clause-few g c = c.loop-alloc.invariant.few
-
-pub returns-clause-over : goal.returns-clause-over
-returns-clause-over g c = c.goes_on.ensures.no c.loop-alloc-test.false
-
-pub returns-clause-whole : goal.returns-clause-whole
-returns-clause-whole g c =
-    let samples : All IsFrame c.loop-alloc.self.fast.log.frames = subst (All IsFrame) (c.frames.ensures ∙ ap (λ (l : Logged). l.frames) c.log.ensures ∙ ap (λ (s : SessionState). s.fast.log.frames) c.self.view_is) c.know_frames.ensures in
-    journal_whole (length c.args.tracks.now) c.loop-alloc.rounds c.loop-alloc.self.fast.log c.loop-alloc.invariant.noted samples
-
-pub returns-clause-form : goal.returns-clause-form
-returns-clause-form g c =
-    let samples : All IsFrame c.loop-alloc.self.fast.log.frames = subst (All IsFrame) (c.frames.ensures ∙ ap (λ (l : Logged). l.frames) c.log.ensures ∙ ap (λ (s : SessionState). s.fast.log.frames) c.self.view_is) c.know_frames.ensures in
-    journal_form (length c.args.tracks.now) c.loop-alloc.rounds c.loop-alloc.self.fast.log c.loop-alloc.invariant.noted samples
-
-pub returns-clause-tally : goal.returns-clause-tally
-returns-clause-tally g c = c.loop-alloc.invariant.tally
-
-pub returns-clause-frames : goal.returns-clause-frames
-returns-clause-frames g c = c.loop-alloc.invariant.sizes.0
-
-pub returns-clause-spares : goal.returns-clause-spares
-returns-clause-spares g c = λ new. c.loop-alloc.invariant.spares new
-
 pub noted_round_of_all-requires-clause-log : goal.noted_round_of_all-requires-clause-log
 noted_round_of_all-requires-clause-log g c = λ κs lives. (c.requires.log.0, c.loop-alloc.invariant.log c.requires.log.0 c.requires.log.1)
 
-pub returns-clause-log : goal.returns-clause-log
-returns-clause-log g c = λ kept held. c.loop-alloc.invariant.log kept held
+pub returns-in_err-noted_round_of_all : goal.returns-in_err-noted_round_of_all
+returns-in_err-noted_round_of_all g c = record {
+  ready = IfOk-from_err c.from_residual.result _ c.from_residual.ensures.0;
+  run = (let given : Given = record { tracks = c.args.tracks.now; files = c.args.files.now } in
+      let inv = c.loop-alloc.invariant in
+      let rounds : RoundsNoted = c.loop-alloc.rounds in
+      let now : SessionState = c.loop-alloc.self in
+      let next : SessionState = c.noted_round_of_all.new.self in
+      let frames : ℕ = c.args.self.now.fast.frames in
+      let more = c.noted_round_of_all.new.bytes.items in
+      let then : List ℕ = pcm_of frames now.fast.log in
+      let grown : then ++ more ≡ pcm_of frames next.fast.log =
+      c.noted_round_of_all.ensures.sound then (ap (λ (n : ℕ). pcm_of n now.fast.log) (sym inv.sizes.0)) ∙ ap (λ (n : ℕ). pcm_of n next.fast.log) inv.sizes.0 in
+      let goes : GoesOn now = c.goes_on.ensures.yes c.loop-alloc-test.true in
+      (rounds.rounds ++ all_noted now next ∷ [], run_of_more given c.args.self.now now next rounds.rounds inv.run goes (all_noted now next) more c.noted_round_of_all.ensures.round grown));
+  all = IfOk-from_err c.from_residual.result _ c.from_residual.ensures.0;
+  over = IfOk-from_err c.from_residual.result _ c.from_residual.ensures.0;
+  few = IfOk-from_err c.from_residual.result _ c.from_residual.ensures.0;
+  tracks = IfOk-from_err c.from_residual.result _ c.from_residual.ensures.0;
+  whole = IfOk-from_err c.from_residual.result _ c.from_residual.ensures.0;
+  form = IfOk-from_err c.from_residual.result _ c.from_residual.ensures.0;
+  tally = IfOk-from_err c.from_residual.result _ c.from_residual.ensures.0;
+  frames = IfOk-from_err c.from_residual.result _ c.from_residual.ensures.0;
+  spares = (λ new. IfOk-from_err c.from_residual.result _ c.from_residual.ensures.0);
+  written = (λ told base set. IfOk-from_err c.from_residual.result _ c.from_residual.ensures.0);
+  left = (λ told base set.
+      let inv = c.loop-alloc.invariant in
+      let now : SessionState = c.loop-alloc.self in
+      let next : SessionState = c.noted_round_of_all.new.self in
+      let frames : ℕ = c.args.self.now.fast.frames in
+      let more = c.noted_round_of_all.new.bytes.items in
+      let then : List ℕ = pcm_of frames now.fast.log in
+      let grown : then ++ more ≡ pcm_of frames next.fast.log =
+      c.noted_round_of_all.ensures.sound then (ap (λ (n : ℕ). pcm_of n now.fast.log) (sym inv.sizes.0)) ∙ ap (λ (n : ℕ). pcm_of n next.fast.log) inv.sizes.0 in
+      let left : LeavesFront base c.args.name.now (pcm_of frames next.fast.log) (g.S.Store.files c.noted_round_of_all.new.store) =
+      subst (λ (xs : List ℕ). LeavesFront base c.args.name.now xs (g.S.Store.files c.noted_round_of_all.new.store)) grown
+      (c.in_err-noted_round_of_all.ensures.left (inv.tells told) base then (inv.written told base set)) in
+      on_err c.from_residual.result left);
+  tells = (λ told. c.noted_round_of_all.ensures.tells (c.loop-alloc.invariant.tells told));
+  cause = cause_on (g.S.Store.faults c.args.store.now) (g.S.Store.faults c.loop-alloc.store) (g.S.Store.faults c.noted_round_of_all.new.store) c.in_err-noted_round_of_all.field-0.0 c.from_residual.result c.loop-alloc.invariant.stays c.from_residual.ensures.1 c.in_err-noted_round_of_all.ensures.cause;
+  log = (λ kept held. IfOk-from_err c.from_residual.result _ c.from_residual.ensures.0);
+}
+
+pub returns : goal.returns
+returns g c = record {
+  ready = c.loop-alloc.invariant.ready;
+  run = (c.loop-alloc.rounds.rounds, c.loop-alloc.invariant.run);
+  all = c.loop-alloc.invariant.run;
+  over = c.goes_on.ensures.no c.loop-alloc-test.false;
+  few = c.loop-alloc.invariant.few;
+  tracks = c.loop-alloc.invariant.noted.tracks_are;
+  whole = (let samples : All IsFrame c.loop-alloc.self.fast.log.frames = subst (All IsFrame) (c.frames.ensures ∙ ap (λ (l : Logged). l.frames) c.log.ensures ∙ ap (λ (s : SessionState). s.fast.log.frames) c.self.view_is) c.know_frames.ensures in
+      journal_whole (length c.args.tracks.now) c.loop-alloc.rounds c.loop-alloc.self.fast.log c.loop-alloc.invariant.noted samples);
+  form = (let samples : All IsFrame c.loop-alloc.self.fast.log.frames = subst (All IsFrame) (c.frames.ensures ∙ ap (λ (l : Logged). l.frames) c.log.ensures ∙ ap (λ (s : SessionState). s.fast.log.frames) c.self.view_is) c.know_frames.ensures in
+      journal_form (length c.args.tracks.now) c.loop-alloc.rounds c.loop-alloc.self.fast.log c.loop-alloc.invariant.noted samples);
+  tally = c.loop-alloc.invariant.tally;
+  frames = c.loop-alloc.invariant.sizes.0;
+  spares = (λ new. c.loop-alloc.invariant.spares new);
+  written = (λ told base set. c.loop-alloc.invariant.written told base set);
+  left = (λ told base set. tt);
+  tells = c.loop-alloc.invariant.tells;
+  cause = cause_never (g.S.Store.faults c.args.store.now) (g.S.Store.faults c.loop-alloc.store) tt c.loop-alloc.invariant.stays;
+  log = (λ kept held. c.loop-alloc.invariant.log kept held);
+}
