@@ -1,5 +1,5 @@
 -- What a play keeps, by how it was answered.
-use Rattle.std.proofs.Common.{◌≡◌, ◌*◌, ◌⊎◌, ℕ, Bool, true, false, List, Some, Result, Ok, Err, IfErr, IfOk, OnErr, OnOk, IsErrAnd, inl, inr, refl, sym, ap, subst, ◌∙◌}
+use Rattle.std.proofs.Common.{◌≡◌, ◌⊎◌, ℕ, Bool, true, false, List, Some, Result, Ok, Err, IfErr, IfOk, OnErr, OnOk, IsErrAnd, inl, inr, refl, sym, ap, subst, ◌∙◌}
 use Rattle.af_audit.specs.Drained.{EachDrainedTrackReachedItsStop}
 use Rattle.af_audit.specs.Emptied.{PipeIsEmptied}
 use Rattle.af_audit.specs.Fates.{EachFrameHasOneFate}
@@ -12,8 +12,7 @@ use Rattle.af_audit.proofs.SparedTold.{lawful-blocks-are-spared}
 use Rattle.af_base.specs.declared.frame.Frame.{Frame}
 use Rattle.af_base.specs.declared.want.Memory.{Memory}
 use Rattle.af_enough_law.proofs.NeverCut.{never-cut}
-use Rattle.af_io.specs.Files.{Files, SameFiles, SetsFile}
-use Rattle.af_io.specs.declared.store.StoreError.{StoreError}
+use Rattle.af_io.specs.Files.{Files, SetsFile}
 use Rattle.af_io.specs.Causes.{HasCause}
 use Rattle.af_model.specs.Journals.{JournalData, RoundsNoted, journal_of}
 use Rattle.af_runs.specs.LegalRuns.{IsLegalRun}
@@ -26,7 +25,7 @@ use Rattle.af_session.specs.declared.rendering.Played.{Played}
 use Rattle.af_session.specs.declared.staging.Stage.{Stage}
 use Rattle.af_session.specs.Ends.{EndsState, ends_from}
 use Rattle.af_session.specs.PlayKept.{Answers, KeepsFiles, KeepsPlay, spares_by}
-use Rattle.af_session.specs.PlayedRuns.{AtFault, AtLimit, HandedBack, HandsBackRun, HasStoreCause, LeavesRun, all_ended, fault_of, is_limit}
+use Rattle.af_session.specs.PlayedRuns.{HandedBack, HandsBackRun, HasStoreCause, LeavesRun, all_ended, is_limit}
 use Rattle.af_session.specs.Spelled.{CallsStandOnce, PushesStandOnce}
 use Rattle.af_session.specs.Stages.{HasPlayed}
 use Rattle.af_session.specs.Together.{SessionState}
@@ -34,7 +33,7 @@ use Rattle.af_tally.specs.Sound.{pcm_of}
 use Rattle.af_session.proofs.JournalSound.{journal_sounds}
 use Rattle.af_session.proofs.NeverOlder.{none_older}
 use Rattle.af_session.proofs.Outgoing.{cause_behind}
-use Rattle.af_session.proofs.PlayAnswers.{at_fault, cause_cut, cut_by, cut_off, handed, hands_back, if_ok_always, if_ok_one, if_ok_three, leaves, never_limited, none_handed, off_limit, older_by}
+use Rattle.af_session.proofs.PlayAnswers.{at_fault, cause_cut, cut_by, cut_off, handed, hands_back, if_ok_always, if_ok_one, if_ok_three, leaves, never_limited, off_limit, older_by}
 use Rattle.af_session.proofs.RunPushed.{pushes_stand_once}
 use Rattle.af_session.proofs.RunSpelled.{calls_stand_once}
 use Rattle.af_session.proofs.Spared.{spares_told}

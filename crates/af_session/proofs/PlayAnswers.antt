@@ -5,7 +5,6 @@ use Rattle.af_io.specs.Causes.{HasCause}
 use Rattle.af_io.specs.Files.{Files, SetsFile}
 use Rattle.af_io.specs.declared.store.StoreError.{StoreError}
 use Rattle.af_io.specs.declared.store.StoreError.TheVariants as store
-use Rattle.af_model.specs.JournalForm.{IsWhole}
 use Rattle.af_model.specs.Journals.{JournalData, RoundsNoted, journal_of}
 use Rattle.af_runs.specs.LegalRuns.{IsCutRun}
 use Rattle.af_script.specs.Data.{ScriptData}
@@ -13,17 +12,12 @@ use Rattle.af_session.specs.Ends.{EndsState, ends_from}
 use Rattle.af_session.specs.declared.rendering.Played.{Played}
 use Rattle.af_session.specs.declared.answering.PlayFault.{PlayFault}
 use Rattle.af_session.specs.declared.answering.PlayFault.TheVariants as fault
-use Rattle.af_session.specs.Hostile.{PokesSpareOthers}
 use Rattle.af_session.specs.PlayedRuns.{AtFault, AtLimit, HandedBack, HandsBackRun, HasStoreCause, LeavesRun, Plays, all_ended, fault_of, is_full, is_limit}
-use Rattle.af_session.specs.Shown.{released_by, shown_by, shown_in, summary_told}
 use Rattle.af_session.specs.Spelled.{NoneOlder}
-use Rattle.af_tally.specs.Summaries.{Shown, summary_of}
-use Rattle.af_tally.specs.Tallies.{IsTally, Tallied}
 use Rattle.af_session.specs.Together.{SessionState}
 use Rattle.af_tally.specs.Sound.{pcm_of}
 use Rattle.af_session.proofs.NotedRounds.{left_whole}
 use Rattle.af_session.proofs.Outgoing.{cause_ok}
-use Rattle.af_session.proofs.ShownWhole.{is_told}
 
 -- ## Answers
 

@@ -1,13 +1,11 @@
 -- What a stage comes to whose turns, or whose rounds, were played.
-use Rattle.std.proofs.Common.{◌≡◌, ◌*◌, ◌≤◌, ℕ, List, [], Some, Result, Ok, Err, OnErr, OnOk, length, false, true, sym, ap, subst, ◌∙◌}
+use Rattle.std.proofs.Common.{◌≡◌, ◌≤◌, ℕ, List, [], Some, Result, Ok, Err, OnOk, length, false, true, sym, ap, subst, ◌∙◌}
 use Rattle.af_base.specs.declared.frame.Frame.{Frame}
 use Rattle.af_base.specs.declared.state.FastState.{FastState}
-use Rattle.af_fast.specs.Mixer.{MixerState}
-use Rattle.af_io.specs.Files.{Files, LeavesFront, SetsFile}
-use Rattle.af_io.specs.declared.store.StoreError.{StoreError}
+use Rattle.af_io.specs.Files.{Files, SetsFile}
 use Rattle.af_link.specs.declared.links.Links.{Links}
 use Rattle.af_model.specs.JournalForm.{IsJournal, IsWhole}
-use Rattle.af_model.specs.Journals.{RoundNoted, journal_of}
+use Rattle.af_model.specs.Journals.{journal_of}
 use Rattle.af_script.specs.Data.{ScriptData}
 use Rattle.af_script.specs.declared.op.TurnSpec.{TurnSpec}
 use Rattle.af_script.specs.declared.track.TrackSpec.{TrackSpec}
@@ -20,7 +18,7 @@ use Rattle.af_session.specs.Rendered.{Runs}
 use Rattle.af_session.specs.Rounds.{Given, IsReady}
 use Rattle.af_session.specs.Shares.{SharedState}
 use Rattle.af_session.specs.Shown.{shown_at}
-use Rattle.af_session.specs.Stages.{HasPlayed, HasRendered, IsNoted}
+use Rattle.af_session.specs.Stages.{HasPlayed, HasRendered}
 use Rattle.af_session.specs.Together.{SessionState}
 use Rattle.af_tally.specs.Sound.{pcm_of}
 use Rattle.af_tally.specs.Tallies.{IsTally}

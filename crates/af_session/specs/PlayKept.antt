@@ -1,5 +1,5 @@
 -- What a play answers, by the stage that was played; and what is promised of each answer, whatever the store.
-use Rattle.std.specs.Prelude.{◌≡◌, ◌⊎◌, ◌*◌, ℕ, true, false, List, Some, Result, IfErr, IfOk}
+use Rattle.std.specs.Prelude.{◌≡◌, ◌⊎◌, ℕ, true, false, List, Some, Result, IfErr, IfOk}
 use Rattle.af_base.specs.declared.frame.Frame.{Frame}
 use Rattle.af_audit.specs.Drained.{EachDrainedTrackReachedItsStop}
 use Rattle.af_audit.specs.Emptied.{PipeIsEmptied}

@@ -1,4 +1,4 @@
-use Rattle.std.proofs.Common.{◌≡◌, ℕ, List, [], length, ap, subst, ◌∙◌}
+use Rattle.std.proofs.Common.{ℕ, List, [], length, ap, subst, ◌∙◌}
 use Rattle.af_model.specs.Journals.{RoundsNoted}
 use Rattle.af_script.specs.declared.track.TrackSpec.{TrackSpec}
 use Rattle.af_session.specs.Stages.{IsNewRoom}

@@ -1,11 +1,11 @@
-use Rattle.std.proofs.Common.{rules, inr}
+use Rattle.std.proofs.Common.{inr}
 use Rattle.std.proofs.lemmas.Result.{on_err_weaker}
 use Rattle.af_io.specs.Files.{LeavesFront}
 use Rattle.af_io.proofs.Steps.{LeavesFront-created}
 use Rattle.af_session.specs.Rendered.{LeavesSound}
 use Rattle.af_tally.specs.Sound.{pcm_of}
 use Rattle.af_session.proofs.FirstRound.{rendered_none}
-use Rattle.af_session.proofs.Outgoing.{then_cause}
+use Rattle.af_session.proofs.Outgoing.{on_err, then_cause}
 use Rattle.af_session.proofs.staging.Stage.play_new.Goals as goal
 
 pub returns-in_err-create-clause-left : goal.returns-in_err-create-clause-left
@@ -19,7 +19,7 @@ returns-in_err-create-clause-left g c = λ told.
     let front : LeavesFront old name (pcm_of script.frames was.fast.log) new =
     LeavesFront-created (Unit {0}) c.in_err-create.field-0.0 name (pcm_of script.frames was.fast.log) old new (c.in_err-create.ensures.created told) in
     let left : LeavesSound script files name old new = inr (0, was, rendered_none script c.args.self.now.shared was c.requires.new.new files, front) in
-    search (rules, left)
+    on_err c.from_residual.result left
 
 pub returns-clause-written : goal.returns-clause-written
 returns-clause-written g c = λ told.

@@ -1,4 +1,4 @@
-use Rattle.std.proofs.Common.{◌≡◌, ◌*◌, ◌≤◌, ℕ, List, [], Some, OnOk, OnErr, length, sym, ap, subst, ◌∙◌, arith}
+use Rattle.std.proofs.Common.{◌≡◌, ◌*◌, ℕ, List, [], Some, OnOk, OnErr, length, sym, ap, subst, ◌∙◌, arith}
 use Rattle.af_base.specs.Roomy.{Roomy}
 use Rattle.af_fast.specs.Mixer.{MixerState}
 use Rattle.af_io.specs.Files.{SetsFile, LeavesFront}

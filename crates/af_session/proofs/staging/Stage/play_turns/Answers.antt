@@ -1,4 +1,4 @@
-use Rattle.std.proofs.Common.{◌≡◌, ◌*◌, ◌≤◌, ℕ, List, [], Some, OnOk, OnErr, length, take, sym, ap, subst, ◌∙◌, arith}
+use Rattle.std.proofs.Common.{◌≡◌, ◌*◌, ◌≤◌, ℕ, List, [], Some, OnOk, OnErr, length, take, sym, ap, subst, arith}
 use Rattle.std.specs.Prelude.{All}
 use Rattle.af_base.specs.Roomy.{Roomy}
 use Rattle.af_io.specs.Files.{SetsFile, LeavesFront}
