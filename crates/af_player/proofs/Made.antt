@@ -6,8 +6,6 @@ use Rattle.af_io.specs.Outputs.{with_files}
 use Rattle.af_io.proofs.Outputs.{LeavesFronts-none}
 use Rattle.af_io.specs.declared.store.StoreError.{StoreError}
 use Rattle.af_io.specs.declared.store.StoreError.TheVariants as outside
-use Rattle.af_session.specs.declared.rendering.SessionFault.{SessionFault}
-use Rattle.af_session.specs.declared.rendering.SessionFault.TheVariants as session
 use Rattle.af_player.specs.declared.deliver.Output.{Output}
 use Rattle.af_player.specs.declared.status.Refusal.{Refusal}
 use Rattle.af_player.specs.declared.status.Stop.{Stop}
@@ -15,7 +13,7 @@ use Rattle.af_player.specs.declared.status.Stop.TheVariants.{Refused, Over, Stor
 use Rattle.af_player.specs.Asked.{◌>>=◌, Job}
 use Rattle.af_player.specs.Asking.{output_job}
 use Rattle.af_player.specs.Ends.{LeavesWork, IsOver, IsCutOff, Makes, Renders, PrintsFront, PrintsWhole, PrintsCut}
-use Rattle.af_player.specs.Status.{Meets, session_stop, stop_of}
+use Rattle.af_player.specs.Status.{Meets, stop_of}
 
 -- files of which none has changed
 pub files_are : (old mid : Files) → SameFiles old mid → mid ≡ old
@@ -62,13 +60,7 @@ pub PrintsCut-made : (asked : Result Job Refusal) (line : String Global) (old ne
 PrintsCut-made (Ok job) line old new before after made printed = (string_bytes line, inl made, printed)
 PrintsCut-made (Err refusal) line old new before after made printed = absurd made
 
--- a session was not played to its end
-pub Makes-unplayed : (f : SessionFault) (job : Job) (old new : Files) → LeavesWork job.work job.target (with_files old job.first) new → Makes (Err (session_stop f)) (Ok job) old new
-Makes-unplayed session.Store job old new left = inl (inr left)
-Makes-unplayed session.Memory job old new left = inl (inr left)
-Makes-unplayed (session.CycleLimit journal ends) job old new left = inl (inr left)
-
--- the output could not be written
+-- the output could not be written, or not all of it
 pub Makes-unwritten : (e : StoreError) (job : Job) (old new : Files) → LeavesWork job.work job.target (with_files old job.first) new → Makes (Err (stop_of e)) (Ok job) old new
 Makes-unwritten outside.Failed job old new left = inl (inr left)
 Makes-unwritten outside.Memory job old new left = inl (inr left)

@@ -1,33 +1,24 @@
 -- A session that was played, and its line.
-use Rattle.std.proofs.Common.{◌≡◌, ℕ, List, Some, Result, Ok, Err, IsErrAnd, String, string_bytes, refl, sym, ap, subst, ◌∙◌, inr}
+use Rattle.std.proofs.Common.{◌≡◌, ℕ, List, Some, Result, Ok, Err, IfOk, OnErr, String, string_bytes, refl, sym, ap, subst, ◌∙◌, inr}
 use Rattle.std.specs.declared.alloc.Global.{Global}
 use Rattle.af_model.specs.Journals.{JournalData}
 use Rattle.af_io.specs.Files.{Files, SetsFile}
+use Rattle.af_io.specs.declared.store.StoreError.{StoreError}
 use Rattle.af_tally.specs.declared.summary.Summary.{Summary}
 use Rattle.af_one_turn_run.proofs.OneTurnRun.{one_turn_run}
 use Rattle.af_render_law.proofs.RendersTold.{render_told}
 use Rattle.af_script.specs.Form.{IsScript}
+use Rattle.af_session.specs.declared.rendering.Played.{Played}
 use Rattle.af_session.specs.Ends.{EndsState}
-use Rattle.af_session.specs.Rendered.{HandsBack}
+use Rattle.af_session.specs.Rendered.{HandsBack, LeavesSound}
 use Rattle.af_session.specs.Shown.{summary_told}
 use Rattle.af_runs.specs.Pcm.{journal_pcm}
-use Rattle.af_player.specs.declared.status.Refusal.{Refusal}
 use Rattle.af_player.specs.declared.status.Stop.{Stop}
-use Rattle.af_player.specs.declared.status.Stop.TheVariants.{Memory}
-use Rattle.af_player.specs.Asked.{Job, Loaded, session_job}
+use Rattle.af_player.specs.Asked.{Loaded, session_job}
 use Rattle.af_player.specs.Ends.{IsCutOff, IsMade, Makes}
-use Rattle.af_player.specs.Status.{IsNoUsage}
 use Rattle.af_player.specs.Sessions.{IsSession, IsSomeSessionLine, summary_line}
-
--- memory ran out
-pub Makes-memory : (r : Result (String Global) Stop) (asked : Result Job Refusal) (old new : Files) → IsErrAnd r (λ stop. stop ≡ Memory) → IsCutOff asked old new → Makes r asked old new
-Makes-memory (Ok line) asked old new memory cut = absurd memory
-Makes-memory (Err stop) asked old new memory cut = subst (λ (s : Stop). Makes (Err s) asked old new) (sym memory) cut
-
--- and it finds no fault with the words
-pub no_usage-memory : (r : Result (String Global) Stop) → IsErrAnd r (λ stop. stop ≡ Memory) → IsNoUsage r
-no_usage-memory (Ok line) memory = absurd memory
-no_usage-memory (Err stop) memory = subst (λ (s : Stop). IsNoUsage {X = String Global} (Err s)) (sym memory) tt
+use Rattle.af_player.specs.Told.{TellsRender}
+use Rattle.af_player.proofs.Made.{Makes-unwritten}
 
 module _ (l : Loaded) (journal : JournalData) (ends : EndsState) (back : HandsBack l.script l.files journal ends) (summary : Summary) (summary_is : summary ≡ summary_told l.script.frames journal ends) (accepted : IsScript l.script) where
   is_session : IsSession l.script l.files (journal_pcm l.script.frames journal) (summary_line summary)
@@ -44,16 +35,35 @@ module _ (l : Loaded) (journal : JournalData) (ends : EndsState) (back : HandsBa
     });
   }
 
-  pub some_line : (line : List ℕ) → line ≡ summary_line summary → IsSomeSessionLine line
+  some_line : (line : List ℕ) → line ≡ summary_line summary → IsSomeSessionLine line
   some_line line is = (l.script, l.files, journal_pcm l.script.frames journal, subst (λ (text : List ℕ). IsSession l.script l.files (journal_pcm l.script.frames journal) text) (sym is) is_session)
 
   module _ (target : List ℕ) (old new : Files) (set : SetsFile old target (Some (journal_pcm l.script.frames journal)) new) where
     is_made : IsMade (session_job target l) (summary_line summary) old new
     is_made = (journal_pcm l.script.frames journal, is_session, set)
 
-    pub Makes-played : (line : String Global) → string_bytes line ≡ summary_line summary → Makes (Ok line) (Ok (session_job target l)) old new
+    Makes-played : (line : String Global) → string_bytes line ≡ summary_line summary → Makes (Ok line) (Ok (session_job target l)) old new
     Makes-played line is = subst (λ (text : List ℕ). IsMade (session_job target l) text old new) (sym is) is_made
 
     -- the output is whole, and the line has no room
-    pub cut_behind : IsCutOff (Ok (session_job target l)) old new
+    cut_behind : IsCutOff (Ok (session_job target l)) old new
     cut_behind = inr (summary_line summary, is_made)
+
+-- ## What is told of a render
+
+module _ (l : Loaded) (accepted : IsScript l.script) where
+  pub some_line_told : (played : Result Played StoreError) (result : Result (String Global) Stop) → IfOk played (λ p. HandsBack l.script l.files p.journal p.ends) → IfOk played (λ p. p.summary ≡ summary_told l.script.frames p.journal p.ends)
+      → TellsRender played result → IfOk result (λ line. IsSomeSessionLine (string_bytes line))
+  some_line_told (Ok p) (Ok line) back summary told = some_line l p.journal p.ends back p.summary summary accepted (string_bytes line) told
+  some_line_told (Err e) (Ok line) back summary clash = let none : ⊥ = cc in absurd none
+  some_line_told played (Err stop) back summary told = tt
+
+  module _ (target : List ℕ) (old new : Files) where
+    pub Makes-rendered : (played : Result Played StoreError) (result : Result (String Global) Stop) → IfOk played (λ p. HandsBack l.script l.files p.journal p.ends) → IfOk played (λ p. p.summary ≡ summary_told l.script.frames p.journal p.ends)
+        → IfOk played (λ p. SetsFile old target (Some (journal_pcm l.script.frames p.journal)) new) → OnErr played (LeavesSound l.script l.files target old new)
+        → TellsRender played result → Makes result (Ok (session_job target l)) old new
+    Makes-rendered (Ok p) (Ok line) back summary set left told = Makes-played l p.journal p.ends back p.summary summary accepted target old new set line told
+    Makes-rendered (Ok p) (Err stop) back summary set left is =
+        subst (λ (s : Stop). Makes (Err s) (Ok (session_job target l)) old new) (sym is) (cut_behind l p.journal p.ends back p.summary summary accepted target old new set)
+    Makes-rendered (Err e) result back summary set left is =
+        subst (λ (r : Result (String Global) Stop). Makes r (Ok (session_job target l)) old new) (sym is) (Makes-unwritten e (session_job target l) old new left)

@@ -1,41 +1,38 @@
 -- A script that was played in rounds, its journal and its line.
-use Rattle.std.proofs.Common.{◌≡◌, ◌∙◌, ℕ, Bool, true, false, List, Some, Ok, Err, String, string_bytes, ap, inr, refl, subst, sym}
+use Rattle.std.proofs.Common.{◌≡◌, ◌∙◌, ℕ, Bool, true, false, List, Some, Ok, Err, IfErr, IfOk, Result, String, string_bytes, ap, inl, inr, refl, subst, sym}
 use Rattle.std.specs.declared.alloc.Global.{Global}
-use Rattle.af_audit.specs.Drained.{EachDrainedTrackReachedItsStop}
-use Rattle.af_audit.specs.Emptied.{PipeIsEmptied}
-use Rattle.af_audit.specs.Fates.{EachFrameHasOneFate}
-use Rattle.af_audit.specs.Settled.{SettledMeansKept}
-use Rattle.af_audit.specs.Spared.{EachLawfulBlockIsSpared}
-use Rattle.af_enough.specs.Enough.{HasEnoughCycles}
-use Rattle.af_io.specs.Files.{Files, SetsFile, LeavesFront}
+use Rattle.af_io.specs.Files.{Files, SameFiles, SetsFile, LeavesFront}
 use Rattle.af_io.specs.Outputs.{with_file}
 use Rattle.af_journal.specs.Texts.{text_of}
 use Rattle.af_model.specs.Journals.{JournalData}
 use Rattle.af_tally.specs.declared.summary.Summary.{Summary}
+use Rattle.af_session.specs.declared.answering.PlayFault.{PlayFault}
+use Rattle.af_session.specs.declared.answering.PlayFault.TheVariants as fault
+use Rattle.af_session.specs.declared.rendering.Played.{Played}
 use Rattle.af_session.specs.Ends.{EndsState}
-use Rattle.af_session.specs.PlayedRuns.{HandsBackRun, IsLegalJournal}
+use Rattle.af_session.specs.PlayedRuns.{AtFault, AtLimit, HandsBackRun, IsLegalJournal, LeavesRun}
+use Rattle.af_session.specs.PlayKept.{KeepsPlay}
 use Rattle.af_session.specs.Shown.{summary_told}
-use Rattle.af_runs.specs.LegalRuns.{IsCutRun, IsLegalRun}
 use Rattle.af_runs.specs.Pcm.{journal_pcm}
-use Rattle.af_io.specs.declared.store.StoreError.{StoreError}
-use Rattle.af_player.specs.declared.status.Stop.TheVariants.{Over}
+use Rattle.af_player.specs.declared.status.Stop.{Stop}
+use Rattle.af_player.specs.declared.status.Stop.TheVariants.{Refused, Over, Store, Memory}
+use Rattle.af_player.specs.declared.status.Ending.{Ending}
 use Rattle.af_player.specs.declared.status.Ending.TheVariants.{Limit}
 use Rattle.af_player.specs.Asked.{Loaded, play_job}
-use Rattle.af_player.specs.Ends.{IsCutOff, Makes}
+use Rattle.af_player.specs.Ends.{Makes}
 use Rattle.af_player.specs.Line.{limit_text}
 use Rattle.af_player.specs.Plays.{IsPlay, IsPlayed, IsSomePlayLine, LeavesText, run_line}
 use Rattle.af_player.specs.Sessions.{summary_line}
-use Rattle.af_player.specs.Status.{stop_of}
-use Rattle.af_player.proofs.Made.{Makes-unwritten, files_are}
+use Rattle.af_player.specs.Told.{Tells, TellsText}
+use Rattle.af_player.proofs.Made.{files_are}
 
--- the promises of a journal, one by one
-pub promises : (l : Loaded) (journal : JournalData) → IsLegalRun l.script l.files journal → EachFrameHasOneFate l.script l.files journal → EachLawfulBlockIsSpared l.script l.files journal → EachDrainedTrackReachedItsStop l.script l.files journal → SettledMeansKept l.script l.files journal → PipeIsEmptied l.script l.files journal
-    → IsLegalJournal true l.script l.files journal
-promises l journal legal fates unshut drained settled emptied = record { legal = legal; fates = fates; unshut = unshut; drained = drained; settled = settled; emptied = emptied }
+-- the promises of a journal
+pub promises : (l : Loaded) (p : Played) → KeepsPlay l.script l.files (Ok p) → IsLegalJournal true l.script l.files p.journal
+promises l p keeps = record { legal = keeps.legal; fates = keeps.fates; unshut = keeps.unshut; drained = keeps.drained; settled = keeps.settled; emptied = keeps.emptied }
 
 -- and those of one that was cut off
-pub cut_short : (l : Loaded) (journal : JournalData) → IsCutRun l.script l.files journal → (HasEnoughCycles l.script → ⊥) → IsLegalJournal false l.script l.files journal
-cut_short l journal cut few = (cut, few)
+pub cut_short : (l : Loaded) (journal : JournalData) (ends : EndsState) → KeepsPlay l.script l.files (Err (fault.CycleLimit journal ends)) → IsLegalJournal false l.script l.files journal
+cut_short l journal ends keeps = (keeps.cut_run, keeps.enough)
 
 module _ (ended : Bool) (l : Loaded) (journal : JournalData) (ends : EndsState) (back : HandsBackRun ended l.script l.files journal ends) (legal : IsLegalJournal ended l.script l.files journal) where
   abbrev bytes : List ℕ
@@ -64,10 +61,6 @@ module _ (ended : Bool) (l : Loaded) (journal : JournalData) (ends : EndsState) 
       subst (λ (files : Files). LeavesFront files name (text_of journal) new) (sym made) left,
     )
 
-    -- the journal was not written
-    pub text_unwritten : (e : StoreError) (new : Files) → LeavesFront mid name (text_of journal) new → Makes (Err (stop_of e)) (Ok (play_job target name l)) old new
-    text_unwritten e new left = Makes-unwritten e (play_job target name l) old new (inr (text_left new left))
-
 -- ## A run in which all parties have ended
 
 module _ (l : Loaded) (journal : JournalData) (ends : EndsState) (back : HandsBackRun true l.script l.files journal ends) (legal : IsLegalJournal true l.script l.files journal) (summary : Summary) (summary_is : summary ≡ summary_told l.script.frames journal ends) where
@@ -81,11 +74,6 @@ module _ (l : Loaded) (journal : JournalData) (ends : EndsState) (back : HandsBa
     pub Makes-rounds : (line : String Global) → string_bytes line ≡ summary_line summary → Makes (Ok line) (Ok (play_job target name l)) old new
     Makes-rounds line is = played true l journal ends back legal target name old mid set (string_bytes line) new (line_told (string_bytes line) is) text
 
-    -- both files are whole, and the line has no room
-    pub rounds_behind : IsCutOff (Ok (play_job target name l)) old new
-    rounds_behind =
-        inr (summary_line summary, played true l journal ends back legal target name old mid set (summary_line summary) new (line_told (summary_line summary) refl) text)
-
 -- ## A run that was cut off
 
 pub Makes-cut : (l : Loaded) (journal : JournalData) (ends : EndsState) → HandsBackRun false l.script l.files journal ends → IsLegalJournal false l.script l.files journal → (target name : List ℕ) (old mid new : Files)
@@ -93,3 +81,40 @@ pub Makes-cut : (l : Loaded) (journal : JournalData) (ends : EndsState) → Hand
     → (cycles : ℕ) → cycles ≡ l.script.cycles → Makes (Err (Over (Limit cycles))) (Ok (play_job target name l)) old new
 Makes-cut l journal ends back legal target name old mid new set text cycles is =
     (is, played false l journal ends back legal target name old mid set (limit_text cycles) new (ap limit_text is) text)
+
+-- ## What is told of a play
+
+-- what was left stays where no file changes
+pub LeavesRun-stays : (l : Loaded) (target : List ℕ) (old mid new : Files) → LeavesRun l.script l.files target old mid → SameFiles mid new → LeavesRun l.script l.files target old new
+LeavesRun-stays l target old mid new left same = subst (λ (files : Files). LeavesRun l.script l.files target old files) (sym (files_are mid new same)) left
+
+module _ (l : Loaded) (cycles : ℕ) where
+  pub some_play_told : (played : Result Played PlayFault) (result : Result (String Global) Stop) → KeepsPlay l.script l.files played → Tells cycles played result → IfOk result (λ line. IsSomePlayLine (string_bytes line))
+  some_play_told (Ok p) (Ok line) keeps told = some_play_line l p.journal p.ends keeps.played (promises l p keeps) p.summary keeps.summary (string_bytes line) told
+  some_play_told (Err (fault.CycleLimit journal ends)) (Ok line) keeps none = absurd none
+  some_play_told (Err fault.Store) (Ok line) keeps clash = let none : ⊥ = cc in absurd none
+  some_play_told (Err fault.Memory) (Ok line) keeps clash = let none : ⊥ = cc in absurd none
+  some_play_told played (Err stop) keeps told = tt
+
+  module _ (cycles_are : cycles ≡ l.script.cycles) (target name : List ℕ) (old mid new : Files) where
+    pub Makes-told : (played : Result Played PlayFault) (result : Result (String Global) Stop) → KeepsPlay l.script l.files played
+        → IfOk played (λ p. SetsFile old target (Some (journal_pcm l.script.frames p.journal)) mid)
+        → IfErr played (AtLimit (λ journal _. SetsFile old target (Some (journal_pcm l.script.frames journal)) mid))
+        → IfErr played (AtFault (LeavesRun l.script l.files target old mid))
+        → Tells cycles played result → TellsText name played result mid new → Makes result (Ok (play_job target name l)) old new
+    Makes-told (Ok p) (Ok line) keeps set cut left told text = Makes-rounds l p.journal p.ends keeps.played (promises l p keeps) p.summary keeps.summary target name old mid new set text line told
+    Makes-told (Ok p) (Err (Refused refusal)) keeps set cut left none text = absurd none
+    Makes-told (Ok p) (Err (Over over)) keeps set cut left none text = absurd none
+    Makes-told (Ok p) (Err Store) keeps set cut left told text = inl (inr (inr (text_left true l p.journal p.ends keeps.played (promises l p keeps) target name old mid set new text)))
+    Makes-told (Ok p) (Err Memory) keeps set cut left told text = inl (inr (inr (text_left true l p.journal p.ends keeps.played (promises l p keeps) target name old mid set new text)))
+    Makes-told (Err (fault.CycleLimit journal ends)) (Ok line) keeps set cut left none text = absurd none
+    Makes-told (Err (fault.CycleLimit journal ends)) (Err (Refused refusal)) keeps set cut left none text = absurd none
+    Makes-told (Err (fault.CycleLimit journal ends)) (Err (Over over)) keeps set cut left is text =
+        subst (λ (o : Ending). Makes (Err (Over o)) (Ok (play_job target name l)) old new) (sym is)
+        (Makes-cut l journal ends keeps.limit (cut_short l journal ends keeps) target name old mid new cut text cycles cycles_are)
+    Makes-told (Err (fault.CycleLimit journal ends)) (Err Store) keeps set cut left told text = inl (inr (inr (text_left false l journal ends keeps.limit (cut_short l journal ends keeps) target name old mid cut new text)))
+    Makes-told (Err (fault.CycleLimit journal ends)) (Err Memory) keeps set cut left told text = inl (inr (inr (text_left false l journal ends keeps.limit (cut_short l journal ends keeps) target name old mid cut new text)))
+    Makes-told (Err fault.Store) result keeps set cut left is same =
+        subst (λ (r : Result (String Global) Stop). Makes r (Ok (play_job target name l)) old new) (sym is) (inl (inr (inl (LeavesRun-stays l target old mid new left same))))
+    Makes-told (Err fault.Memory) result keeps set cut left is same =
+        subst (λ (r : Result (String Global) Stop). Makes r (Ok (play_job target name l)) old new) (sym is) (inl (inr (inl (LeavesRun-stays l target old mid new left same))))

@@ -1,38 +1,39 @@
 -- A script that was played in rounds with a log: its journal, its log and its line.
-use Rattle.std.proofs.Common.{◌≡◌, ◌∙◌, ℕ, Bool, true, false, List, [], ◌∷◌, ◌++◌, Some, Ok, Err, String, string_bytes, ap, inl, inr, refl, subst, sym}
+use Rattle.std.proofs.Common.{◌≡◌, ◌∙◌, ◌⊎◌, ℕ, ◌≤◌, true, false, List, [], ◌∷◌, ◌++◌, Some, Ok, Err, IfErr, IfOk, Result, String, string_bytes, ap, inl, inr, refl, subst, sym}
 use Rattle.std.specs.declared.alloc.Global.{Global}
 use Rattle.af_io.specs.Files.{Files, SetsFile, LeavesFront}
 use Rattle.af_io.specs.Outputs.{with_file, with_files}
-use Rattle.af_io.specs.declared.store.StoreError.{StoreError}
 use Rattle.af_journal.specs.Texts.{text_of}
 use Rattle.af_model.specs.Journals.{JournalData}
 use Rattle.af_nblog.specs.declared.entries.Note.{Note}
 use Rattle.af_nblog.specs.LogText.{log_text}
 use Rattle.af_runs.specs.Pcm.{journal_pcm}
 use Rattle.af_tally.specs.declared.summary.Summary.{Summary}
+use Rattle.af_session.specs.declared.answering.PlayFault.{PlayFault}
+use Rattle.af_session.specs.declared.answering.PlayFault.TheVariants as fault
+use Rattle.af_session.specs.declared.rendering.Played.{Played}
 use Rattle.af_session.specs.Ends.{EndsState}
 use Rattle.af_session.specs.Logging.{IsLogOf}
-use Rattle.af_session.specs.PlayedRuns.{HandsBackRun, IsLegalJournal, LeavesRun}
+use Rattle.af_session.specs.PlayedRuns.{AtFault, AtLimit, HandsBackRun, IsLegalJournal, LeavesRun}
+use Rattle.af_session.specs.PlayKept.{KeepsPlay}
 use Rattle.af_session.specs.Shown.{summary_told}
-use Rattle.af_player.specs.declared.status.Stop.TheVariants.{Over}
+use Rattle.af_player.specs.declared.status.Stop.{Stop}
+use Rattle.af_player.specs.declared.status.Stop.TheVariants.{Refused, Over, Store, Memory}
+use Rattle.af_player.specs.declared.status.Ending.{Ending}
 use Rattle.af_player.specs.declared.status.Ending.TheVariants.{Limit}
 use Rattle.af_player.specs.Asked.{Loaded, trace_job}
-use Rattle.af_player.specs.Ends.{IsCutOff, Makes}
+use Rattle.af_player.specs.Ends.{Makes}
 use Rattle.af_player.specs.Line.{limit_text}
 use Rattle.af_player.specs.Plays.{run_line}
 use Rattle.af_player.specs.Sessions.{summary_line}
-use Rattle.af_player.specs.Status.{stop_of}
-use Rattle.af_player.specs.Traces.{IsTrace, IsTraced, LeavesLog}
-use Rattle.af_player.proofs.Made.{Makes-unwritten, files_are}
-use Rattle.af_player.proofs.PlayedRounds.{line_told, played, text_left}
+use Rattle.af_player.specs.Told.{Tells, TellsTexts}
+use Rattle.af_player.specs.Traces.{IsTrace, IsTraced, LeavesLog, LeavesTrace}
+use Rattle.af_player.proofs.Made.{files_are}
+use Rattle.af_player.proofs.PlayedRounds.{LeavesRun-stays, cut_short, line_told, played, promises, text_left}
 
 -- what a list that was empty holds behind what was appended
-pub appended : (held new empty more : List ℕ) → held ≡ new → new ≡ empty ++ more → empty ≡ [] → held ≡ more
+appended : (held new empty more : List ℕ) → held ≡ new → new ≡ empty ++ more → empty ≡ [] → held ≡ more
 appended held new empty more is grown none = is ∙ grown ∙ ap (λ (xs : List ℕ). xs ++ more) none
-
--- what a play leaves where the outside stopped it is what is left of the work
-pub trace_left : (l : Loaded) (room : ℕ) (target name log : List ℕ) (old new : Files) → LeavesRun l.script l.files target old new → IsCutOff (Ok (trace_job target name log room l)) old new
-trace_left l room target name log old new left = inl (inr (inl (inl left)))
 
 module _ (l : Loaded) (room : ℕ) (journal : JournalData) (ends : EndsState) (back : HandsBackRun true l.script l.files journal ends) (legal : IsLegalJournal true l.script l.files journal) (notes : List Note) (refused : ℕ) (log_of : IsLogOf l.script.frames room journal notes refused) where
   abbrev bytes : List ℕ
@@ -65,24 +66,10 @@ module _ (l : Loaded) (room : ℕ) (journal : JournalData) (ends : EndsState) (b
       subst (λ (files : Files). LeavesFront files log told new) (sym both) left,
     )
 
-    -- it was not written
-    pub log_unwritten : (e : StoreError) (new : Files) → LeavesFront next log told new → Makes (Err (stop_of e)) (Ok (trace_job target name log room l)) old new
-    log_unwritten e new left = Makes-unwritten e (trace_job target name log room l) old new (inr (log_left new left))
-
-    module _ (summary : Summary) (summary_is : summary ≡ summary_told l.script.frames journal ends) (new : Files) (wrote : SetsFile next log (Some told) new) where
-      pub Makes-traced : (line : String Global) → string_bytes line ≡ summary_line summary → Makes (Ok line) (Ok (trace_job target name log room l)) old new
-      Makes-traced line is = traced (string_bytes line) new (line_told l journal ends back legal summary summary_is (string_bytes line) is) wrote
-
-      -- all are whole, and the line has no room
-      pub trace_behind : IsCutOff (Ok (trace_job target name log room l)) old new
-      trace_behind = inr (summary_line summary, traced (summary_line summary) new (line_told l journal ends back legal summary summary_is (summary_line summary) refl) wrote)
+    pub Makes-traced : (summary : Summary) → summary ≡ summary_told l.script.frames journal ends → (new : Files) → SetsFile next log (Some told) new → (line : String Global) → string_bytes line ≡ summary_line summary → Makes (Ok line) (Ok (trace_job target name log room l)) old new
+    Makes-traced summary summary_is new wrote line is = traced (string_bytes line) new (line_told l journal ends back legal summary summary_is (string_bytes line) is) wrote
 
 -- ## Where no log is written
-
--- the journal was not written
-module _ (ended : Bool) (l : Loaded) (room : ℕ) (journal : JournalData) (ends : EndsState) (back : HandsBackRun ended l.script l.files journal ends) (legal : IsLegalJournal ended l.script l.files journal) (target name log : List ℕ) (old mid : Files) (set : SetsFile old target (Some (journal_pcm l.script.frames journal)) mid) where
-  pub journal_unwritten : (e : StoreError) (new : Files) → LeavesFront mid name (text_of journal) new → Makes (Err (stop_of e)) (Ok (trace_job target name log room l)) old new
-  journal_unwritten e new left = Makes-unwritten e (trace_job target name log room l) old new (inl (inr (text_left ended l journal ends back legal target name old mid set new left)))
 
 -- a run that was cut off
 pub Makes-cut_log : (l : Loaded) (room : ℕ) (journal : JournalData) (ends : EndsState) → HandsBackRun false l.script l.files journal ends → IsLegalJournal false l.script l.files journal → (target name log : List ℕ) (old mid new : Files)
@@ -90,3 +77,49 @@ pub Makes-cut_log : (l : Loaded) (room : ℕ) (journal : JournalData) (ends : En
     → (cycles : ℕ) → cycles ≡ l.script.cycles → Makes (Err (Over (Limit cycles))) (Ok (trace_job target name log room l)) old new
 Makes-cut_log l room journal ends back legal target name log old mid new set text cycles is =
     (is, played false l journal ends back legal target name old mid set (limit_text cycles) new (ap limit_text is) text)
+
+-- ## What is told of a play with a log
+
+-- the log that a play has appended to a text that was empty
+abbrev HasLog : Loaded → ℕ → JournalData → List ℕ → List ℕ → Type 0
+HasLog l room journal grown empty = (notes : List Note) × (refused : ℕ) × IsLogOf l.script.frames room journal notes refused × (grown ≡ empty ++ log_text notes refused) × (32 ≤ room → refused ≡ 0)
+
+module _ (l : Loaded) (room : ℕ) (target name log : List ℕ) (old mid new : Files) where
+  -- the journal is not whole, or the log
+  trace_left : (p : Played) → KeepsPlay l.script l.files (Ok p) → SetsFile old target (Some (journal_pcm l.script.frames p.journal)) mid → (notes : List Note) (refused : ℕ) → IsLogOf l.script.frames room p.journal notes refused → (held : List ℕ) → held ≡ log_text notes refused
+      → LeavesFront mid name (text_of p.journal) new ⊎ ((next : Files) × SetsFile mid name (Some (text_of p.journal)) next × LeavesFront next log held new)
+      → LeavesTrace l.script l.files room target name log old new
+  trace_left p keeps set notes refused log_of held is (inl left) = inl (inr (text_left true l p.journal p.ends keeps.played (promises l p keeps) target name old mid set new left))
+  trace_left p keeps set notes refused log_of held is (inr (next, text, left)) =
+      inr (log_left l room p.journal p.ends keeps.played (promises l p keeps) notes refused log_of target name log old mid next set text new
+      (subst (λ (xs : List ℕ). LeavesFront next log xs new) is left))
+
+  module _ (held grown empty : List ℕ) (held_is : held ≡ grown) (none : empty ≡ []) (cycles : ℕ) (cycles_are : cycles ≡ l.script.cycles) where
+    pub Makes-logged : (played : Result Played PlayFault) (result : Result (String Global) Stop) → KeepsPlay l.script l.files played
+        → IfOk played (λ p. SetsFile old target (Some (journal_pcm l.script.frames p.journal)) mid)
+        → IfErr played (AtLimit (λ journal _. SetsFile old target (Some (journal_pcm l.script.frames journal)) mid))
+        → IfErr played (AtFault (LeavesRun l.script l.files target old mid))
+        → IfOk played (λ p. HasLog l room p.journal grown empty)
+        → Tells cycles played result → TellsTexts name log held played result mid new → Makes result (Ok (trace_job target name log room l)) old new
+    Makes-logged (Ok p) (Ok line) keeps set cut left logged told (next, text, wrote) =
+        Makes-traced l room p.journal p.ends keeps.played (promises l p keeps) logged.0 logged.1 logged.2 target name log old mid next set text p.summary keeps.summary new
+        (subst (λ (xs : List ℕ). SetsFile next log (Some xs) new) (appended held grown empty (log_text logged.0 logged.1) held_is logged.3 none) wrote) line told
+    Makes-logged (Ok p) (Err (Refused refusal)) keeps set cut left logged wrong texts = absurd wrong
+    Makes-logged (Ok p) (Err (Over over)) keeps set cut left logged wrong texts = absurd wrong
+    Makes-logged (Ok p) (Err Store) keeps set cut left logged told texts =
+        inl (inr (trace_left p keeps set logged.0 logged.1 logged.2 held (appended held grown empty (log_text logged.0 logged.1) held_is logged.3 none) texts))
+    Makes-logged (Ok p) (Err Memory) keeps set cut left logged told texts =
+        inl (inr (trace_left p keeps set logged.0 logged.1 logged.2 held (appended held grown empty (log_text logged.0 logged.1) held_is logged.3 none) texts))
+    Makes-logged (Err (fault.CycleLimit journal ends)) (Ok line) keeps set cut left logged wrong text = absurd wrong
+    Makes-logged (Err (fault.CycleLimit journal ends)) (Err (Refused refusal)) keeps set cut left logged wrong text = absurd wrong
+    Makes-logged (Err (fault.CycleLimit journal ends)) (Err (Over over)) keeps set cut left logged is text =
+        subst (λ (o : Ending). Makes (Err (Over o)) (Ok (trace_job target name log room l)) old new) (sym is)
+        (Makes-cut_log l room journal ends keeps.limit (cut_short l journal ends keeps) target name log old mid new cut text cycles cycles_are)
+    Makes-logged (Err (fault.CycleLimit journal ends)) (Err Store) keeps set cut left logged told text =
+        inl (inr (inl (inr (text_left false l journal ends keeps.limit (cut_short l journal ends keeps) target name old mid cut new text))))
+    Makes-logged (Err (fault.CycleLimit journal ends)) (Err Memory) keeps set cut left logged told text =
+        inl (inr (inl (inr (text_left false l journal ends keeps.limit (cut_short l journal ends keeps) target name old mid cut new text))))
+    Makes-logged (Err fault.Store) result keeps set cut left logged is same =
+        subst (λ (r : Result (String Global) Stop). Makes r (Ok (trace_job target name log room l)) old new) (sym is) (inl (inr (inl (inl (LeavesRun-stays l target old mid new left same)))))
+    Makes-logged (Err fault.Memory) result keeps set cut left logged is same =
+        subst (λ (r : Result (String Global) Stop). Makes r (Ok (trace_job target name log room l)) old new) (sym is) (inl (inr (inl (inl (LeavesRun-stays l target old mid new left same)))))

@@ -9,15 +9,16 @@ ghost use Rattle.af_player.specs.Loading.{loaded_view, AreFilesFor};
 ghost use Rattle.af_player.specs.Plays.{IsSomePlayLine};
 ghost use Rattle.af_words.specs.Requests.{Play};
 ghost use Rattle.af_player.specs.Status.{HasFault, SuitsRequest};
+ghost use Rattle.af_player.specs.Told.{Tells, TellsCause, TellsEnded, TellsLimit, TellsText, WritesText};
 
 use crate::deliver::write_file;
 use crate::load::{Loaded, load_script};
-use crate::render::summary_line;
+use crate::render::line_of;
 use crate::status::{Ending, Stop};
 use af_base::Memory;
 use af_io::{Gate, Store, StoreError};
 use af_model::Journal;
-use af_session::SessionFault;
+use af_session::{PlayFault, Played};
 use std::alloc::Global;
 use std::thread::Threads;
 
@@ -46,6 +47,62 @@ pub(crate) fn write_journal<S: Store>(
     write_file(store, name, &text)
 }
 
+/// Writes the journal of a play in which all parties have ended, and answers its line.
+fn tell_ended<S: Store>(
+    alloc: Global,
+    store: &mut S,
+    name: &str,
+    played: &Played,
+) -> Result<String, Stop>
+    ensures told { TellsEnded played.now.summary result }
+    ensures files { S.told store.old → WritesText name.now played.now.journal result (S.files store.old) (S.files store.new) }
+    ensures tells { S.told store.old → S.told store.new }
+    ensures cause { HasFault (S.faults store.old) (S.faults store.new) result }
+{
+    write_journal(alloc, store, name, &played.journal)?;
+    line_of(alloc, &played.summary)
+}
+
+/// Writes the journal of a play that was cut off at its limit of so many cycles, and answers that end.
+fn tell_limit<S: Store>(
+    alloc: Global,
+    store: &mut S,
+    name: &str,
+    cycles: u32,
+    journal: &Journal,
+) -> Result<String, Stop>
+    ensures told { TellsLimit cycles result }
+    ensures files { S.told store.old → WritesText name.now journal.now result (S.files store.old) (S.files store.new) }
+    ensures tells { S.told store.old → S.told store.new }
+    ensures cause { HasFault (S.faults store.old) (S.faults store.new) result }
+{
+    write_journal(alloc, store, name, journal)?;
+    Err(Stop::Over(Ending::Limit { cycles }))
+}
+
+/// Tells a play: writes its journal where all parties have ended, whose line is answered, and where it was cut off at its limit of so many cycles.
+pub(crate) fn tell<S: Store>(
+    alloc: Global,
+    store: &mut S,
+    name: &str,
+    cycles: u32,
+    played: &Result<Played, PlayFault>,
+) -> Result<String, Stop>
+    ensures told { Tells cycles played.now result }
+    ensures files { S.told store.old → TellsText name.now played.now result (S.files store.old) (S.files store.new) }
+    ensures tells { S.told store.old → S.told store.new }
+    ensures cause { TellsCause (S.faults store.old) (S.faults store.new) played.now result }
+{
+    match played {
+        Ok(played) => tell_ended(alloc, store, name, played),
+        Err(PlayFault::CycleLimit { journal, .. }) => {
+            tell_limit(alloc, store, name, cycles, journal)
+        }
+        Err(PlayFault::Store) => Err(Stop::Store),
+        Err(PlayFault::Memory) => Err(Stop::Memory),
+    }
+}
+
 /// Plays what was loaded, writes the journal, and answers the line of a run in which all parties have ended.
 fn play<R: Threads + Sync, S: Store, G: Gate>(
     rt: &R,
@@ -62,7 +119,7 @@ fn play<R: Threads + Sync, S: Store, G: Gate>(
     ensures cause { HasFault (S.faults store.old) (S.faults store.new) result }
     ensures words { (script : List ℕ) → SuitsRequest result (Play script target.now journal.now) }
 {
-    match af_session::play(
+    let played = af_session::play(
         rt,
         alloc,
         &loaded.script,
@@ -70,19 +127,10 @@ fn play<R: Threads + Sync, S: Store, G: Gate>(
         store,
         target,
         gate,
-    ) {
-        Ok(played) => {
-            write_journal(alloc, store, journal, &played.journal)?;
-            Ok(summary_line(alloc, &played.summary)?)
-        }
-        Err(SessionFault::CycleLimit { journal: cut, .. }) => {
-            write_journal(alloc, store, journal, &cut)?;
-            let cycles = loaded.script.cycles();
-            Err(Stop::Over(Ending::Limit { cycles }))
-        }
-        Err(SessionFault::Store) => Err(Stop::Store),
-        Err(SessionFault::Memory) => Err(Stop::Memory),
-    }
+    );
+    let told = tell(alloc, store, journal, loaded.script.cycles(), &played);
+    drop(played);
+    told
 }
 
 /// Loads a script and the files of its tracks, and plays it in rounds into the output. The journal is written where all parties have ended, whose line is answered, and where the play was cut off at its limit of cycles.

@@ -5,12 +5,14 @@ ghost use Rattle.af_player.specs.Ends.{Makes};
 ghost use Rattle.af_player.specs.Loading.{loaded_view, AreFilesFor};
 ghost use Rattle.af_player.specs.Sessions.{IsSomeSessionLine, summary_line};
 ghost use Rattle.af_player.specs.Status.{HasFault, IsNoUsage};
+ghost use Rattle.af_player.specs.Told.{TellsLine, TellsRender};
 ghost use Rattle.af_script.specs.Form.{IsScript};
 
 use crate::load::{Loaded, load_script};
 use crate::status::Stop;
-use af_io::Store;
+use af_io::{Store, StoreError};
 use af_script::Script;
+use af_session::Played;
 use af_tally::Summary;
 use std::alloc::{AllocError, Global};
 
@@ -19,6 +21,23 @@ pub fn summary_line(alloc: Global, summary: &Summary) -> Result<String, AllocErr
     ensures { IfOk result (λ line. string_bytes line ≡ summary_line summary.now) }
 {
     format!(in alloc; "{summary}\n")
+}
+
+/// The same as the answer of a command, which memory alone may stop.
+pub(crate) fn line_of(alloc: Global, summary: &Summary) -> Result<String, Stop>
+    ensures { TellsLine summary.now result }
+{
+    Ok(summary_line(alloc, summary)?)
+}
+
+/// What is told of a render: its line, or the stop of the store's error.
+fn tell(alloc: Global, played: &Result<Played, StoreError>) -> Result<String, Stop>
+    ensures { TellsRender played.now result }
+{
+    match played {
+        Ok(played) => line_of(alloc, &played.summary),
+        Err(error) => Err(Stop::from(*error)),
+    }
 }
 
 // What was read as a script keeps the rules of a script: its type says so.
@@ -44,8 +63,10 @@ pub fn play<S: Store>(
     ensures words { IsNoUsage result }
 {
     is_accepted(&loaded.script);
-    let played = af_session::render(alloc, &loaded.script, &loaded.files, store, target)?;
-    Ok(summary_line(alloc, &played.summary)?)
+    let played = af_session::render(alloc, &loaded.script, &loaded.files, store, target);
+    let told = tell(alloc, &played);
+    drop(played);
+    told
 }
 
 /// Loads a script and the files of its tracks, plays it into the output, and answers its line.

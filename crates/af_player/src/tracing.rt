@@ -6,16 +6,35 @@ ghost use Rattle.af_player.specs.Loading.{loaded_view, AreFilesFor};
 ghost use Rattle.af_player.specs.Plays.{IsSomePlayLine};
 ghost use Rattle.af_words.specs.Requests.{Trace};
 ghost use Rattle.af_player.specs.Status.{HasFault, SuitsRequest};
+ghost use Rattle.af_player.specs.Told.{Tells, TellsCause, TellsTexts};
 
 use crate::deliver::write_file;
 use crate::load::{Loaded, load_script};
-use crate::playing::write_journal;
-use crate::render::summary_line;
-use crate::status::{Ending, Stop};
+use crate::playing::tell;
+use crate::status::Stop;
 use af_io::{Gate, Store};
-use af_session::SessionFault;
+use af_session::{PlayFault, Played};
 use std::alloc::Global;
 use std::thread::Threads;
+
+/// Tells a play as `tell` does, and writes the text of its log behind the journal where all parties have ended.
+fn tell_with_log<S: Store>(
+    alloc: Global,
+    store: &mut S,
+    name: &str,
+    log: &str,
+    text: &[u8],
+    cycles: u32,
+    played: &Result<Played, PlayFault>,
+) -> Result<String, Stop>
+    ensures told { Tells cycles played.now result }
+    ensures files { S.told store.old → TellsTexts name.now log.now text.now played.now result (S.files store.old) (S.files store.new) }
+    ensures cause { TellsCause (S.faults store.old) (S.faults store.new) played.now result }
+{
+    let line = tell(alloc, store, name, cycles, played)?;
+    write_file(store, log, text)?;
+    Ok(line)
+}
 
 /// Plays what was loaded with a log, writes the journal and then the log, and answers the line of a run in which all parties have ended.
 fn trace<R: Threads + Sync, S: Store, G: Gate>(
@@ -37,7 +56,7 @@ fn trace<R: Threads + Sync, S: Store, G: Gate>(
     ensures words { (script : List ℕ) → SuitsRequest result (Trace script target.now journal.now log.now room) }
 {
     let mut text = Vec::new(alloc);
-    match af_session::play_logged(
+    let played = af_session::play_logged(
         rt,
         alloc,
         &loaded.script,
@@ -47,20 +66,11 @@ fn trace<R: Threads + Sync, S: Store, G: Gate>(
         gate,
         room,
         &mut text,
-    ) {
-        Ok(played) => {
-            write_journal(alloc, store, journal, &played.journal)?;
-            write_file(store, log, &text)?;
-            Ok(summary_line(alloc, &played.summary)?)
-        }
-        Err(SessionFault::CycleLimit { journal: cut, .. }) => {
-            write_journal(alloc, store, journal, &cut)?;
-            let cycles = loaded.script.cycles();
-            Err(Stop::Over(Ending::Limit { cycles }))
-        }
-        Err(SessionFault::Store) => Err(Stop::Store),
-        Err(SessionFault::Memory) => Err(Stop::Memory),
-    }
+    );
+    let cycles = loaded.script.cycles();
+    let told = tell_with_log(alloc, store, journal, log, &text, cycles, &played);
+    drop(played);
+    told
 }
 
 /// Loads a script and the files of its tracks, and plays it in rounds into the output, with a log of so much room. The journal is written where all parties have ended, whose line is answered, and where the play was cut off at its limit of cycles; the log behind it where all have ended.

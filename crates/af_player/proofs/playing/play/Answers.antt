@@ -1,133 +1,69 @@
-use Rattle.std.proofs.Common.{◌≡◌, Err, Ok, Some, ◌∙◌, false, subst, true}
-use Rattle.af_enough.specs.Enough.{HasEnoughCycles}
-use Rattle.af_io.specs.Files.{SetsFile}
-use Rattle.af_model.specs.Journals.{JournalData}
-use Rattle.af_session.specs.declared.rendering.SessionFault.{SessionFault}
-use Rattle.af_session.specs.Ends.{EndsState}
-use Rattle.af_session.specs.PlayedRuns.{AtLimit, HandsBackRun}
-use Rattle.af_runs.specs.LegalRuns.{IsCutRun}
-use Rattle.af_runs.specs.Pcm.{journal_pcm}
-use Rattle.af_player.specs.declared.status.Stop.TheVariants.{Over}
-use Rattle.af_player.specs.declared.status.Ending.TheVariants.{Limit}
+use Rattle.std.proofs.Common.{◌≡◌, Ok, subst}
+use Rattle.af_session.specs.PlayKept.{KeepsPlay}
 use Rattle.af_player.specs.Asked.{Loaded, play_job}
-use Rattle.af_player.specs.Ends.{IsCutOff, Makes}
+use Rattle.af_player.specs.Ends.{Makes}
 use Rattle.af_player.specs.Loading.{loaded_view}
 use Rattle.af_words.specs.Requests.{Play}
-use Rattle.af_player.specs.Status.{stop_of}
-use Rattle.af_player.proofs.Played.{Makes-memory}
-use Rattle.af_player.proofs.PlayedRounds.{Makes-cut, Makes-rounds, cut_short, promises, rounds_behind, some_play_line, text_unwritten}
-use Rattle.af_player.proofs.PlayedFaults.{calm_limit, calm_memory, cut_still, fault_behind, ok_still, stopped, suits_stopped, written_still}
+use Rattle.af_player.proofs.PlayedFaults.{HasFault-told, SuitsRequest-told}
+use Rattle.af_player.proofs.PlayedRounds.{Makes-told, some_play_told}
 use Rattle.af_player.proofs.playing.play.Goals as goal
 
-pub returns-in_err-write_journal-in-Ok-clause-made : goal.returns-in_err-write_journal-in-Ok-clause-made
-returns-in_err-write_journal-in-Ok-clause-made g c = λ told.
+pub returns-clause-made : goal.returns-clause-made
+returns-clause-made g c = λ told.
     let old = g.S.Store.files c.args.store.now in
-    let mid = g.S.Store.files c.play.new.store in
-    let new = g.S.Store.files c.write_journal.new.store in
-    let p = c.in-Ok.played in
-    let e = c.in_err-write_journal-in-Ok.field-0.0 in
+    let mid = g.S.Store.files c.play-played.new.store in
+    let new = g.S.Store.files c.tell-told.new.store in
+    let p = c.play-played.ensures in
     let here : Loaded = record { script = c.args.loaded.now.script; files = c.deref.result.now } in
     let same : here ≡ loaded_view c.args.loaded.now = λ k. record { script = c.args.loaded.now.script; files = c.deref.ensures.value k } in
-    let left =
-    text_unwritten true here p.journal p.ends c.in-Ok.ensures.played (promises here p.journal c.in-Ok.ensures.legal c.in-Ok.ensures.fates c.in-Ok.ensures.unshut c.in-Ok.ensures.drained c.in-Ok.ensures.settled c.in-Ok.ensures.emptied) c.args.target.now c.args.journal.now old mid (c.in-Ok.ensures.written told) e new
-    (c.in_err-write_journal-in-Ok.ensures.left (c.in-Ok.ensures.tells told)) in
-    let cut : Makes (Err (stop_of e)) (Ok (play_job c.args.target.now c.args.journal.now (loaded_view c.args.loaded.now))) old new =
-    subst (λ (l : Loaded). Makes (Err (stop_of e)) (Ok (play_job c.args.target.now c.args.journal.now l)) old new) same left in
-    stopped (λ x. Makes x (Ok (play_job c.args.target.now c.args.journal.now (loaded_view c.args.loaded.now))) old new) c.from_residual.result e cut c.from_residual.ensures.1
+    let keeps : KeepsPlay here.script here.files c.play-played.result = record {
+      played = p.played;
+      limit = p.limit;
+      legal = p.legal;
+      fates = p.fates;
+      unshut = p.unshut;
+      drained = p.drained;
+      settled = p.settled;
+      emptied = p.emptied;
+      cut_run = p.cut_run;
+      enough = p.enough;
+      summary = p.summary;
+      calls = p.calls;
+      pushes = p.pushes;
+      never_older = p.never_older;
+      spared = p.spared;
+    } in
+    subst (λ (l : Loaded). Makes c.tell-told.result (Ok (play_job c.args.target.now c.args.journal.now l)) old new) same
+    (Makes-told here c.cycles.result c.cycles.ensures.value c.args.target.now c.args.journal.now old mid new c.play-played.result c.tell-told.result keeps (p.written told) (p.cut told) (p.left told)
+    c.tell-told.ensures.told (c.tell-told.ensures.files (p.tells told)))
 
-pub returns-in_err-summary_line-in-Ok-clause-made : goal.returns-in_err-summary_line-in-Ok-clause-made
-returns-in_err-summary_line-in-Ok-clause-made g c = λ told.
-    let old = g.S.Store.files c.args.store.now in
-    let mid = g.S.Store.files c.play.new.store in
-    let new = g.S.Store.files c.write_journal.new.store in
-    let p = c.in-Ok.played in
+pub returns-clause-line : goal.returns-clause-line
+returns-clause-line g c =
+    let p = c.play-played.ensures in
     let here : Loaded = record { script = c.args.loaded.now.script; files = c.deref.result.now } in
-    let same : here ≡ loaded_view c.args.loaded.now = λ k. record { script = c.args.loaded.now.script; files = c.deref.ensures.value k } in
-    Makes-memory c.from_residual-in_err-summary_line-in-Ok.result (Ok (play_job c.args.target.now c.args.journal.now (loaded_view c.args.loaded.now))) old new c.from_residual-in_err-summary_line-in-Ok.ensures.1
-    (subst (λ (l : Loaded). IsCutOff (Ok (play_job c.args.target.now c.args.journal.now l)) old new) same
-    (rounds_behind here p.journal p.ends c.in-Ok.ensures.played (promises here p.journal c.in-Ok.ensures.legal c.in-Ok.ensures.fates c.in-Ok.ensures.unshut c.in-Ok.ensures.drained c.in-Ok.ensures.settled c.in-Ok.ensures.emptied) p.summary c.in-Ok.ensures.summary c.args.target.now c.args.journal.now old mid new (c.in-Ok.ensures.written told)
-    (c.in_ok-write_journal-in-Ok.ensures.written (c.in-Ok.ensures.tells told))))
+    let keeps : KeepsPlay here.script here.files c.play-played.result = record {
+      played = p.played;
+      limit = p.limit;
+      legal = p.legal;
+      fates = p.fates;
+      unshut = p.unshut;
+      drained = p.drained;
+      settled = p.settled;
+      emptied = p.emptied;
+      cut_run = p.cut_run;
+      enough = p.enough;
+      summary = p.summary;
+      calls = p.calls;
+      pushes = p.pushes;
+      never_older = p.never_older;
+      spared = p.spared;
+    } in
+    some_play_told here c.cycles.result c.play-played.result c.tell-told.result keeps c.tell-told.ensures.told
 
-pub returns-in-Ok-clause-made : goal.returns-in-Ok-clause-made
-returns-in-Ok-clause-made g c = λ told.
-    let old = g.S.Store.files c.args.store.now in
-    let mid = g.S.Store.files c.play.new.store in
-    let new = g.S.Store.files c.write_journal.new.store in
-    let p = c.in-Ok.played in
-    let line = c.in_ok-summary_line-in-Ok.field-0 in
-    let here : Loaded = record { script = c.args.loaded.now.script; files = c.deref.result.now } in
-    let same : here ≡ loaded_view c.args.loaded.now = λ k. record { script = c.args.loaded.now.script; files = c.deref.ensures.value k } in
-    subst (λ (l : Loaded). Makes (Ok line) (Ok (play_job c.args.target.now c.args.journal.now l)) old new) same
-    (Makes-rounds here p.journal p.ends c.in-Ok.ensures.played (promises here p.journal c.in-Ok.ensures.legal c.in-Ok.ensures.fates c.in-Ok.ensures.unshut c.in-Ok.ensures.drained c.in-Ok.ensures.settled c.in-Ok.ensures.emptied) p.summary c.in-Ok.ensures.summary c.args.target.now c.args.journal.now old mid new (c.in-Ok.ensures.written told)
-    (c.in_ok-write_journal-in-Ok.ensures.written (c.in-Ok.ensures.tells told)) line c.in_ok-summary_line-in-Ok.ensures)
+pub returns-clause-cause : goal.returns-clause-cause
+returns-clause-cause g c =
+    HasFault-told c.cycles.result (g.S.Store.faults c.args.store.now) (g.S.Store.faults c.play-played.new.store) (g.S.Store.faults c.tell-told.new.store) c.play-played.result c.tell-told.result
+    c.play-played.ensures.cause c.tell-told.ensures.cause c.tell-told.ensures.told
 
-pub returns-in-Ok-clause-line : goal.returns-in-Ok-clause-line
-returns-in-Ok-clause-line g c =
-    let p = c.in-Ok.played in
-    let here : Loaded = record { script = c.args.loaded.now.script; files = c.deref.result.now } in
-    some_play_line here p.journal p.ends c.in-Ok.ensures.played (promises here p.journal c.in-Ok.ensures.legal c.in-Ok.ensures.fates c.in-Ok.ensures.unshut c.in-Ok.ensures.drained c.in-Ok.ensures.settled c.in-Ok.ensures.emptied) p.summary c.in-Ok.ensures.summary _ c.in_ok-summary_line-in-Ok.ensures
-
-pub returns-in_err-write_journal-in-Err-CycleLimit-clause-made : goal.returns-in_err-write_journal-in-Err-CycleLimit-clause-made
-returns-in_err-write_journal-in-Err-CycleLimit-clause-made g c = λ told.
-    let old = g.S.Store.files c.args.store.now in
-    let mid = g.S.Store.files c.play.new.store in
-    let new = g.S.Store.files c.write_journal-in-Err-CycleLimit.new.store in
-    let a = c.in-Err-CycleLimit in
-    let run = subst (λ (f : SessionFault). AtLimit (HandsBackRun false c.args.loaded.now.script c.deref.result.now) f) a.field-0-is a.ensures.limit in
-    let sound = subst (λ (f : SessionFault). AtLimit (λ (j : JournalData) (_ : EndsState). SetsFile old c.args.target.now (Some (journal_pcm c.args.loaded.now.script.frames j)) mid) f) a.field-0-is (a.ensures.cut told) in
-    let e = c.in_err-write_journal-in-Err-CycleLimit.field-0.0 in
-    let here : Loaded = record { script = c.args.loaded.now.script; files = c.deref.result.now } in
-    let lawful = cut_short here a.cut (subst (λ (f : SessionFault). AtLimit (λ (j : JournalData) (_ : EndsState). IsCutRun c.args.loaded.now.script c.deref.result.now j) f) a.field-0-is a.ensures.cut_run) (λ (enough : HasEnoughCycles c.args.loaded.now.script). subst (λ (f : SessionFault). AtLimit (λ (j : JournalData) (_ : EndsState). ⊥) f) a.field-0-is (a.ensures.enough enough)) in
-    let same : here ≡ loaded_view c.args.loaded.now = λ k. record { script = c.args.loaded.now.script; files = c.deref.ensures.value k } in
-    let left =
-    text_unwritten false here a.cut a.field-0-1 run lawful c.args.target.now c.args.journal.now old mid sound e new
-    (c.in_err-write_journal-in-Err-CycleLimit.ensures.left (a.ensures.tells told)) in
-    let cut : Makes (Err (stop_of e)) (Ok (play_job c.args.target.now c.args.journal.now (loaded_view c.args.loaded.now))) old new =
-    subst (λ (l : Loaded). Makes (Err (stop_of e)) (Ok (play_job c.args.target.now c.args.journal.now l)) old new) same left in
-    stopped (λ x. Makes x (Ok (play_job c.args.target.now c.args.journal.now (loaded_view c.args.loaded.now))) old new) c.from_residual-in_err-write_journal-in-Err-CycleLimit.result e cut c.from_residual-in_err-write_journal-in-Err-CycleLimit.ensures.1
-
-pub returns-in-Err-CycleLimit-clause-made : goal.returns-in-Err-CycleLimit-clause-made
-returns-in-Err-CycleLimit-clause-made g c = λ told.
-    let old = g.S.Store.files c.args.store.now in
-    let mid = g.S.Store.files c.play.new.store in
-    let new = g.S.Store.files c.write_journal-in-Err-CycleLimit.new.store in
-    let a = c.in-Err-CycleLimit in
-    let run = subst (λ (f : SessionFault). AtLimit (HandsBackRun false c.args.loaded.now.script c.deref.result.now) f) a.field-0-is a.ensures.limit in
-    let sound = subst (λ (f : SessionFault). AtLimit (λ (j : JournalData) (_ : EndsState). SetsFile old c.args.target.now (Some (journal_pcm c.args.loaded.now.script.frames j)) mid) f) a.field-0-is (a.ensures.cut told) in
-    let cycles = c.cycles-cycles.result in
-    let here : Loaded = record { script = c.args.loaded.now.script; files = c.deref.result.now } in
-    let lawful = cut_short here a.cut (subst (λ (f : SessionFault). AtLimit (λ (j : JournalData) (_ : EndsState). IsCutRun c.args.loaded.now.script c.deref.result.now j) f) a.field-0-is a.ensures.cut_run) (λ (enough : HasEnoughCycles c.args.loaded.now.script). subst (λ (f : SessionFault). AtLimit (λ (j : JournalData) (_ : EndsState). ⊥) f) a.field-0-is (a.ensures.enough enough)) in
-    let same : here ≡ loaded_view c.args.loaded.now = λ k. record { script = c.args.loaded.now.script; files = c.deref.ensures.value k } in
-    subst (λ (l : Loaded). Makes (Err (Over (Limit cycles))) (Ok (play_job c.args.target.now c.args.journal.now l)) old new) same
-    (Makes-cut here a.cut a.field-0-1 run lawful c.args.target.now c.args.journal.now old mid new sound
-    (c.in_ok-write_journal-in-Err-CycleLimit.ensures.written (a.ensures.tells told)) cycles c.cycles-cycles.ensures.value)
-
-pub returns-in_err-write_journal-in-Ok-clause-cause : goal.returns-in_err-write_journal-in-Ok-clause-cause
-returns-in_err-write_journal-in-Ok-clause-cause g c =
-    fault_behind c.from_residual.result c.in_err-write_journal-in-Ok.field-0.0 (g.S.Store.faults c.args.store.now) (g.S.Store.faults c.play.new.store) (g.S.Store.faults c.write_journal.new.store)
-    (ok_still c.in-Ok.played (g.S.Store.faults c.args.store.now) (g.S.Store.faults c.play.new.store) c.in-Ok.ensures.cause) c.in_err-write_journal-in-Ok.ensures.cause c.from_residual.ensures.1
-
-pub returns-in_err-write_journal-in-Ok-clause-words : goal.returns-in_err-write_journal-in-Ok-clause-words
-returns-in_err-write_journal-in-Ok-clause-words g c = λ script. suits_stopped c.from_residual.result c.in_err-write_journal-in-Ok.field-0.0 (Play script c.args.target.now c.args.journal.now) c.from_residual.ensures.1
-
-pub returns-in_err-summary_line-in-Ok-clause-cause : goal.returns-in_err-summary_line-in-Ok-clause-cause
-returns-in_err-summary_line-in-Ok-clause-cause g c =
-    calm_memory c.from_residual-in_err-summary_line-in-Ok.result (g.S.Store.faults c.args.store.now) (g.S.Store.faults c.write_journal.new.store)
-    (written_still c.in_ok-write_journal-in-Ok.field-0 (g.S.Store.faults c.play.new.store) (g.S.Store.faults c.write_journal.new.store) c.in_ok-write_journal-in-Ok.ensures.cause ∙ ok_still c.in-Ok.played (g.S.Store.faults c.args.store.now) (g.S.Store.faults c.play.new.store) c.in-Ok.ensures.cause) c.from_residual-in_err-summary_line-in-Ok.ensures.1
-
-pub returns-in_err-write_journal-in-Err-CycleLimit-clause-cause : goal.returns-in_err-write_journal-in-Err-CycleLimit-clause-cause
-returns-in_err-write_journal-in-Err-CycleLimit-clause-cause g c =
-    fault_behind c.from_residual-in_err-write_journal-in-Err-CycleLimit.result c.in_err-write_journal-in-Err-CycleLimit.field-0.0 (g.S.Store.faults c.args.store.now) (g.S.Store.faults c.play.new.store) (g.S.Store.faults c.write_journal-in-Err-CycleLimit.new.store)
-    (cut_still c.in-Err-CycleLimit.field-0 c.in-Err-CycleLimit.cut c.in-Err-CycleLimit.field-0-1 (g.S.Store.faults c.args.store.now) (g.S.Store.faults c.play.new.store) c.in-Err-CycleLimit.field-0-is c.in-Err-CycleLimit.ensures.cause) c.in_err-write_journal-in-Err-CycleLimit.ensures.cause
-    c.from_residual-in_err-write_journal-in-Err-CycleLimit.ensures.1
-
-pub returns-in_err-write_journal-in-Err-CycleLimit-clause-words : goal.returns-in_err-write_journal-in-Err-CycleLimit-clause-words
-returns-in_err-write_journal-in-Err-CycleLimit-clause-words g c = λ script.
-    suits_stopped c.from_residual-in_err-write_journal-in-Err-CycleLimit.result c.in_err-write_journal-in-Err-CycleLimit.field-0.0 (Play script c.args.target.now c.args.journal.now)
-    c.from_residual-in_err-write_journal-in-Err-CycleLimit.ensures.1
-
-pub returns-in-Err-CycleLimit-clause-cause : goal.returns-in-Err-CycleLimit-clause-cause
-returns-in-Err-CycleLimit-clause-cause g c =
-    calm_limit c.cycles-cycles.result (g.S.Store.faults c.args.store.now) (g.S.Store.faults c.write_journal-in-Err-CycleLimit.new.store)
-    (written_still c.in_ok-write_journal-in-Err-CycleLimit.field-0 (g.S.Store.faults c.play.new.store) (g.S.Store.faults c.write_journal-in-Err-CycleLimit.new.store) c.in_ok-write_journal-in-Err-CycleLimit.ensures.cause
-    ∙ cut_still c.in-Err-CycleLimit.field-0 c.in-Err-CycleLimit.cut c.in-Err-CycleLimit.field-0-1 (g.S.Store.faults c.args.store.now) (g.S.Store.faults c.play.new.store) c.in-Err-CycleLimit.field-0-is c.in-Err-CycleLimit.ensures.cause)
+pub returns-clause-words : goal.returns-clause-words
+returns-clause-words g c = λ script. SuitsRequest-told c.cycles.result (Play script c.args.target.now c.args.journal.now) c.play-played.result c.tell-told.result tt c.tell-told.ensures.told
