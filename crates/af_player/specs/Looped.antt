@@ -59,3 +59,15 @@ next_setting hand = if is_valid (length hand.frames) hand.used then hand.newest 
 unfoldable pub next_head : HandState → Head
 unfolding next_setting
 next_head hand = heard (length hand.frames) hand.used hand.head (next_setting hand)
+
+-- what is heard of all calls of a buffer in hand
+abbrev pub heard_in : HandState → Turns → List Frame
+heard_in hand turns = heard_of hand.frames (next_setting hand) turns.places turns.calls (next_head hand)
+
+-- how many calls there were, how many frames they took, and whether the player is shut
+abbrev pub rolls_from : HandState → Turns → Rolls
+rolls_from hand turns = record {
+  cycles = turns.calls;
+  filled = filled_of hand.frames (next_setting hand) turns.places turns.calls (next_head hand);
+  is_shut = is_some (shut_by (length hand.frames) (next_setting hand));
+}

@@ -7,7 +7,7 @@ ghost use Rattle.af_player.specs.Asked.{buffer_in, loop_asked};
 ghost use Rattle.af_player.specs.Asking.{output_job};
 ghost use Rattle.af_player.specs.Ends.{Makes};
 ghost use Rattle.af_player.specs.Line.{rolls_text};
-ghost use Rattle.af_player.specs.Looped.{Rolls, filled_of, first_head, heard_of, looped, next_head, next_setting, rolls_of, setting_of, unity};
+ghost use Rattle.af_player.specs.Looped.{Rolls, filled_of, first_head, heard_in, heard_of, looped, next_head, next_setting, rolls_from, rolls_of, setting_of, unity};
 ghost use Rattle.af_words.specs.Asking.{AreTurns};
 ghost use Rattle.af_player.specs.Rolled.{rolls_in};
 ghost use Rattle.af_player.specs.Status.{HasFault, IsNoUsage, Meets};
@@ -115,6 +115,33 @@ fn set_once(alloc: Global, frames: &[Frame], turns: Turns) -> Result<InHand, Mem
     Ok(hand)
 }
 
+/// Plays all calls of a buffer in hand, into places of their own: the bytes of what is heard are added, and its line is answered.
+fn play_all(
+    alloc: Global,
+    hand: &mut InHand,
+    turns: Turns,
+    bytes: &mut Vec<u8>,
+) -> Result<String, Memory>
+    requires { AreTurns turns }
+    ensures bytes { OnOk result (bytes.new.items ≡ bytes.old.items ++ pcm_bytes (heard_in hand.old turns)) }
+    ensures line { IfOk result (λ line. string_bytes line ≡ rolls_text (rolls_from hand.old turns)) }
+{
+    let mut places = vec![in alloc; Frame { left: 0, right: 0 }; turns.places as usize]?;
+    let rolled = play_calls(hand, &mut places, turns.calls, bytes)?;
+    Ok(rolled_line(alloc, &rolled)?)
+}
+
+/// What is made of a buffer in hand: what is heard of all calls, and its line.
+fn output_in(alloc: Global, hand: &mut InHand, turns: Turns) -> Result<Output, Memory>
+    requires { AreTurns turns }
+    ensures bytes { IfOk result (λ output. output.bytes.items ≡ pcm_bytes (heard_in hand.old turns)) }
+    ensures line { IfOk result (λ output. string_bytes output.line ≡ rolls_text (rolls_from hand.old turns)) }
+{
+    let mut bytes = Vec::with_capacity(alloc, 4 * turns.places as usize * turns.calls as usize)?;
+    let line = play_all(alloc, hand, turns, &mut bytes)?;
+    Ok(Output { bytes, line })
+}
+
 /// What is made of frames: what is heard of them, and its line.
 fn output_of(alloc: Global, frames: &[Frame], turns: Turns) -> Result<Output, Memory>
     requires frames { (1 ≤ length frames.now) × (length frames.now ≤ 8192) }
@@ -123,13 +150,9 @@ fn output_of(alloc: Global, frames: &[Frame], turns: Turns) -> Result<Output, Me
     ensures line { IfOk result (λ output. string_bytes output.line ≡ rolls_text (rolls_of turns frames.now)) }
 {
     let mut hand = set_once(alloc, frames, turns)?;
-    let mut places = vec![in alloc; Frame { left: 0, right: 0 }; turns.places as usize]?;
-    let mut bytes = Vec::with_capacity(alloc, 4 * turns.places as usize * turns.calls as usize)?;
-    let rolled = play_calls(&mut hand, &mut places, turns.calls, &mut bytes)?;
-    Ok(Output {
-        line: rolled_line(alloc, &rolled)?,
-        bytes,
-    })
+    let output = output_in(alloc, &mut hand, turns);
+    drop(hand);
+    output
 }
 
 /// The frames of a stereo file that has some.
