@@ -1,5 +1,5 @@
 -- Steps and lists that are read one by one, up to the first refusal.
-use Rattle.std.proofs.Common.{◌≡◌, List, [], ◌∷◌, ◌++◌, Result, Ok, Err, refl, ap, sym, append_assoc}
+use Rattle.std.proofs.Common.{◌≡◌, List, [], ◌∷◌, ◌++◌, Result, Ok, Err, IsErrAnd, refl, ap, sym, subst, append_assoc}
 use Rattle.af_player.specs.declared.status.Refusal.{Refusal}
 use Rattle.af_player.specs.declared.status.Stop.{Stop}
 use Rattle.af_player.specs.declared.status.Stop.TheVariants.{Refused, Over, Store, Memory}
@@ -25,3 +25,13 @@ Meets-stopped {X} {Y} view other (Refused refusal) told next is = ap (λ (r : Re
 Meets-stopped view other (Over over) told next is = absurd is
 Meets-stopped view other Store told next is = tt
 Meets-stopped view other Memory told next is = tt
+
+-- memory ran out
+pub Meets-memory : {X Y : Type 0} (view : X → Y) (r : Result X Stop) (told : Result Y Refusal) → IsErrAnd r (λ s. s ≡ Memory) → Meets view r told
+Meets-memory view (Ok x) told is = absurd is
+Meets-memory view (Err stop) told is = subst (λ (s : Stop). Meets view (Err s) told) (sym is) tt
+
+-- what is so of a stop is so of the answer that passes it on
+pub passed_on : {X : Type 0} (P : Result X Stop → Type 0) (r : Result X Stop) (e : Stop) → P (Err e) → IsErrAnd r (λ s. s ≡ e) → P r
+passed_on P (Ok x) e p is = absurd is
+passed_on {X} P (Err stop) e p is = subst (λ (s : Stop). P (Err s)) (sym is) p

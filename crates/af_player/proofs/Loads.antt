@@ -1,7 +1,7 @@
 -- The files of tracks, one after the other.
-use Rattle.std.proofs.Common.{◌≡◌, ℕ, zero, suc, ◌+◌, ◌*◌, ◌/◌, ◌<◌, ◌≤◌, nat_le, Bool, true, false, List, [], ◌∷◌, ◌++◌, Result, Ok, Err, length, take, drop, get_or, refl, sym, ap, subst, ◌∙◌, arith}
-use Rattle.std.proofs.lemmas.Bool.{leb-true, leb-false}
-use Rattle.std.proofs.lemmas.List.{take_more, take_all, drop_more}
+use Rattle.std.proofs.Common.{◌≡◌, ℕ, zero, suc, ◌+◌, ◌*◌, ◌/◌, ◌<◌, ◌≤◌, nat_le, Bool, true, false, if◌then◌else◌, List, [], ◌∷◌, ◌++◌, Result, Ok, Err, IsErrAnd, IsErrOf, length, take, drop, get_or, append-nil, refl, sym, ap, subst, ◌∙◌, arith}
+use Rattle.std.proofs.lemmas.Bool.{leb-true, leb-false, le-leb}
+use Rattle.std.proofs.lemmas.List.{take_more, take_all, drop_all, drop_more}
 use Rattle.af_base.specs.declared.frame.Frame.{Frame}
 use Rattle.af_io.specs.Files.{Files}
 use Rattle.af_io.specs.Pcm.{frame_width}
@@ -11,12 +11,17 @@ use Rattle.af_script.specs.declared.track.TrackSpec.{TrackSpec}
 use Rattle.af_session.specs.Rendered.{HaveFiles, IsFileFor}
 use Rattle.af_session.specs.Rounds.{file_at, ops_at}
 use Rattle.af_party.specs.Works.{frames_to_come}
+use Rattle.af_player.specs.declared.load.TrackFile.{TrackFile}
 use Rattle.af_player.specs.declared.status.Refusal.{Refusal}
-use Rattle.af_player.specs.Asked.{◌>>=◌, then_cons, track_in, tracks_in}
+use Rattle.af_player.specs.declared.status.Refusal.TheVariants.{File}
+use Rattle.af_player.specs.declared.status.Role.TheVariants as role
+use Rattle.af_player.specs.declared.status.Why.TheVariants.{Total}
+use Rattle.af_player.specs.Asked.{◌>>=◌, counted, enough_of, frames_in, loaded, most_file, most_files, then_cons, track_in, tracks_in}
 use Rattle.af_player.specs.declared.status.Stop.{Stop}
-use Rattle.af_player.specs.declared.status.Stop.TheVariants.{Store}
-use Rattle.af_player.specs.Status.{HasFault}
-use Rattle.af_player.proofs.Chains.{behind, behind-more}
+use Rattle.af_player.specs.declared.status.Stop.TheVariants.{Store, Memory}
+use Rattle.af_player.specs.Loading.{file_view}
+use Rattle.af_player.specs.Status.{HasFault, Meets}
+use Rattle.af_player.proofs.Chains.{Meets-stopped, behind, behind-more}
 
 -- ## Frames that are asked for
 
@@ -100,6 +105,100 @@ faults_stay {X} x before now cause = go (nat_le now before) refl
     go : (b : Bool) → nat_le now before ≡ b → now ≡ before
     go true is = let le : now ≤ before = leb-true now before is in let later = cause.later in omega (arith, le, later)
     go false is = let clash : ◌≡◌ {A = Result X Stop} (Ok x) (Err Store) = cause.only (leb-false now before is) in cc
+
+-- a stop is passed on, behind steps in which no fault came
+pub fault_passed : {X Y : Type 0} (e : Stop) (first before now : ℕ) → before ≡ first → HasFault {X = X} before now (Err e) → HasFault {X = Y} first now (Err e)
+fault_passed {X} {Y} e first before now same cause =
+    let other : IsErrOf {T = X} {E = Stop} (Err e) Store → IsErrOf {T = Y} {E = Stop} (Err e) Store = λ h. (let is : e ≡ Store = cc in ap (λ (s : Stop). Err s) is) in
+    let back : IsErrOf {T = Y} {E = Stop} (Err e) Store → IsErrOf {T = X} {E = Stop} (Err e) Store = λ h. (let is : e ≡ Store = cc in ap (λ (s : Stop). Err s) is) in
+    let here : HasFault {X = Y} before now (Err e) = record { later = cause.later; fault = (λ h. cause.fault (back h)); only = (λ lt. other (cause.only lt)) } in
+    subst (λ (n : ℕ). HasFault {X = Y} n now (Err e)) same here
+
+ok_no_store : {X : Type 0} (x : X) → IsErrOf {T = X} {E = Stop} (Ok x) Store → ⊥
+ok_no_store {X} x h = let e : ⊥ = cc in e
+
+memory_no_store : {X : Type 0} → IsErrOf {T = X} {E = Stop} (Err Memory) Store → ⊥
+memory_no_store {X} h = let e : ⊥ = cc in e
+
+-- no fault
+pub faultless_ok : {X : Type 0} (x : X) (before now : ℕ) → now ≡ before → HasFault before now (Ok x)
+faultless_ok {X} x before now same = record { later = omega (arith, same); fault = (λ h. absurd (ok_no_store x h)); only = (λ lt. absurd (omega (arith, lt, same))) }
+
+pub faultless_memory : {X : Type 0} (r : Result X Stop) (before now : ℕ) → now ≡ before → IsErrAnd r (λ s. s ≡ Memory) → HasFault before now r
+faultless_memory (Ok x) before now same is = absurd is
+faultless_memory {X} (Err s) before now same is =
+    let here : HasFault {X = X} before now (Err Memory) = record { later = omega (arith, same); fault = (λ h. absurd (memory_no_store {X = X} h)); only = (λ lt. absurd (omega (arith, lt, same))) } in
+    subst (λ (stop : Stop). HasFault {X = X} before now (Err stop)) (sym is) here
+
+-- the files stopped at a track
+pub tracks_stopped : {W : Type 0} (other : W → List (List Frame)) (files : Files) (number total : ℕ) (tracks : List TrackSpec) (track : TrackSpec) (before : List (List Frame)) (e : Stop) → number < length tracks → track ≡ get_or tracks number track
+    → Meets file_view (Err e) (track_in files number total track) → Meets other (Err e) (behind before (tracks_in files number total (drop number tracks)))
+tracks_stopped other files number total tracks track before e lt is told =
+    let rest : List TrackSpec = drop (number + 1) tracks in
+    let first : drop number tracks ≡ track ∷ rest = drop_more tracks number track lt ∙ ap (λ (t : TrackSpec). t ∷ rest) (sym is) in
+    let here : Meets other (Err e) (tracks_in files number total (track ∷ rest)) = Meets-stopped file_view other e (track_in files number total track) (λ one. then_cons one.0 (tracks_in files (number + 1) one.1 rest)) told in
+    subst (λ (ts : List TrackSpec). Meets other (Err e) (behind before (tracks_in files number total ts))) (sym first) (Meets-stopped other other e (tracks_in files number total (track ∷ rest)) (λ ys. Ok (before ++ ys)) here)
+
+-- all are loaded
+pub tracks_done : (files : Files) (number total : ℕ) (tracks : List TrackSpec) (before : List (List Frame)) → length tracks ≤ number → tracks_in files 0 0 tracks ≡ behind before (tracks_in files number total (drop number tracks)) → tracks_in files 0 0 tracks ≡ Ok before
+tracks_done files number total tracks before le told =
+    told ∙ ap (λ (ts : List TrackSpec). behind before (tracks_in files number total ts)) (drop_all number tracks le) ∙ ap Ok (append-nil before)
+
+-- ## What is told of one
+
+-- what follows the bytes of a track's file
+abbrev framed : ℕ → ℕ → TrackSpec → List ℕ → Result (List Frame × ℕ) Refusal
+framed number total track bytes = frames_in number track.mono bytes >>= enough_of number (frames_to_come track.ops) >>= (λ frames. Ok (frames, total + length bytes))
+
+module _ (files : Files) (number total : ℕ) (track : TrackSpec) where
+  -- its file stopped
+  pub track_unloaded : {X : Type 0} (view : X → List ℕ) (e : Stop) → Meets view (Err e) (loaded (role.Track number) most_file (files track.file)) → Meets file_view (Err e) (track_in files number total track)
+  track_unloaded view e told =
+      Meets-stopped view file_view e (loaded (role.Track number) most_file (files track.file) >>= counted number total) (framed number total track)
+      (Meets-stopped view view e (loaded (role.Track number) most_file (files track.file)) (counted number total) told)
+
+  module _ (bytes : List ℕ) (is : loaded (role.Track number) most_file (files track.file) ≡ Ok bytes) where
+    abbrev by_test : Bool → Result (List Frame × ℕ) Refusal
+    by_test few = (if few then Ok bytes else Err (File (record { role = role.Track number; why = Total (total + length bytes) }))) >>= framed number total track
+
+    here : track_in files number total track ≡ by_test (nat_le (total + length bytes) most_files)
+    here = ap (λ (r : Result (List ℕ) Refusal). r >>= counted number total >>= framed number total track) is
+
+    -- the files are too many bytes
+    pub track_total : most_files < total + length bytes → track_in files number total track ≡ Err (File (record { role = role.Track number; why = Total (total + length bytes) }))
+    track_total lt = here ∙ ap by_test (lt-leb most_files (total + length bytes) lt)
+      where
+        lt-leb : (a b : ℕ) → a < b → nat_le b a ≡ false
+        lt-leb a b lt = go (nat_le b a) refl
+          where
+            go : (v : Bool) → nat_le b a ≡ v → nat_le b a ≡ false
+            go true le = let none : b ≤ a = leb-true b a le in absurd (omega (arith, none, lt))
+            go false le = le
+
+    module _ (few : total + length bytes ≤ most_files) where
+      kept : track_in files number total track ≡ framed number total track bytes
+      kept = here ∙ ap by_test (le-leb (total + length bytes) most_files few)
+
+      -- its frames stopped
+      pub track_unframed : (e : Stop) → Meets {X = List Frame} (λ pcm. pcm) (Err e) (frames_in number track.mono bytes) → Meets file_view (Err e) (track_in files number total track)
+      track_unframed e told =
+          subst (λ (r : Result (List Frame × ℕ) Refusal). Meets file_view (Err e) r) (sym kept)
+          (Meets-stopped {X = List Frame} (λ (pcm : List Frame). pcm) file_view e (frames_in number track.mono bytes >>= enough_of number (frames_to_come track.ops)) (λ frames. Ok (frames, total + length bytes))
+          (Meets-stopped {X = List Frame} (λ (pcm : List Frame). pcm) (λ (pcm : List Frame). pcm) e (frames_in number track.mono bytes) (enough_of number (frames_to_come track.ops)) told))
+
+      module _ (frames : List Frame) (framed_is : frames_in number track.mono bytes ≡ Ok frames) where
+        in_frames : track_in files number total track ≡ (enough_of number (frames_to_come track.ops) frames >>= (λ all. Ok (all, total + length bytes)))
+        in_frames = kept ∙ ap (λ (r : Result (List Frame) Refusal). r >>= enough_of number (frames_to_come track.ops) >>= (λ all. Ok (all, total + length bytes))) framed_is
+
+        -- they are too few
+        pub track_short : (e : Stop) → Meets {X = List Frame} (λ pcm. pcm) (Err e) (enough_of number (frames_to_come track.ops) frames) → Meets file_view (Err e) (track_in files number total track)
+        track_short e told =
+            subst (λ (r : Result (List Frame × ℕ) Refusal). Meets file_view (Err e) r) (sym in_frames)
+            (Meets-stopped {X = List Frame} (λ (pcm : List Frame). pcm) file_view e (enough_of number (frames_to_come track.ops) frames) (λ all. Ok (all, total + length bytes)) told)
+
+        -- they are enough
+        pub track_done : (all : List Frame) → enough_of number (frames_to_come track.ops) frames ≡ Ok all → track_in files number total track ≡ Ok (all, total + length bytes)
+        track_done all is_all = in_frames ∙ ap (λ (r : Result (List Frame) Refusal). r >>= (λ some. Ok (some, total + length bytes))) is_all
 
 -- ## Few frames
 
