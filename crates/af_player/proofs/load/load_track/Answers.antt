@@ -22,7 +22,7 @@ returns-in_err-bytes-clause-file g c = λ told.
     let track = c.args.track.now in
     let e = c.in_err-bytes.field-0.0 in
     let here : Meets (λ (bytes : Vec ℕ Global). bytes.items) (Err e) (loaded (role.Track number) most_file (files track.file)) =
-    subst (λ (name : List ℕ). Meets (λ (bytes : Vec ℕ Global). bytes.items) (Err e) (loaded (role.Track number) most_file (files name))) c.as_str-name.ensures.value (c.in_err-bytes.ensures.loaded told) in
+    subst (λ (name : List ℕ). Meets (λ (bytes : Vec ℕ Global). bytes.items) (Err e) (loaded (role.Track number) most_file (files name))) c.as_str-name.ensures.text (c.in_err-bytes.ensures.loaded told) in
     passed_on (λ r. Meets file_view r (track_in files number c.args.total track)) c.from_residual.result e (track_unloaded files number c.args.total track (λ (bytes : Vec ℕ Global). bytes.items) e here) c.from_residual.ensures.1
 
 pub returns-then-total-gt-MOST_FILES-clause-file : goal.returns-then-total-gt-MOST_FILES-clause-file
@@ -32,8 +32,8 @@ returns-then-total-gt-MOST_FILES-clause-file g c = λ told.
     let total = c.args.total in
     let track = c.args.track.now in
     let bytes = c.in_ok-bytes.bytes.items in
-    let is : loaded (role.Track number) most_file (files track.file) ≡ Ok bytes = subst (λ (name : List ℕ). loaded (role.Track number) most_file (files name) ≡ Ok bytes) c.as_str-name.ensures.value (c.in_ok-bytes.ensures.loaded told) in
-    let size : c.len.result ≡ length bytes = c.len.ensures in
+    let is : loaded (role.Track number) most_file (files track.file) ≡ Ok bytes = subst (λ (name : List ℕ). loaded (role.Track number) most_file (files name) ≡ Ok bytes) c.as_str-name.ensures.text (c.in_ok-bytes.ensures.loaded told) in
+    let size : c.len.result ≡ length bytes = omega (arith, c.len.ensures, c.in_ok-bytes.bytes.ok.0) in
     let over : most_files < total + length bytes = omega (arith, c.if-total-gt-MOST_FILES.true, size) in
     let why : track_in files number total track ≡ Err (File (record { role = role.Track number; why = Total (total + c.len.result) })) =
     track_total files number total track bytes is over ∙ ap (λ (n : ℕ). Err (File (record { role = role.Track number; why = Total (total + n) }))) (sym size) in
@@ -47,8 +47,8 @@ returns-in_err-pcm-clause-file g c = λ told.
     let track = c.args.track.now in
     let bytes = c.in_ok-bytes.bytes.items in
     let e = c.in_err-pcm.field-0.0 in
-    let is : loaded (role.Track number) most_file (files track.file) ≡ Ok bytes = subst (λ (name : List ℕ). loaded (role.Track number) most_file (files name) ≡ Ok bytes) c.as_str-name.ensures.value (c.in_ok-bytes.ensures.loaded told) in
-    let size : c.len.result ≡ length bytes = c.len.ensures in
+    let is : loaded (role.Track number) most_file (files track.file) ≡ Ok bytes = subst (λ (name : List ℕ). loaded (role.Track number) most_file (files name) ≡ Ok bytes) c.as_str-name.ensures.text (c.in_ok-bytes.ensures.loaded told) in
+    let size : c.len.result ≡ length bytes = omega (arith, c.len.ensures, c.in_ok-bytes.bytes.ok.0) in
     let few : total + length bytes ≤ most_files = omega (arith, c.if-total-gt-MOST_FILES.false, size) in
     let here : Meets (λ (pcm : List Frame). pcm) (Err e) (frames_in number track.mono bytes) =
     subst (λ (xs : List ℕ). Meets (λ (pcm : List Frame). pcm) (Err e) (frames_in number track.mono xs)) c.deref.ensures.value c.in_err-pcm.ensures.frames in
@@ -62,13 +62,13 @@ returns-in_err-pcm-2-clause-file g c = λ told.
     let track = c.args.track.now in
     let bytes = c.in_ok-bytes.bytes.items in
     let e = c.in_err-pcm-2.field-0.0 in
-    let is : loaded (role.Track number) most_file (files track.file) ≡ Ok bytes = subst (λ (name : List ℕ). loaded (role.Track number) most_file (files name) ≡ Ok bytes) c.as_str-name.ensures.value (c.in_ok-bytes.ensures.loaded told) in
-    let size : c.len.result ≡ length bytes = c.len.ensures in
+    let is : loaded (role.Track number) most_file (files track.file) ≡ Ok bytes = subst (λ (name : List ℕ). loaded (role.Track number) most_file (files name) ≡ Ok bytes) c.as_str-name.ensures.text (c.in_ok-bytes.ensures.loaded told) in
+    let size : c.len.result ≡ length bytes = omega (arith, c.len.ensures, c.in_ok-bytes.bytes.ok.0) in
     let few : total + length bytes ≤ most_files = omega (arith, c.if-total-gt-MOST_FILES.false, size) in
     let pcm = c.in_ok-pcm.pcm in
     let frames : frames_in number track.mono bytes ≡ Ok pcm = subst (λ (xs : List ℕ). frames_in number track.mono xs ≡ Ok pcm) c.deref.ensures.value c.in_ok-pcm.ensures.frames in
     let here : Meets (λ (all : List Frame). all) (Err e) (enough_of number (frames_to_come track.ops) pcm) =
-    subst (λ (ops : List Op). Meets (λ (all : List Frame). all) (Err e) (enough_of number (frames_to_come ops) pcm)) c.as_slice.ensures.value c.in_err-pcm-2.ensures.enough in
+    subst (λ (ops : List Op). Meets (λ (all : List Frame). all) (Err e) (enough_of number (frames_to_come ops) pcm)) c.as_slice.ensures.ops c.in_err-pcm-2.ensures.enough in
     passed_on (λ r. Meets file_view r (track_in files number total track)) c.from_residual-in_err-pcm-2.result e (track_short files number total track bytes is few pcm frames e here) c.from_residual-in_err-pcm-2.ensures.1
 
 pub returns-clause-file : goal.returns-clause-file
@@ -78,11 +78,11 @@ returns-clause-file g c = λ told.
     let total = c.args.total in
     let track = c.args.track.now in
     let bytes = c.in_ok-bytes.bytes.items in
-    let is : loaded (role.Track number) most_file (files track.file) ≡ Ok bytes = subst (λ (name : List ℕ). loaded (role.Track number) most_file (files name) ≡ Ok bytes) c.as_str-name.ensures.value (c.in_ok-bytes.ensures.loaded told) in
-    let size : c.len.result ≡ length bytes = c.len.ensures in
+    let is : loaded (role.Track number) most_file (files track.file) ≡ Ok bytes = subst (λ (name : List ℕ). loaded (role.Track number) most_file (files name) ≡ Ok bytes) c.as_str-name.ensures.text (c.in_ok-bytes.ensures.loaded told) in
+    let size : c.len.result ≡ length bytes = omega (arith, c.len.ensures, c.in_ok-bytes.bytes.ok.0) in
     let few : total + length bytes ≤ most_files = omega (arith, c.if-total-gt-MOST_FILES.false, size) in
     let pcm = c.in_ok-pcm.pcm in
     let all = c.in_ok-pcm-2.pcm in
     let frames : frames_in number track.mono bytes ≡ Ok pcm = subst (λ (xs : List ℕ). frames_in number track.mono xs ≡ Ok pcm) c.deref.ensures.value c.in_ok-pcm.ensures.frames in
-    let here : enough_of number (frames_to_come track.ops) pcm ≡ Ok all = subst (λ (ops : List Op). enough_of number (frames_to_come ops) pcm ≡ Ok all) c.as_slice.ensures.value c.in_ok-pcm-2.ensures.enough in
+    let here : enough_of number (frames_to_come track.ops) pcm ≡ Ok all = subst (λ (ops : List Op). enough_of number (frames_to_come ops) pcm ≡ Ok all) c.as_slice.ensures.ops c.in_ok-pcm-2.ensures.enough in
     track_done files number total track bytes is few pcm frames all here ∙ ap (λ (n : ℕ). Ok (all, total + n)) (sym size)
