@@ -101,23 +101,23 @@ module _ (l : Loaded) (room : ℕ) (target name log : List ℕ) (old mid new : F
         → IfErr played (AtFault (LeavesRun l.script l.files target old mid))
         → IfOk played (λ p. HasLog l room p.journal grown empty)
         → Tells cycles played result → TellsTexts name log held played result mid new → Makes result (Ok (trace_job target name log room l)) old new
-    Makes-logged (Ok p) (Ok line) keeps set cut left logged told (next, text, wrote) =
+    Makes-logged (Ok p) (Ok line) keeps set cut left logged line_is (next, text, wrote) =
         Makes-traced l room p.journal p.ends keeps.played (promises l p keeps) logged.0 logged.1 logged.2 target name log old mid next set text p.summary keeps.summary new
-        (subst (λ (xs : List ℕ). SetsFile next log (Some xs) new) (appended held grown empty (log_text logged.0 logged.1) held_is logged.3 none) wrote) line told
+        (subst (λ (xs : List ℕ). SetsFile next log (Some xs) new) (appended held grown empty (log_text logged.0 logged.1) held_is logged.3 none) wrote) line line_is
     Makes-logged (Ok p) (Err (Refused refusal)) keeps set cut left logged wrong texts = absurd wrong
     Makes-logged (Ok p) (Err (Over over)) keeps set cut left logged wrong texts = absurd wrong
-    Makes-logged (Ok p) (Err Store) keeps set cut left logged told texts =
+    Makes-logged (Ok p) (Err Store) keeps set cut left logged stopped texts =
         inl (inr (trace_left p keeps set logged.0 logged.1 logged.2 held (appended held grown empty (log_text logged.0 logged.1) held_is logged.3 none) texts))
-    Makes-logged (Ok p) (Err Memory) keeps set cut left logged told texts =
+    Makes-logged (Ok p) (Err Memory) keeps set cut left logged stopped texts =
         inl (inr (trace_left p keeps set logged.0 logged.1 logged.2 held (appended held grown empty (log_text logged.0 logged.1) held_is logged.3 none) texts))
     Makes-logged (Err (fault.CycleLimit journal ends)) (Ok line) keeps set cut left logged wrong text = absurd wrong
     Makes-logged (Err (fault.CycleLimit journal ends)) (Err (Refused refusal)) keeps set cut left logged wrong text = absurd wrong
     Makes-logged (Err (fault.CycleLimit journal ends)) (Err (Over over)) keeps set cut left logged is text =
         subst (λ (o : Ending). Makes (Err (Over o)) (Ok (trace_job target name log room l)) old new) (sym is)
         (Makes-cut_log l room journal ends keeps.limit (cut_short l journal ends keeps) target name log old mid new cut text cycles cycles_are)
-    Makes-logged (Err (fault.CycleLimit journal ends)) (Err Store) keeps set cut left logged told text =
+    Makes-logged (Err (fault.CycleLimit journal ends)) (Err Store) keeps set cut left logged stopped text =
         inl (inr (inl (inr (text_left false l journal ends keeps.limit (cut_short l journal ends keeps) target name old mid cut new text))))
-    Makes-logged (Err (fault.CycleLimit journal ends)) (Err Memory) keeps set cut left logged told text =
+    Makes-logged (Err (fault.CycleLimit journal ends)) (Err Memory) keeps set cut left logged stopped text =
         inl (inr (inl (inr (text_left false l journal ends keeps.limit (cut_short l journal ends keeps) target name old mid cut new text))))
     Makes-logged (Err fault.Store) result keeps set cut left logged is same =
         subst (λ (r : Result (String Global) Stop). Makes r (Ok (trace_job target name log room l)) old new) (sym is) (inl (inr (inl (inl (LeavesRun-stays l target old mid new left same)))))

@@ -1,4 +1,4 @@
-use Rattle.std.proofs.Common.{◌≡◌, ◌∙◌, ◌+◌, ◌≤◌, ◌<◌, ℕ, List, Ok, Err, Result, Vec, Global, length, arith, ap, subst, sym}
+use Rattle.std.proofs.Common.{◌≡◌, ◌∙◌, ◌+◌, ◌≤◌, ◌<◌, ℕ, List, Ok, Err, Vec, Global, length, arith, ap, subst, sym}
 use Rattle.af_base.specs.declared.frame.Frame.{Frame}
 use Rattle.af_script.specs.declared.op.Op.{Op}
 use Rattle.af_party.specs.Works.{frames_to_come}
@@ -6,7 +6,6 @@ use Rattle.af_player.specs.Asked.{enough_of, frames_in, loaded, most_file, most_
 use Rattle.af_player.specs.Loading.{file_view}
 use Rattle.af_player.specs.Status.{Meets}
 use Rattle.af_player.specs.declared.load.TrackFile.{TrackFile}
-use Rattle.af_player.specs.declared.status.Refusal.{Refusal}
 use Rattle.af_player.specs.declared.status.Refusal.TheVariants.{File}
 use Rattle.af_player.specs.declared.status.Role.TheVariants as role
 use Rattle.af_player.specs.declared.status.Stop.{Stop}
