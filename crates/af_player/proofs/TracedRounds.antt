@@ -35,7 +35,7 @@ use Rattle.af_player.proofs.PlayedRounds.{LeavesRun-stays, cut_short, line_told,
 appended : (held new empty more : List ℕ) → held ≡ new → new ≡ empty ++ more → empty ≡ [] → held ≡ more
 appended held new empty more is grown none = is ∙ grown ∙ ap (λ (xs : List ℕ). xs ++ more) none
 
-module _ (l : Loaded) (room : ℕ) (journal : JournalData) (ends : EndsState) (back : HandsBackRun true l.script l.files journal ends) (legal : IsLegalJournal true l.script l.files journal) (notes : List Note) (refused : ℕ) (log_of : IsLogOf l.script.frames room journal notes refused) where
+module _ (l : Loaded) (room : ℕ) (journal : JournalData) (ends : EndsState) (back : HandsBackRun true l.script l.files journal ends) (legal : IsLegalJournal true l.script l.files journal) (notes : List Note) (refused : ℕ) (log_of : IsLogOf l.script.frames room journal notes refused) (kept : 32 ≤ room → refused ≡ 0) where
   abbrev bytes : List ℕ
   bytes = journal_pcm l.script.frames journal
 
@@ -43,7 +43,7 @@ module _ (l : Loaded) (room : ℕ) (journal : JournalData) (ends : EndsState) (b
   told = log_text notes refused
 
   is_trace : (line : List ℕ) → line ≡ run_line true l.script journal ends → IsTrace l.script l.files room bytes (text_of journal) told line
-  is_trace line is = record { play = record { journal = journal; ends = ends; run = back; legal = legal; bytes_are = refl; text_is = refl; line_is = is }; notes = notes; refused = refused; log_of = log_of; log_is = refl }
+  is_trace line is = record { play = record { journal = journal; ends = ends; run = back; legal = legal; bytes_are = refl; text_is = refl; line_is = is }; notes = notes; refused = refused; log_of = log_of; log_is = refl; all_kept = kept }
 
   module _ (target name log : List ℕ) (old mid next : Files) (set : SetsFile old target (Some bytes) mid) (text : SetsFile mid name (Some (text_of journal)) next) where
     both : with_files old (record { name = target; bytes = bytes } ∷ record { name = name; bytes = text_of journal } ∷ []) ≡ next
@@ -86,12 +86,12 @@ HasLog l room journal grown empty = (notes : List Note) × (refused : ℕ) × Is
 
 module _ (l : Loaded) (room : ℕ) (target name log : List ℕ) (old mid new : Files) where
   -- the journal is not whole, or the log
-  trace_left : (p : Played) → KeepsPlay l.script l.files (Ok p) → SetsFile old target (Some (journal_pcm l.script.frames p.journal)) mid → (notes : List Note) (refused : ℕ) → IsLogOf l.script.frames room p.journal notes refused → (held : List ℕ) → held ≡ log_text notes refused
+  trace_left : (p : Played) → KeepsPlay l.script l.files (Ok p) → SetsFile old target (Some (journal_pcm l.script.frames p.journal)) mid → (notes : List Note) (refused : ℕ) → IsLogOf l.script.frames room p.journal notes refused → (32 ≤ room → refused ≡ 0) → (held : List ℕ) → held ≡ log_text notes refused
       → LeavesFront mid name (text_of p.journal) new ⊎ ((next : Files) × SetsFile mid name (Some (text_of p.journal)) next × LeavesFront next log held new)
       → LeavesTrace l.script l.files room target name log old new
-  trace_left p keeps set notes refused log_of held is (inl left) = inl (inr (text_left true l p.journal p.ends keeps.played (promises l p keeps) target name old mid set new left))
-  trace_left p keeps set notes refused log_of held is (inr (next, text, left)) =
-      inr (log_left l room p.journal p.ends keeps.played (promises l p keeps) notes refused log_of target name log old mid next set text new
+  trace_left p keeps set notes refused log_of kept held is (inl left) = inl (inr (text_left true l p.journal p.ends keeps.played (promises l p keeps) target name old mid set new left))
+  trace_left p keeps set notes refused log_of kept held is (inr (next, text, left)) =
+      inr (log_left l room p.journal p.ends keeps.played (promises l p keeps) notes refused log_of kept target name log old mid next set text new
       (subst (λ (xs : List ℕ). LeavesFront next log xs new) is left))
 
   module _ (held grown empty : List ℕ) (held_is : held ≡ grown) (none : empty ≡ []) (cycles : ℕ) (cycles_are : cycles ≡ l.script.cycles) where
@@ -102,14 +102,14 @@ module _ (l : Loaded) (room : ℕ) (target name log : List ℕ) (old mid new : F
         → IfOk played (λ p. HasLog l room p.journal grown empty)
         → Tells cycles played result → TellsTexts name log held played result mid new → Makes result (Ok (trace_job target name log room l)) old new
     Makes-logged (Ok p) (Ok line) keeps set cut left logged line_is (next, text, wrote) =
-        Makes-traced l room p.journal p.ends keeps.played (promises l p keeps) logged.0 logged.1 logged.2 target name log old mid next set text p.summary keeps.summary new
+        Makes-traced l room p.journal p.ends keeps.played (promises l p keeps) logged.0 logged.1 logged.2 logged.4 target name log old mid next set text p.summary keeps.summary new
         (subst (λ (xs : List ℕ). SetsFile next log (Some xs) new) (appended held grown empty (log_text logged.0 logged.1) held_is logged.3 none) wrote) line line_is
     Makes-logged (Ok p) (Err (Refused refusal)) keeps set cut left logged wrong texts = absurd wrong
     Makes-logged (Ok p) (Err (Over over)) keeps set cut left logged wrong texts = absurd wrong
     Makes-logged (Ok p) (Err Store) keeps set cut left logged stopped texts =
-        inl (inr (trace_left p keeps set logged.0 logged.1 logged.2 held (appended held grown empty (log_text logged.0 logged.1) held_is logged.3 none) texts))
+        inl (inr (trace_left p keeps set logged.0 logged.1 logged.2 logged.4 held (appended held grown empty (log_text logged.0 logged.1) held_is logged.3 none) texts))
     Makes-logged (Ok p) (Err Memory) keeps set cut left logged stopped texts =
-        inl (inr (trace_left p keeps set logged.0 logged.1 logged.2 held (appended held grown empty (log_text logged.0 logged.1) held_is logged.3 none) texts))
+        inl (inr (trace_left p keeps set logged.0 logged.1 logged.2 logged.4 held (appended held grown empty (log_text logged.0 logged.1) held_is logged.3 none) texts))
     Makes-logged (Err (fault.CycleLimit journal ends)) (Ok line) keeps set cut left logged wrong text = absurd wrong
     Makes-logged (Err (fault.CycleLimit journal ends)) (Err (Refused refusal)) keeps set cut left logged wrong text = absurd wrong
     Makes-logged (Err (fault.CycleLimit journal ends)) (Err (Over over)) keeps set cut left logged is text =

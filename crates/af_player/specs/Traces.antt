@@ -1,5 +1,5 @@
 -- What the rounds of all parties come to with a log: the sound, the texts of the journal and of the log, and the line; and what such a play leaves where it stops.
-use Rattle.std.specs.Prelude.{◌≡◌, ◌⊎◌, ℕ, true, List, [], ◌∷◌}
+use Rattle.std.specs.Prelude.{◌≡◌, ◌⊎◌, ℕ, ◌≤◌, true, List, [], ◌∷◌}
 use Rattle.af_base.specs.declared.frame.Frame.{Frame}
 use Rattle.af_io.specs.Files.{Files, LeavesFront}
 use Rattle.af_io.specs.Outputs.{SetsFiles, with_files}
@@ -9,13 +9,14 @@ use Rattle.af_script.specs.Data.{ScriptData}
 use Rattle.af_session.specs.Logging.{IsLogOf}
 use Rattle.af_player.specs.Plays.{IsPlay, LeavesPlay}
 
--- the bytes, the journal's text and the line are of one run in which all parties have ended, and the log's text is that of a log of the same journal
+-- the bytes, the journal's text and the line are of one run in which all parties have ended, and the log's text is that of a log of the same journal; with room for 32 notes none was refused
 pub record IsTrace (script : ScriptData) (files : List (List Frame)) (room : ℕ) (bytes text log line : List ℕ) : Type 0 where
   pub play : IsPlay true script files bytes text line
   pub notes : List Note
   pub refused : ℕ
   pub log_of : IsLogOf script.frames room play.journal notes refused
   pub log_is : log ≡ log_text notes refused
+  pub all_kept : 32 ≤ room → refused ≡ 0
 
 -- the three files hold what is of one run with this line, and no other file has changed
 abbrev pub IsTraced : ScriptData → List (List Frame) → ℕ → List ℕ → List ℕ → List ℕ → List ℕ → Files → Files → Type 0
