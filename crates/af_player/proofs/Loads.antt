@@ -11,7 +11,6 @@ use Rattle.af_script.specs.declared.track.TrackSpec.{TrackSpec}
 use Rattle.af_session.specs.Rendered.{HaveFiles, IsFileFor}
 use Rattle.af_session.specs.Rounds.{file_at, ops_at}
 use Rattle.af_party.specs.Works.{frames_to_come}
-use Rattle.af_player.specs.declared.load.TrackFile.{TrackFile}
 use Rattle.af_player.specs.declared.status.Refusal.{Refusal}
 use Rattle.af_player.specs.declared.status.Refusal.TheVariants.{File}
 use Rattle.af_player.specs.declared.status.Role.TheVariants as role

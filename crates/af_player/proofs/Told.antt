@@ -1,5 +1,5 @@
 -- The files of a play that is told.
-use Rattle.std.proofs.Common.{◌≡◌, ℕ, List, Some, Ok, Err, Result, String, inl, inr, subst, sym}
+use Rattle.std.proofs.Common.{ℕ, List, Some, Ok, Err, Result, String, inl, inr, subst, sym}
 use Rattle.std.specs.declared.alloc.Global.{Global}
 use Rattle.af_io.specs.Files.{Files, SetsFile, LeavesFront}
 use Rattle.af_io.specs.declared.store.StoreError.{StoreError}

@@ -1,5 +1,5 @@
 -- A static buffer that is looped under one setting: calls of so many places, one after the other, at unity.
-use Rattle.std.specs.Prelude.{ℕ, zero, suc, ◌+◌, ◌^◌, ◌≤◌, Bool, List, [], ◌++◌, length, is_some, if◌then◌else◌}
+use Rattle.std.specs.Prelude.{ℕ, zero, suc, ◌+◌, ◌^◌, Bool, List, [], ◌++◌, length, is_some, if◌then◌else◌}
 use Rattle.af_base.specs.declared.frame.Frame.{Frame}
 use Rattle.af_static.specs.declared.setting.Setting.{Setting}
 use Rattle.af_static.specs.declared.head.Head.{Head}

@@ -11,7 +11,7 @@ use Rattle.af_session.specs.declared.rendering.Played.{Played}
 use Rattle.af_tally.specs.declared.summary.Summary.{Summary}
 use Rattle.af_player.specs.declared.status.Ending.TheVariants.{Limit}
 use Rattle.af_player.specs.declared.status.Stop.{Stop}
-use Rattle.af_player.specs.declared.status.Stop.TheVariants.{Refused, Over, Store, Memory}
+use Rattle.af_player.specs.declared.status.Stop.TheVariants.{Over, Store, Memory}
 use Rattle.af_player.specs.Sessions.{summary_line}
 use Rattle.af_player.specs.Status.{HasFault, IsOutside, stop_of}
 

@@ -1,4 +1,4 @@
-use Rattle.std.proofs.Common.{◌≡◌, ◌∙◌, Ok, subst}
+use Rattle.std.proofs.Common.{◌≡◌, Ok, subst}
 use Rattle.af_session.specs.PlayKept.{KeepsPlay}
 use Rattle.af_player.specs.Asked.{Loaded, trace_job}
 use Rattle.af_player.specs.Ends.{Makes}
