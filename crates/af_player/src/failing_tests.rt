@@ -231,38 +231,51 @@ fn lefts<R: Threads + Sync + Abort>(
     ])
 }
 
-/// A play or a trace, of which a call fails.
-fn expect_play_failure<R: Threads + Sync + Abort>(
-    rt: &R,
-    alloc: Global,
-    words: &str,
-    (name, failing, of_sink, status, line, want): PlayFailure<'_>,
-) -> Result<(), Fail> {
+/// The files of a play, of which a call fails.
+fn one_fails<'a>(alloc: Global, name: &'a str, failing: u64) -> Result<OneFails<'a>, Fail> {
+    let frames = numbered(alloc, 400)?;
     let mut files = MemStore::new(alloc, Vec::new(alloc));
-    let mut out = MemSink::new(alloc, [of_sink].to_vec(alloc)?);
     files.put("one.toml", HUNDRED.as_bytes())?;
-    files.put("in.pcm", &numbered(alloc, 400)?)?;
-    let mut store = OneFails {
+    files.put("in.pcm", &frames)?;
+    Ok(OneFails {
         files,
         name,
         failing,
         made: 0,
         faults: 0,
-    };
-    let words = words_of(alloc, words)?;
-    let ended = run(rt, alloc, &words, &mut store, &mut out, &NoGate);
-    assert_eq!(rt; ended.code(), status, "{name} {failing}");
-    assert!(rt;
-        out.bytes().starts_with(line.as_bytes()),
-        "{name} {failing}"
-    );
-    assert_eq!(rt; out.bytes().is_empty(), line.is_empty(), "{name} {failing}");
-    assert_eq!(rt;
-        lefts(rt, alloc, &mut store.files)?,
-        want,
-        "{name} {failing}"
-    );
+    })
+}
+
+/// What a play or a trace, of which a call failed, has printed and left.
+fn expect_left<R: Threads + Sync + Abort>(
+    rt: &R,
+    alloc: Global,
+    (name, failing, _, status, line, want): PlayFailure<'_>,
+    ended: u8,
+    printed: &[u8],
+    files: &mut MemStore,
+) -> Result<(), Fail> {
+    assert_eq!(rt; ended, status, "{name} {failing}");
+    assert!(rt; printed.starts_with(line.as_bytes()), "{name} {failing}");
+    assert_eq!(rt; printed.is_empty(), line.is_empty(), "{name} {failing}");
+    assert_eq!(rt; lefts(rt, alloc, files)?, want, "{name} {failing}");
     Ok(())
+}
+
+/// A play or a trace, of which a call fails.
+fn expect_play_failure<R: Threads + Sync + Abort>(
+    rt: &R,
+    alloc: Global,
+    words: &str,
+    failure: PlayFailure<'_>,
+) -> Result<(), Fail> {
+    let (name, failing, of_sink, ..) = failure;
+    let words = words_of(alloc, words)?;
+    let mut store = one_fails(alloc, name, failing)?;
+    let mut out = MemSink::new(alloc, [of_sink].to_vec(alloc)?);
+    let ended = run(rt, alloc, &words, &mut store, &mut out, &NoGate).code();
+    let files = &mut store.files;
+    expect_left(rt, alloc, failure, ended, out.bytes(), files)
 }
 
 #[test]
