@@ -1,10 +1,11 @@
 //! A gate by which two parties are seen to begin their turns side by side.
 use crate::run::run;
 use crate::tests::{sink, words_of};
-use af_io::{Gate, MemStore, frames_of};
-use af_script::read;
+use af_io::{Gate, MemStore, Pcm, frames_of};
+use af_script::{Script, read};
 use af_session::{have_files, play};
 use std::alloc::Global;
+use std::mem::drop;
 use std::process::Abort;
 use std::sync::atomic::{AtomicU32, Ordering};
 use std::test::Fail;
@@ -79,18 +80,39 @@ fn expect_run<R: Threads + Sync + Abort>(rt: &R, alloc: Global, other: u32) -> R
     Ok(())
 }
 
-/// The same, in a play alone.
-fn expect_play<R: Threads + Sync + Abort>(rt: &R, alloc: Global, other: u32) -> Result<(), Fail> {
-    let watch = Watch::new(other);
-    let mut store = MemStore::new(alloc, Vec::new(alloc));
+/// The script, and no frames for either client.
+fn idle(alloc: Global) -> Result<(Script, Vec<Pcm>), Fail> {
     let script = read(alloc, IDLE.as_bytes()).ok().ok_or("not read")?;
     let mut files = Vec::new(alloc);
     for _ in 0..2 {
         files.push(frames_of(alloc, &[], false).ok().ok_or("no frames")?)?;
     }
-    assert!(rt; have_files(script.tracks(), &files));
-    let played = play(rt, alloc, &script, &files, &mut store, "out.pcm", &watch);
-    assert!(rt; played.is_ok());
+    Ok((script, files))
+}
+
+/// Whether a script with these files is played until all parties have ended.
+fn is_played<R: Threads + Sync>(
+    rt: &R,
+    alloc: Global,
+    script: &Script,
+    files: &[Pcm],
+    watch: &Watch,
+) -> bool {
+    if !have_files(script.tracks(), files) {
+        return false;
+    }
+    let mut store = MemStore::new(alloc, Vec::new(alloc));
+    let played = play(rt, alloc, script, files, &mut store, "out.pcm", watch);
+    let is_whole = played.is_ok();
+    drop(played);
+    is_whole
+}
+
+/// The same, in a play alone.
+fn expect_play<R: Threads + Sync + Abort>(rt: &R, alloc: Global, other: u32) -> Result<(), Fail> {
+    let watch = Watch::new(other);
+    let (script, files) = idle(alloc)?;
+    assert!(rt; is_played(rt, alloc, &script, &files, &watch));
     assert_eq!(rt; watch.met.load(Ordering::SeqCst), 6);
     Ok(())
 }
