@@ -1,0 +1,87 @@
+//! A session that is generated, and each call of the store that it makes failing in turn.
+use af_commands::run;
+use crate::ending_tests::words_of;
+use af_io::{MemSink, MemStore, NoGate};
+use std::alloc::Global;
+use std::process::Abort;
+use std::test::Fail;
+use std::thread::Threads;
+
+/// What is written before the session: the name of each file, the number of the call that makes it, which the one that fills it follows, and its bytes.
+const WRITTEN: &[(&str, u64, usize)] = &[
+    ("g0.pcm", 1, 200000),
+    ("g1.pcm", 3, 400000),
+    ("g2.pcm", 5, 200000),
+    ("g3.pcm", 7, 400000),
+    ("g4.pcm", 9, 200000),
+    ("g5.pcm", 11, 400000),
+    ("g6.pcm", 13, 200000),
+    ("g7.pcm", 15, 400000),
+    ("s.toml", 17, 50690),
+];
+
+/// Calls of the store and of the sink that fail, by their numbers (1000: none), the status, the bytes of OUT, and what is printed.
+type GenerateFailure<'a> = (u64, u64, u8, Option<usize>, &'a str);
+
+/// The first and the last call that fill OUT, and the line.
+const FAILURES: &[GenerateFailure<'static>] = &[
+    (28, 0, 5, Some(512), ""),
+    (420, 0, 5, Some(401920), ""),
+    (1000, 1, 5, Some(402432), "cycles 1572 mixed 800000 dr"),
+];
+
+/// The length of a file, None where it isn't there.
+fn length_of(store: &MemStore, name: &str) -> Option<usize> {
+    match store.file(name) {
+        Some(bytes) => Some(bytes.len()),
+        None => None,
+    }
+}
+
+/// What is left of a file of so many bytes that one call makes and the next one fills, where one fails.
+fn length_left(failing: u64, made: u64, length: usize) -> Option<usize> {
+    match failing.saturating_sub(made) {
+        0 => None,
+        1 => Some(length / 2),
+        _ => Some(length),
+    }
+}
+
+/// A session that is generated while calls fail.
+fn expect_generated<R: Threads + Sync + Abort>(
+    rt: &R,
+    alloc: Global,
+    (failing, of_sink, status, sound, line): GenerateFailure<'_>,
+) -> Result<(), Fail> {
+    let mut store = MemStore::new(alloc, [failing].to_vec(alloc)?);
+    let mut out = MemSink::new(alloc, [of_sink].to_vec(alloc)?);
+    let words = words_of(alloc, "generate 0 s.toml out.pcm")?;
+    let ended = run(rt, alloc, &words, &mut store, &mut out, &NoGate);
+    assert_eq!(rt; ended.code(), status, "{failing}");
+    assert_eq!(rt; out.bytes(), line.as_bytes(), "{failing}");
+    assert_eq!(rt; length_of(&store, "out.pcm"), sound, "{failing}");
+    for (name, made, length) in WRITTEN {
+        let left = length_left(failing, *made, *length);
+        assert_eq!(rt; length_of(&store, name), left, "{name} {failing}");
+    }
+    let first = store.file("g0.pcm").unwrap_or(&[]);
+    assert!(rt; first.is_empty() || first.starts_with(&[0x30, 0xe0, 0x16, 0xfc]));
+    Ok(())
+}
+
+/// Each call before the session: those that write the files and the script, the loads of the files (19 to 26), and the one that makes OUT.
+#[test]
+fn each_call_before_a_generated_session_fails(rt: HostRuntime) -> Result<(), Fail> {
+    for failing in 1..28 {
+        expect_generated(&rt, rt.alloc(), (failing, 0, 5, None, ""))?;
+    }
+    Ok(())
+}
+
+#[test]
+fn calls_of_a_generated_session_fail(rt: HostRuntime) -> Result<(), Fail> {
+    for failure in FAILURES {
+        expect_generated(&rt, rt.alloc(), *failure)?;
+    }
+    Ok(())
+}

@@ -1,0 +1,69 @@
+-- A session that was played, and its line.
+use Rattle.std.proofs.Common.{◌≡◌, ℕ, List, Some, Result, Ok, Err, IfOk, OnErr, String, string_bytes, refl, sym, ap, subst, ◌∙◌, inr}
+use Rattle.std.specs.declared.alloc.Global.{Global}
+use Rattle.af_model.specs.Journals.{JournalData}
+use Rattle.af_io.specs.Files.{Files, SetsFile}
+use Rattle.af_io.specs.declared.store.StoreError.{StoreError}
+use Rattle.af_tally.specs.declared.summary.Summary.{Summary}
+use Rattle.af_one_turn_run.proofs.OneTurnRun.{one_turn_run}
+use Rattle.af_render_law.proofs.RendersTold.{render_told}
+use Rattle.af_script.specs.Form.{IsScript}
+use Rattle.af_session.specs.declared.rendering.Played.{Played}
+use Rattle.af_session.specs.Ends.{EndsState}
+use Rattle.af_session.specs.Rendered.{HandsBack, LeavesSound}
+use Rattle.af_session.specs.Shown.{summary_told}
+use Rattle.af_runs.specs.Pcm.{journal_pcm}
+use Rattle.af_commands.specs.declared.status.Stop.{Stop}
+use Rattle.af_commands.specs.Asked.{Loaded, session_job}
+use Rattle.af_commands.specs.Ends.{IsCutOff, IsMade, Makes}
+use Rattle.af_commands.specs.Sessions.{IsSession, IsSomeSessionLine, summary_line}
+use Rattle.af_commands.specs.Told.{TellsRender}
+use Rattle.af_commands.proofs.Made.{Makes-unwritten}
+
+module _ (l : Loaded) (journal : JournalData) (ends : EndsState) (back : HandsBack l.script l.files journal ends) (summary : Summary) (summary_is : summary ≡ summary_told l.script.frames journal ends) (accepted : IsScript l.script) where
+  is_session : IsSession l.script l.files (journal_pcm l.script.frames journal) (summary_line summary)
+  is_session = record {
+    journal = journal;
+    ends = ends;
+    back = back;
+    bytes_are = refl;
+    line_is = ap summary_line summary_is;
+    told = (let told = render_told l.script l.files journal ends accepted back in record {
+      run = told.run;
+      line_is = ap summary_line (summary_is ∙ told.summary);
+      alone = (λ plain met other run also. one_turn_run l.script l.files other journal accepted plain run told.run also met);
+    });
+  }
+
+  some_line : (line : List ℕ) → line ≡ summary_line summary → IsSomeSessionLine line
+  some_line line is = (l.script, l.files, journal_pcm l.script.frames journal, subst (λ (text : List ℕ). IsSession l.script l.files (journal_pcm l.script.frames journal) text) (sym is) is_session)
+
+  module _ (target : List ℕ) (old new : Files) (set : SetsFile old target (Some (journal_pcm l.script.frames journal)) new) where
+    is_made : IsMade (session_job target l) (summary_line summary) old new
+    is_made = (journal_pcm l.script.frames journal, is_session, set)
+
+    Makes-played : (line : String Global) → string_bytes line ≡ summary_line summary → Makes (Ok line) (Ok (session_job target l)) old new
+    Makes-played line is = subst (λ (text : List ℕ). IsMade (session_job target l) text old new) (sym is) is_made
+
+    -- the output is whole, and the line has no room
+    cut_behind : IsCutOff (Ok (session_job target l)) old new
+    cut_behind = inr (summary_line summary, is_made)
+
+-- ## What is told of a render
+
+module _ (l : Loaded) (accepted : IsScript l.script) where
+  pub some_line_told : (played : Result Played StoreError) (result : Result (String Global) Stop) → IfOk played (λ p. HandsBack l.script l.files p.journal p.ends) → IfOk played (λ p. p.summary ≡ summary_told l.script.frames p.journal p.ends)
+      → TellsRender played result → IfOk result (λ line. IsSomeSessionLine (string_bytes line))
+  some_line_told (Ok p) (Ok line) back summary told = some_line l p.journal p.ends back p.summary summary accepted (string_bytes line) told
+  some_line_told (Err e) (Ok line) back summary clash = let none : ⊥ = cc in absurd none
+  some_line_told played (Err stop) back summary told = tt
+
+  module _ (target : List ℕ) (old new : Files) where
+    pub Makes-rendered : (played : Result Played StoreError) (result : Result (String Global) Stop) → IfOk played (λ p. HandsBack l.script l.files p.journal p.ends) → IfOk played (λ p. p.summary ≡ summary_told l.script.frames p.journal p.ends)
+        → IfOk played (λ p. SetsFile old target (Some (journal_pcm l.script.frames p.journal)) new) → OnErr played (LeavesSound l.script l.files target old new)
+        → TellsRender played result → Makes result (Ok (session_job target l)) old new
+    Makes-rendered (Ok p) (Ok line) back summary set left told = Makes-played l p.journal p.ends back p.summary summary accepted target old new set line told
+    Makes-rendered (Ok p) (Err stop) back summary set left is =
+        subst (λ (s : Stop). Makes (Err s) (Ok (session_job target l)) old new) (sym is) (cut_behind l p.journal p.ends back p.summary summary accepted target old new set)
+    Makes-rendered (Err e) result back summary set left is =
+        subst (λ (r : Result (String Global) Stop). Makes r (Ok (session_job target l)) old new) (sym is) (Makes-unwritten e (session_job target l) old new left)

@@ -1,0 +1,120 @@
+-- A script that was played in rounds, its journal and its line.
+use Rattle.std.proofs.Common.{◌≡◌, ◌∙◌, ℕ, Bool, true, false, List, Some, Ok, Err, IfErr, IfOk, Result, String, string_bytes, ap, inl, inr, refl, subst, sym}
+use Rattle.std.specs.declared.alloc.Global.{Global}
+use Rattle.af_io.specs.Files.{Files, SameFiles, SetsFile, LeavesFront}
+use Rattle.af_io.specs.Outputs.{with_file}
+use Rattle.af_journal.specs.Texts.{text_of}
+use Rattle.af_model.specs.Journals.{JournalData}
+use Rattle.af_tally.specs.declared.summary.Summary.{Summary}
+use Rattle.af_session.specs.declared.answering.PlayFault.{PlayFault}
+use Rattle.af_session.specs.declared.answering.PlayFault.TheVariants as fault
+use Rattle.af_session.specs.declared.rendering.Played.{Played}
+use Rattle.af_session.specs.Ends.{EndsState}
+use Rattle.af_session.specs.PlayedRuns.{AtFault, AtLimit, HandsBackRun, IsLegalJournal, LeavesRun}
+use Rattle.af_session.specs.PlayKept.{KeepsPlay}
+use Rattle.af_session.specs.Shown.{summary_told}
+use Rattle.af_runs.specs.Pcm.{journal_pcm}
+use Rattle.af_commands.specs.declared.status.Stop.{Stop}
+use Rattle.af_commands.specs.declared.status.Stop.TheVariants.{Refused, Over, Store, Memory}
+use Rattle.af_commands.specs.declared.status.Ending.{Ending}
+use Rattle.af_commands.specs.declared.status.Ending.TheVariants.{Limit}
+use Rattle.af_commands.specs.Asked.{Loaded, play_job}
+use Rattle.af_commands.specs.Ends.{Makes}
+use Rattle.af_commands.specs.Line.{limit_text}
+use Rattle.af_commands.specs.Plays.{IsPlay, IsPlayed, IsSomePlayLine, LeavesText, run_line}
+use Rattle.af_commands.specs.Sessions.{summary_line}
+use Rattle.af_commands.specs.Told.{Tells, TellsText}
+use Rattle.af_commands.proofs.Made.{files_are}
+
+-- the promises of a journal
+pub promises : (l : Loaded) (p : Played) → KeepsPlay l.script l.files (Ok p) → IsLegalJournal true l.script l.files p.journal
+promises l p keeps = record { legal = keeps.legal; fates = keeps.fates; unshut = keeps.unshut; drained = keeps.drained; settled = keeps.settled; emptied = keeps.emptied }
+
+-- and those of one that was cut off
+pub cut_short : (l : Loaded) (journal : JournalData) (ends : EndsState) → KeepsPlay l.script l.files (Err (fault.CycleLimit journal ends)) → IsLegalJournal false l.script l.files journal
+cut_short l journal ends keeps = (keeps.cut_run, keeps.enough)
+
+module _ (ended : Bool) (l : Loaded) (journal : JournalData) (ends : EndsState) (back : HandsBackRun ended l.script l.files journal ends) (legal : IsLegalJournal ended l.script l.files journal) where
+  abbrev bytes : List ℕ
+  bytes = journal_pcm l.script.frames journal
+
+  is_play : (line : List ℕ) → line ≡ run_line ended l.script journal ends → IsPlay ended l.script l.files bytes (text_of journal) line
+  is_play line is = record { journal = journal; ends = ends; run = back; legal = legal; bytes_are = refl; text_is = refl; line_is = is }
+
+  module _ (target name : List ℕ) (old mid : Files) (set : SetsFile old target (Some bytes) mid) where
+    made : with_file old (record { name = target; bytes = bytes }) ≡ mid
+    made = files_are mid (with_file old (record { name = target; bytes = bytes })) (λ other. sym (set other))
+
+    -- both files are whole
+    pub played : (line : List ℕ) (new : Files) → line ≡ run_line ended l.script journal ends → SetsFile mid name (Some (text_of journal)) new → IsPlayed ended l.script l.files target name line old new
+    played line new is text =
+        (bytes, text_of journal, is_play line is, subst (λ (files : Files). SetsFile files name (Some (text_of journal)) new) (sym made) text)
+
+    -- the text is not whole, or all that is left to do is to print
+    pub text_left : (new : Files) → LeavesFront mid name (text_of journal) new → LeavesText l.script l.files target name old new
+    text_left new left = (
+      ended,
+      bytes,
+      text_of journal,
+      run_line ended l.script journal ends,
+      is_play (run_line ended l.script journal ends) refl,
+      subst (λ (files : Files). LeavesFront files name (text_of journal) new) (sym made) left,
+    )
+
+-- ## A run in which all parties have ended
+
+module _ (l : Loaded) (journal : JournalData) (ends : EndsState) (back : HandsBackRun true l.script l.files journal ends) (legal : IsLegalJournal true l.script l.files journal) (summary : Summary) (summary_is : summary ≡ summary_told l.script.frames journal ends) where
+  pub line_told : (line : List ℕ) → line ≡ summary_line summary → line ≡ run_line true l.script journal ends
+  line_told line is = is ∙ ap summary_line summary_is
+
+  pub some_play_line : (line : List ℕ) → line ≡ summary_line summary → IsSomePlayLine line
+  some_play_line line is = (l.script, l.files, journal_pcm l.script.frames journal, text_of journal, is_play true l journal ends back legal line (line_told line is))
+
+  module _ (target name : List ℕ) (old mid new : Files) (set : SetsFile old target (Some (journal_pcm l.script.frames journal)) mid) (text : SetsFile mid name (Some (text_of journal)) new) where
+    pub Makes-rounds : (line : String Global) → string_bytes line ≡ summary_line summary → Makes (Ok line) (Ok (play_job target name l)) old new
+    Makes-rounds line is = played true l journal ends back legal target name old mid set (string_bytes line) new (line_told (string_bytes line) is) text
+
+-- ## A run that was cut off
+
+pub Makes-cut : (l : Loaded) (journal : JournalData) (ends : EndsState) → HandsBackRun false l.script l.files journal ends → IsLegalJournal false l.script l.files journal → (target name : List ℕ) (old mid new : Files)
+    → SetsFile old target (Some (journal_pcm l.script.frames journal)) mid → SetsFile mid name (Some (text_of journal)) new
+    → (cycles : ℕ) → cycles ≡ l.script.cycles → Makes (Err (Over (Limit cycles))) (Ok (play_job target name l)) old new
+Makes-cut l journal ends back legal target name old mid new set text cycles is =
+    (is, played false l journal ends back legal target name old mid set (limit_text cycles) new (ap limit_text is) text)
+
+-- ## What is told of a play
+
+-- what was left stays where no file changes
+pub LeavesRun-stays : (l : Loaded) (target : List ℕ) (old mid new : Files) → LeavesRun l.script l.files target old mid → SameFiles mid new → LeavesRun l.script l.files target old new
+LeavesRun-stays l target old mid new left same = subst (λ (files : Files). LeavesRun l.script l.files target old files) (sym (files_are mid new same)) left
+
+module _ (l : Loaded) (cycles : ℕ) where
+  pub some_play_told : (played : Result Played PlayFault) (result : Result (String Global) Stop) → KeepsPlay l.script l.files played → Tells cycles played result → IfOk result (λ line. IsSomePlayLine (string_bytes line))
+  some_play_told (Ok p) (Ok line) keeps told = some_play_line l p.journal p.ends keeps.played (promises l p keeps) p.summary keeps.summary (string_bytes line) told
+  some_play_told (Err (fault.CycleLimit journal ends)) (Ok line) keeps none = absurd none
+  some_play_told (Err fault.Store) (Ok line) keeps clash = let none : ⊥ = cc in absurd none
+  some_play_told (Err fault.Memory) (Ok line) keeps clash = let none : ⊥ = cc in absurd none
+  some_play_told played (Err stop) keeps told = tt
+
+  module _ (cycles_are : cycles ≡ l.script.cycles) (target name : List ℕ) (old mid new : Files) where
+    pub Makes-told : (played : Result Played PlayFault) (result : Result (String Global) Stop) → KeepsPlay l.script l.files played
+        → IfOk played (λ p. SetsFile old target (Some (journal_pcm l.script.frames p.journal)) mid)
+        → IfErr played (AtLimit (λ journal _. SetsFile old target (Some (journal_pcm l.script.frames journal)) mid))
+        → IfErr played (AtFault (LeavesRun l.script l.files target old mid))
+        → Tells cycles played result → TellsText name played result mid new → Makes result (Ok (play_job target name l)) old new
+    Makes-told (Ok p) (Ok line) keeps set cut left told text = Makes-rounds l p.journal p.ends keeps.played (promises l p keeps) p.summary keeps.summary target name old mid new set text line told
+    Makes-told (Ok p) (Err (Refused refusal)) keeps set cut left none text = absurd none
+    Makes-told (Ok p) (Err (Over over)) keeps set cut left none text = absurd none
+    Makes-told (Ok p) (Err Store) keeps set cut left told text = inl (inr (inr (text_left true l p.journal p.ends keeps.played (promises l p keeps) target name old mid set new text)))
+    Makes-told (Ok p) (Err Memory) keeps set cut left told text = inl (inr (inr (text_left true l p.journal p.ends keeps.played (promises l p keeps) target name old mid set new text)))
+    Makes-told (Err (fault.CycleLimit journal ends)) (Ok line) keeps set cut left none text = absurd none
+    Makes-told (Err (fault.CycleLimit journal ends)) (Err (Refused refusal)) keeps set cut left none text = absurd none
+    Makes-told (Err (fault.CycleLimit journal ends)) (Err (Over over)) keeps set cut left is text =
+        subst (λ (o : Ending). Makes (Err (Over o)) (Ok (play_job target name l)) old new) (sym is)
+        (Makes-cut l journal ends keeps.limit (cut_short l journal ends keeps) target name old mid new cut text cycles cycles_are)
+    Makes-told (Err (fault.CycleLimit journal ends)) (Err Store) keeps set cut left told text = inl (inr (inr (text_left false l journal ends keeps.limit (cut_short l journal ends keeps) target name old mid cut new text)))
+    Makes-told (Err (fault.CycleLimit journal ends)) (Err Memory) keeps set cut left told text = inl (inr (inr (text_left false l journal ends keeps.limit (cut_short l journal ends keeps) target name old mid cut new text)))
+    Makes-told (Err fault.Store) result keeps set cut left is same =
+        subst (λ (r : Result (String Global) Stop). Makes r (Ok (play_job target name l)) old new) (sym is) (inl (inr (inl (LeavesRun-stays l target old mid new left same))))
+    Makes-told (Err fault.Memory) result keeps set cut left is same =
+        subst (λ (r : Result (String Global) Stop). Makes r (Ok (play_job target name l)) old new) (sym is) (inl (inr (inl (LeavesRun-stays l target old mid new left same))))

@@ -1,0 +1,69 @@
+use Rattle.std.proofs.Common.{◌≡◌, Ok, subst}
+use Rattle.af_session.specs.PlayKept.{KeepsPlay}
+use Rattle.af_commands.specs.Asked.{Loaded, play_job}
+use Rattle.af_commands.specs.Ends.{Makes}
+use Rattle.af_commands.specs.Loading.{loaded_view}
+use Rattle.af_words.specs.Requests.{Play}
+use Rattle.af_commands.proofs.PlayedFaults.{HasFault-told, SuitsRequest-told}
+use Rattle.af_commands.proofs.PlayedRounds.{Makes-told, some_play_told}
+use Rattle.af_commands.proofs.playing.play.Goals as goal
+
+pub returns-clause-made : goal.returns-clause-made
+returns-clause-made g c = λ told.
+    let old = g.S.Store.files c.args.store.now in
+    let mid = g.S.Store.files c.play-played.new.store in
+    let new = g.S.Store.files c.tell-told.new.store in
+    let p = c.play-played.ensures in
+    let here : Loaded = record { script = c.args.loaded.now.script; files = c.deref.result.now } in
+    let same : here ≡ loaded_view c.args.loaded.now = λ k. record { script = c.args.loaded.now.script; files = c.deref.ensures.value k } in
+    let keeps : KeepsPlay here.script here.files c.play-played.result = record {
+      played = p.played;
+      limit = p.limit;
+      legal = p.legal;
+      fates = p.fates;
+      unshut = p.unshut;
+      drained = p.drained;
+      settled = p.settled;
+      emptied = p.emptied;
+      cut_run = p.cut_run;
+      enough = p.enough;
+      summary = p.summary;
+      calls = p.calls;
+      pushes = p.pushes;
+      never_older = p.never_older;
+      spared = p.spared;
+    } in
+    subst (λ (l : Loaded). Makes c.tell-told.result (Ok (play_job c.args.target.now c.args.journal.now l)) old new) same
+    (Makes-told here c.cycles.result c.cycles.ensures.value c.args.target.now c.args.journal.now old mid new c.play-played.result c.tell-told.result keeps (p.written told) (p.cut told) (p.left told)
+    c.tell-told.ensures.told (c.tell-told.ensures.files (p.tells told)))
+
+pub returns-clause-line : goal.returns-clause-line
+returns-clause-line g c =
+    let p = c.play-played.ensures in
+    let here : Loaded = record { script = c.args.loaded.now.script; files = c.deref.result.now } in
+    let keeps : KeepsPlay here.script here.files c.play-played.result = record {
+      played = p.played;
+      limit = p.limit;
+      legal = p.legal;
+      fates = p.fates;
+      unshut = p.unshut;
+      drained = p.drained;
+      settled = p.settled;
+      emptied = p.emptied;
+      cut_run = p.cut_run;
+      enough = p.enough;
+      summary = p.summary;
+      calls = p.calls;
+      pushes = p.pushes;
+      never_older = p.never_older;
+      spared = p.spared;
+    } in
+    some_play_told here c.cycles.result c.play-played.result c.tell-told.result keeps c.tell-told.ensures.told
+
+pub returns-clause-cause : goal.returns-clause-cause
+returns-clause-cause g c =
+    HasFault-told c.cycles.result (g.S.Store.faults c.args.store.now) (g.S.Store.faults c.play-played.new.store) (g.S.Store.faults c.tell-told.new.store) c.play-played.result c.tell-told.result
+    c.play-played.ensures.cause c.tell-told.ensures.cause c.tell-told.ensures.told
+
+pub returns-clause-words : goal.returns-clause-words
+returns-clause-words g c = λ script. SuitsRequest-told c.cycles.result (Play script c.args.target.now c.args.journal.now) c.play-played.result c.tell-told.result tt c.tell-told.ensures.told

@@ -1,0 +1,22 @@
+use Rattle.std.proofs.Common.{◌≡◌, Ok, Result, ap, subst, sym}
+use Rattle.af_io.specs.Files.{Files}
+use Rattle.af_commands.specs.declared.status.Refusal.{Refusal}
+use Rattle.af_commands.specs.Asked.{◌>>=◌, Job, Loaded, play_asked, play_job}
+use Rattle.af_commands.specs.Ends.{Makes}
+use Rattle.af_commands.specs.Loading.{loaded_view}
+use Rattle.af_commands.proofs.Made.{files_are}
+use Rattle.af_commands.proofs.playing.play_script.Goals as goal
+
+pub returns-clause-made : goal.returns-clause-made
+returns-clause-made g c = λ told.
+    let old = g.S.Store.files c.args.store.now in
+    let mid = g.S.Store.files c.load_script.new.store in
+    let new = g.S.Store.files c.play.new.store in
+    let target = c.args.target.now in
+    let name = c.args.journal.now in
+    let job : Job = play_job target name (loaded_view c.in_ok-loaded.loaded) in
+    let is : play_asked old c.args.script.now target name ≡ Ok job =
+    ap (λ (r : Result Loaded Refusal). r >>= (λ l. Ok (play_job target name l))) (c.in_ok-loaded.ensures.loaded told) in
+    let made : Makes c.play.result (Ok job) old new =
+    subst (λ (files : Files). Makes c.play.result (Ok job) files new) (files_are old mid (c.in_ok-loaded.ensures.same told)) (c.play.ensures.made (c.in_ok-loaded.ensures.tells told)) in
+    subst (λ (asked : Result Job Refusal). Makes c.play.result asked old new) (sym is) made

@@ -1,0 +1,72 @@
+use Rattle.std.proofs.Common.{◌≡◌, Ok, subst}
+use Rattle.af_session.specs.PlayKept.{KeepsPlay}
+use Rattle.af_commands.specs.Asked.{Loaded, trace_job}
+use Rattle.af_commands.specs.Ends.{Makes}
+use Rattle.af_commands.specs.Loading.{loaded_view}
+use Rattle.af_words.specs.Requests.{Trace}
+use Rattle.af_commands.proofs.PlayedFaults.{HasFault-told, SuitsRequest-told}
+use Rattle.af_commands.proofs.PlayedRounds.{some_play_told}
+use Rattle.af_commands.proofs.TracedRounds.{Makes-logged}
+use Rattle.af_commands.proofs.tracing.trace.Goals as goal
+
+pub returns-clause-made : goal.returns-clause-made
+returns-clause-made g c = λ told.
+    let old = g.S.Store.files c.args.store.now in
+    let mid = g.S.Store.files c.play_logged-played.new.store in
+    let new = g.S.Store.files c.tell_with_log-told.new.store in
+    let p = c.play_logged-played.ensures in
+    let here : Loaded = record { script = c.args.loaded.now.script; files = c.deref.result.now } in
+    let same : here ≡ loaded_view c.args.loaded.now = λ k. record { script = c.args.loaded.now.script; files = c.deref.ensures.value k } in
+    let keeps : KeepsPlay here.script here.files c.play_logged-played.result = record {
+      played = p.played;
+      limit = p.limit;
+      legal = p.legal;
+      fates = p.fates;
+      unshut = p.unshut;
+      drained = p.drained;
+      settled = p.settled;
+      emptied = p.emptied;
+      cut_run = p.cut_run;
+      enough = p.enough;
+      summary = p.summary;
+      calls = p.calls;
+      pushes = p.pushes;
+      never_older = p.never_older;
+      spared = p.spared;
+    } in
+    subst (λ (l : Loaded). Makes c.tell_with_log-told.result (Ok (trace_job c.args.target.now c.args.journal.now c.args.log.now c.args.room l)) old new) same
+    (Makes-logged here c.args.room c.args.target.now c.args.journal.now c.args.log.now old mid new c.deref-2.result.now c.play_logged-played.new.text.items c.new-text.result.items c.deref-2.ensures.value c.new-text.ensures.items
+    c.cycles-cycles.result c.cycles-cycles.ensures.value c.play_logged-played.result c.tell_with_log-told.result keeps (p.written told) (p.cut told) (p.left told) p.log
+    c.tell_with_log-told.ensures.told (c.tell_with_log-told.ensures.files (p.tells told)))
+
+pub returns-clause-line : goal.returns-clause-line
+returns-clause-line g c =
+    let p = c.play_logged-played.ensures in
+    let here : Loaded = record { script = c.args.loaded.now.script; files = c.deref.result.now } in
+    let keeps : KeepsPlay here.script here.files c.play_logged-played.result = record {
+      played = p.played;
+      limit = p.limit;
+      legal = p.legal;
+      fates = p.fates;
+      unshut = p.unshut;
+      drained = p.drained;
+      settled = p.settled;
+      emptied = p.emptied;
+      cut_run = p.cut_run;
+      enough = p.enough;
+      summary = p.summary;
+      calls = p.calls;
+      pushes = p.pushes;
+      never_older = p.never_older;
+      spared = p.spared;
+    } in
+    some_play_told here c.cycles-cycles.result c.play_logged-played.result c.tell_with_log-told.result keeps c.tell_with_log-told.ensures.told
+
+pub returns-clause-cause : goal.returns-clause-cause
+returns-clause-cause g c =
+    HasFault-told c.cycles-cycles.result (g.S.Store.faults c.args.store.now) (g.S.Store.faults c.play_logged-played.new.store) (g.S.Store.faults c.tell_with_log-told.new.store) c.play_logged-played.result c.tell_with_log-told.result
+    c.play_logged-played.ensures.cause c.tell_with_log-told.ensures.cause c.tell_with_log-told.ensures.told
+
+pub returns-clause-words : goal.returns-clause-words
+returns-clause-words g c = λ script.
+    SuitsRequest-told c.cycles-cycles.result (Trace script c.args.target.now c.args.journal.now c.args.log.now c.args.room) c.play_logged-played.result c.tell_with_log-told.result tt c.tell_with_log-told.ensures.told

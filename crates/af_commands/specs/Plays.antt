@@ -1,0 +1,53 @@
+-- What the rounds of all parties come to, with the frames of the tracks' files: the sound, the text of the journal and the line; and what a play leaves where it stops.
+use Rattle.std.specs.Prelude.{◌≡◌, ◌⊎◌, ℕ, Bool, true, false, List, [], ◌∷◌}
+use Rattle.af_base.specs.declared.frame.Frame.{Frame}
+use Rattle.af_io.specs.Files.{Files, LeavesFront}
+use Rattle.af_io.specs.Outputs.{SetsFiles, with_file}
+use Rattle.af_journal.specs.Texts.{text_of}
+use Rattle.af_model.specs.Journals.{JournalData}
+use Rattle.af_script.specs.Data.{ScriptData}
+use Rattle.af_session.specs.PlayedRuns.{HandsBackRun, IsLegalJournal, LeavesRun}
+use Rattle.af_session.specs.Ends.{EndsState}
+use Rattle.af_session.specs.Shown.{summary_told}
+use Rattle.af_runs.specs.Pcm.{journal_pcm}
+use Rattle.af_commands.specs.Line.{limit_text}
+use Rattle.af_commands.specs.Sessions.{summary_line}
+
+-- ## One run
+
+-- the line of a run: where all parties have ended that of its summary, and else that of the limit
+abbrev pub run_line : Bool → ScriptData → JournalData → EndsState → List ℕ
+run_line true script journal ends = summary_line (summary_told script.frames journal ends)
+run_line false script journal ends = limit_text script.cycles
+
+-- These bytes, this text and this line are of one run of all parties, in which all have ended, or which was cut off where the log was full: the sound of its journal, the text of the same journal, and its line. By itself that journal is a legal run in which each frame of a lawful client has one fate and each lawful track is spared, or else a cut run
+pub record IsPlay (ended : Bool) (script : ScriptData) (files : List (List Frame)) (bytes text line : List ℕ) : Type 0 where
+  pub journal : JournalData
+  pub ends : EndsState
+  pub run : HandsBackRun ended script files journal ends
+  pub legal : IsLegalJournal ended script files journal
+  pub bytes_are : bytes ≡ journal_pcm script.frames journal
+  pub text_is : text ≡ text_of journal
+  pub line_is : line ≡ run_line ended script journal ends
+
+-- this is the line of a run of some script with some files, in which all parties have ended
+abbrev pub IsSomePlayLine : List ℕ → Type 0
+IsSomePlayLine line = (script : ScriptData) × (files : List (List Frame)) × (bytes : List ℕ) × (text : List ℕ) × IsPlay true script files bytes text line
+
+-- ## Its two files
+
+-- the first file holds the bytes and the second the text of one run with this line, and no other file has changed
+abbrev pub IsPlayed : Bool → ScriptData → List (List Frame) → List ℕ → List ℕ → List ℕ → Files → Files → Type 0
+IsPlayed ended script files target journal line old new =
+    (bytes : List ℕ) × (text : List ℕ) × IsPlay ended script files bytes text line
+    × SetsFiles old (record { name = target; bytes = bytes } ∷ record { name = journal; bytes = text } ∷ []) new
+
+-- the first file holds the bytes of a run, the second is as before or holds a front of its text, and no other file has changed
+abbrev pub LeavesText : ScriptData → List (List Frame) → List ℕ → List ℕ → Files → Files → Type 0
+LeavesText script files target journal old new =
+    (ended : Bool) × (bytes : List ℕ) × (text : List ℕ) × (line : List ℕ) × IsPlay ended script files bytes text line
+    × LeavesFront (with_file old (record { name = target; bytes = bytes })) journal text new
+
+-- What a play leaves where it stops: no file has changed, or the first alone, which holds a front of the sound of some first rounds; or the first is whole, and the second not yet.
+abbrev pub LeavesPlay : ScriptData → List (List Frame) → List ℕ → List ℕ → Files → Files → Type 0
+LeavesPlay script files target journal old new = LeavesRun script files target old new ⊎ LeavesText script files target journal old new

@@ -1,0 +1,62 @@
+-- How a sound and the text of its journal are judged by a script and the frames of its tracks' files.
+use Rattle.std.specs.Prelude.{◌≡◌, ℕ, List, length, String, string_bytes, Result, Ok, Err}
+use Rattle.std.specs.declared.alloc.Global.{Global}
+use Rattle.af_base.specs.declared.frame.Frame.{Frame}
+use Rattle.af_journal.specs.Readings.{HasReading, IsFirstBad, Reads}
+use Rattle.af_audit.specs.Verdicts.{IsVerdict}
+use Rattle.af_audit.specs.declared.verdict.Refusal.TheVariants as refused
+use Rattle.af_audit.specs.declared.verdict.Verdict.{Verdict}
+use Rattle.af_audit.specs.declared.verdict.Verdict.TheVariants as verdict
+use Rattle.af_model.specs.Journals.{JournalData}
+use Rattle.af_model.specs.declared.journal.Journal.{Journal}
+use Rattle.af_script.specs.Data.{ScriptData}
+use Rattle.af_commands.specs.Asked as asked
+use Rattle.af_commands.specs.Line.{legal_text}
+use Rattle.af_commands.specs.Loading.{loaded_view}
+use Rattle.af_commands.specs.declared.verifying.Case.{Case}
+use Rattle.af_commands.specs.declared.status.Ending.TheVariants as ending
+use Rattle.af_commands.specs.declared.status.Stop.{Stop}
+use Rattle.af_commands.specs.declared.status.Stop.TheVariants.{Over, Memory}
+
+-- this journal is the one reading of the text, for as many tracks as the script has: it has the form of a journal, its numbers fit, and the text is that of its lines; and no other is
+pub record IsTextFor (script : ScriptData) (text : List ℕ) (journal : JournalData) : Type 0 where
+  pub reads : Reads (length script.tracks) text journal
+  pub only : (other : JournalData) → Reads (length script.tracks) text other → other ≡ journal
+
+-- the text has one reading, and this is what is found of that journal and the sound
+abbrev pub IsOfJournal : ScriptData → List (List Frame) → List ℕ → List ℕ → Verdict → Type 0
+IsOfJournal script files pcm text found = (journal : JournalData) × IsTextFor script text journal × IsVerdict script files journal pcm found
+
+-- What is found of a sound and the text of its journal: the first bad line of a text without a reading, and else what is found of its journal
+abbrev pub IsJudged : ScriptData → List (List Frame) → List ℕ → List ℕ → Verdict → Type 0
+IsJudged script files pcm text (verdict.Refused (refused.Text line)) = IsFirstBad (HasReading (length script.tracks)) text line
+IsJudged script files pcm text found = IsOfJournal script files pcm text found
+
+-- a text was read, or refused at its first bad line
+abbrev pub ReadsTo : Result Journal Stop → ScriptData → List ℕ → Type 0
+ReadsTo (Ok journal) script text = IsTextFor script text journal
+ReadsTo (Err (Over (ending.Judged (refused.Text line)))) script text = IsFirstBad (HasReading (length script.tracks)) text line
+ReadsTo (Err Memory) script text = Unit {0}
+ReadsTo (Err stop) script text = ⊥
+
+-- the line of what was found, or its refusal
+abbrev pub FoundTo : Result (String Global) Stop → Verdict → Type 0
+FoundTo (Ok line) found = (string_bytes line ≡ legal_text) × (found ≡ verdict.Legal)
+FoundTo (Err (Over (ending.Judged refusal))) found = found ≡ verdict.Refused refusal
+FoundTo (Err Memory) found = Unit {0}
+FoundTo (Err stop) found = ⊥
+
+-- the same of what is judged
+abbrev pub IsJudgedIn : asked.Case → Verdict → Type 0
+IsJudgedIn c found = IsJudged c.loaded.script c.loaded.files c.pcm c.text found
+
+-- a sound and the text of its journal were judged
+abbrev pub JudgesTo : Result (String Global) Stop → asked.Case → Type 0
+JudgesTo (Ok line) c = (string_bytes line ≡ legal_text) × IsJudgedIn c verdict.Legal
+JudgesTo (Err (Over (ending.Judged refusal))) c = IsJudgedIn c (verdict.Refused refusal)
+JudgesTo (Err Memory) c = Unit {0}
+JudgesTo (Err stop) c = ⊥
+
+-- what was loaded
+abbrev pub case_view : Case → asked.Case
+case_view c = record { loaded = loaded_view c.loaded; pcm = c.pcm.items; text = c.text.items }

@@ -1,0 +1,18 @@
+//! The commands of the player: `run` renders a script into raw PCM, plays one by all parties at once, judges a journal and its sound, records a file, loops one, or generates a session of a number and renders it.
+#![tactic(auto)]
+
+mod capture;
+mod deliver;
+mod generating;
+mod lines;
+mod load;
+mod looping;
+mod playing;
+mod render;
+mod run;
+mod status;
+mod tracing;
+mod verifying;
+
+pub use run::run;
+pub use status::{FileFault, Role, Status, Why};

@@ -1,0 +1,153 @@
+//! The command `play`: a script's parties, played in rounds into a file, and the text of their journal beside it.
+ghost use Rattle.std.specs.Prelude.{◌≡◌, ◌++◌, ℕ, List, Ok, Some, IfOk, OnOk, OnErr, string_bytes};
+ghost use Rattle.af_io.specs.Causes.{HasCause};
+ghost use Rattle.af_io.specs.Files.{SetsFile, LeavesFront};
+ghost use Rattle.af_journal.specs.Texts.{text_of};
+ghost use Rattle.af_commands.specs.Asked.{play_asked, play_job};
+ghost use Rattle.af_commands.specs.Ends.{Makes};
+ghost use Rattle.af_commands.specs.Loading.{loaded_view, AreFilesFor};
+ghost use Rattle.af_commands.specs.Plays.{IsSomePlayLine};
+ghost use Rattle.af_words.specs.Requests.{Play};
+ghost use Rattle.af_commands.specs.Status.{HasFault, SuitsRequest};
+ghost use Rattle.af_commands.specs.Told.{Tells, TellsCause, TellsEnded, TellsLimit, TellsText, WritesText};
+
+use crate::deliver::write_file;
+use crate::load::{Loaded, load_script};
+use crate::render::line_of;
+use crate::status::{Ending, Stop};
+use af_base::Memory;
+use af_io::{Gate, Store, StoreError};
+use af_model::Journal;
+use af_session::{PlayFault, Played};
+use std::alloc::Global;
+use std::thread::Threads;
+
+/// The text of a journal.
+fn text_of(alloc: Global, journal: &Journal) -> Result<Vec<u8>, Memory>
+    ensures { IfOk result (λ text. text.items ≡ text_of journal.now) }
+{
+    let mut text = Vec::new(alloc);
+    af_journal::write(alloc, journal, &mut text)?;
+    Ok(text)
+}
+
+/// Makes the file of a journal anew, with its text as one piece.
+pub(crate) fn write_journal<S: Store>(
+    alloc: Global,
+    store: &mut S,
+    name: &str,
+    journal: &Journal,
+) -> Result<(), StoreError>
+    ensures written { S.told store.old → OnOk result (SetsFile (S.files store.old) name.now (Some (text_of journal.now)) (S.files store.new)) }
+    ensures left { S.told store.old → OnErr result (LeavesFront (S.files store.old) name.now (text_of journal.now) (S.files store.new)) }
+    ensures tells { S.told store.old → S.told store.new }
+    ensures cause { HasCause (S.faults store.old) (S.faults store.new) result }
+{
+    let text = text_of(alloc, journal)?;
+    write_file(store, name, &text)
+}
+
+/// Writes the journal of a play in which all parties have ended, and answers its line.
+fn tell_ended<S: Store>(
+    alloc: Global,
+    store: &mut S,
+    name: &str,
+    played: &Played,
+) -> Result<String, Stop>
+    ensures told { TellsEnded played.now.summary result }
+    ensures files { S.told store.old → WritesText name.now played.now.journal result (S.files store.old) (S.files store.new) }
+    ensures tells { S.told store.old → S.told store.new }
+    ensures cause { HasFault (S.faults store.old) (S.faults store.new) result }
+{
+    write_journal(alloc, store, name, &played.journal)?;
+    line_of(alloc, &played.summary)
+}
+
+/// Writes the journal of a play that was cut off at its limit of so many cycles, and answers that end.
+fn tell_limit<S: Store>(
+    alloc: Global,
+    store: &mut S,
+    name: &str,
+    cycles: u32,
+    journal: &Journal,
+) -> Result<String, Stop>
+    ensures told { TellsLimit cycles result }
+    ensures files { S.told store.old → WritesText name.now journal.now result (S.files store.old) (S.files store.new) }
+    ensures tells { S.told store.old → S.told store.new }
+    ensures cause { HasFault (S.faults store.old) (S.faults store.new) result }
+{
+    write_journal(alloc, store, name, journal)?;
+    Err(Stop::Over(Ending::Limit { cycles }))
+}
+
+/// Tells a play: writes its journal where all parties have ended, whose line is answered, and where it was cut off at its limit of so many cycles.
+pub(crate) fn tell<S: Store>(
+    alloc: Global,
+    store: &mut S,
+    name: &str,
+    cycles: u32,
+    played: &Result<Played, PlayFault>,
+) -> Result<String, Stop>
+    ensures told { Tells cycles played.now result }
+    ensures files { S.told store.old → TellsText name.now played.now result (S.files store.old) (S.files store.new) }
+    ensures tells { S.told store.old → S.told store.new }
+    ensures cause { TellsCause (S.faults store.old) (S.faults store.new) played.now result }
+{
+    match played {
+        Ok(played) => tell_ended(alloc, store, name, played),
+        Err(PlayFault::CycleLimit { journal, .. }) => {
+            tell_limit(alloc, store, name, cycles, journal)
+        }
+        Err(PlayFault::Store) => Err(Stop::Store),
+        Err(PlayFault::Memory) => Err(Stop::Memory),
+    }
+}
+
+/// Plays what was loaded, writes the journal, and answers the line of a run in which all parties have ended.
+fn play<R: Threads + Sync, S: Store, G: Gate>(
+    rt: &R,
+    alloc: Global,
+    loaded: &Loaded,
+    store: &mut S,
+    target: &str,
+    journal: &str,
+    gate: &G,
+) -> Result<String, Stop>
+    requires { AreFilesFor loaded.now }
+    ensures made { S.told store.old → Makes result (Ok (play_job target.now journal.now (loaded_view loaded.now))) (S.files store.old) (S.files store.new) }
+    ensures line { IfOk result (λ line. IsSomePlayLine (string_bytes line)) }
+    ensures cause { HasFault (S.faults store.old) (S.faults store.new) result }
+    ensures words { (script : List ℕ) → SuitsRequest result (Play script target.now journal.now) }
+{
+    let played = af_session::play(
+        rt,
+        alloc,
+        &loaded.script,
+        &loaded.files,
+        store,
+        target,
+        gate,
+    );
+    let told = tell(alloc, store, journal, loaded.script.cycles(), &played);
+    drop(played);
+    told
+}
+
+/// Loads a script and the files of its tracks, and plays it in rounds into the output. The journal is written where all parties have ended, whose line is answered, and where the play was cut off at its limit of cycles.
+pub fn play_script<R: Threads + Sync, S: Store, G: Gate>(
+    rt: &R,
+    alloc: Global,
+    store: &mut S,
+    script: &str,
+    target: &str,
+    journal: &str,
+    gate: &G,
+) -> Result<String, Stop>
+    ensures made { S.told store.old → Makes result (play_asked (S.files store.old) script.now target.now journal.now) (S.files store.old) (S.files store.new) }
+    ensures line { IfOk result (λ line. IsSomePlayLine (string_bytes line)) }
+    ensures cause { HasFault (S.faults store.old) (S.faults store.new) result }
+    ensures words { SuitsRequest result (Play script.now target.now journal.now) }
+{
+    let loaded = load_script(alloc, store, script)?;
+    play(rt, alloc, &loaded, store, target, journal, gate)
+}

@@ -1,0 +1,172 @@
+//! What the words ask for, done over the store and the sink that are handed in.
+ghost use Rattle.std.specs.Prelude.{◌≡◌, ◌⊎◌, IfOk, IfErr, map, string_bytes};
+ghost use Rattle.af_io.specs.Causes.{Rose, HasCause};
+ghost use Rattle.af_io.specs.Files.{Appends};
+ghost use Rattle.af_commands.specs.Asked.{asked_of, job_of};
+ghost use Rattle.af_words.specs.Asking.{request_view, IsSound};
+ghost use Rattle.af_commands.specs.Ends.{IsDoneLine, IsOver, Makes, Works, Prints, PrintsLine, Renders, Printed, WholeUnless, PrintsOwnLine, PrintsSomeLine, EndsAsAsked};
+ghost use Rattle.af_commands.specs.Line.{ending_text, refusal_text};
+ghost use Rattle.af_words.specs.Requests.{request_of};
+ghost use Rattle.af_commands.specs.Status.{CountsFaults, HasEitherFault, HasFault, IsOutside, JudgesWords, RefusesWords, SuitsRequest};
+
+use crate::capture::record_file;
+use crate::generating::generate;
+use crate::looping::loop_file;
+use crate::playing::play_script;
+use crate::render::render_script;
+use crate::status::{Ending, Refusal, Status, Stop};
+use crate::tracing::trace_script;
+use crate::verifying::verify_files;
+use af_io::{Gate, Sink, Store, StoreError};
+use af_words::{Request, request_of};
+use std::alloc::Global;
+use std::thread::Threads;
+
+/// Makes the output of a command, and answers its line.
+fn make<R: Threads + Sync, S: Store, G: Gate>(
+    rt: &R,
+    alloc: Global,
+    store: &mut S,
+    request: Request<'_>,
+    gate: &G,
+) -> Result<String, Stop>
+    requires { IsSound request }
+    ensures made { S.told store.old → Makes result (job_of (S.files store.old) (request_view request.entry)) (S.files store.old) (S.files store.new) }
+    ensures line { IfOk result (λ line. IsDoneLine (request_view request.entry) (string_bytes line)) }
+    ensures cause { HasFault (S.faults store.old) (S.faults store.new) result }
+    ensures words { SuitsRequest result (request_view request.entry) }
+{
+    match request {
+        Request::Render { script, target } => render_script(alloc, store, script, target),
+        Request::Record {
+            input,
+            target,
+            sizes,
+        } => record_file(alloc, store, input, target, sizes),
+        Request::Loop {
+            input,
+            target,
+            turns,
+        } => loop_file(alloc, store, input, target, turns),
+        Request::Generate {
+            number,
+            script,
+            target,
+        } => generate(alloc, store, number, script, target),
+        Request::Play {
+            script,
+            target,
+            journal,
+        } => play_script(rt, alloc, store, script, target, journal, gate),
+        Request::Verify {
+            script,
+            sound,
+            journal,
+        } => verify_files(alloc, store, script, sound, journal),
+        Request::Trace {
+            script,
+            target,
+            journal,
+            log,
+            room,
+        } => trace_script(rt, alloc, store, script, target, journal, log, room, gate),
+    }
+}
+
+/// Prints a line.
+fn print<O: Sink>(out: &mut O, line: &str) -> Result<(), Stop>
+    ensures printed { O.told out.old → PrintsLine result line.now (O.held out.old) (O.held out.new) }
+    ensures outside { IfErr result IsOutside }
+    ensures tells { O.told out.old → O.told out.new }
+    ensures cause { HasFault (O.faults out.old) (O.faults out.new) result }
+{
+    out.write(line.as_bytes())?;
+    Ok(())
+}
+
+/// Prints the line of a refusal.
+fn refuse<O: Sink>(alloc: Global, out: &mut O, refusal: Refusal) -> Result<(), StoreError>
+    ensures printed { O.told out.old → Appends result (O.held out.old) (refusal_text refusal) (O.held out.new) }
+    ensures cause { HasCause (O.faults out.old) (O.faults out.new) result }
+{
+    let line = format!(in alloc; "{refusal}")?;
+    out.write(line.as_str().as_bytes())
+}
+
+/// Prints the line of a work that is over.
+fn tell<O: Sink>(alloc: Global, out: &mut O, ending: Ending) -> Result<(), StoreError>
+    ensures printed { O.told out.old → Appends result (O.held out.old) (ending_text ending) (O.held out.new) }
+    ensures cause { HasCause (O.faults out.old) (O.faults out.new) result }
+{
+    let line = format!(in alloc; "{ending}")?;
+    out.write(line.as_str().as_bytes())
+}
+
+/// Does what the words ask for. A refusal or another ending is not printed yet.
+fn work<R: Threads + Sync, S: Store, O: Sink, G: Gate>(
+    rt: &R,
+    alloc: Global,
+    words: &[String],
+    store: &mut S,
+    out: &mut O,
+    gate: &G,
+) -> Result<(), Stop>
+    ensures rendered { S.told store.old → Renders result (asked_of (S.files store.old) (map string_bytes words.now)) (S.files store.old) (S.files store.new) }
+    ensures printed { S.told store.old → O.told out.old → Printed result (asked_of (S.files store.old) (map string_bytes words.now)) (S.files store.old) (S.files store.new) (O.held out.old) (O.held out.new) }
+    ensures whole { S.told store.old → WholeUnless (Rose (S.faults store.old) (S.faults store.new)) result (asked_of (S.files store.old) (map string_bytes words.now)) (S.files store.old) (S.files store.new) }
+    ensures some { O.told out.old → PrintsSomeLine result (request_of (map string_bytes words.now)) (O.held out.old) (O.held out.new) }
+    ensures words { RefusesWords result (request_of (map string_bytes words.now)) }
+    ensures tells { O.told out.old → O.told out.new }
+    ensures cause { HasEitherFault (S.faults store.old) (S.faults store.new) (O.faults out.old) (O.faults out.new) result }
+{
+    let Some(request) = request_of(alloc, words)? else {
+        return Err(Stop::Refused(Refusal::Usage));
+    };
+    let line = make(rt, alloc, store, request, gate)?;
+    print(out, line.as_str())
+}
+
+/// Does what the words after the program's name ask for, over the store and the sink, and prints one line.
+///
+/// Where the store tells its files, each answer but a fault of the outside and want of memory has its cause in the words and the files.
+pub fn run<R: Threads + Sync, S: Store, O: Sink, G: Gate>(
+    rt: &R,
+    alloc: Global,
+    words: &[String],
+    store: &mut S,
+    out: &mut O,
+    gate: &G,
+) -> Status
+    // The status and the files: those that the command makes hold what is asked for and no other has changed, or the first refusal came and none has. Of a play the two files are the sound and the text of the journal of one run, and with a log a third is the text of a log of that journal, in which all parties have ended where the status is Done, and which was cut off where it is CycleLimit. Of a render the file is the sound of the journal of one turn run, in which each event sees what all before it left; where no op of the script is a poke it is the only one in which each stream proxy takes part in the last meeting, if it does so.
+    ensures work { S.told store.old → Works result (asked_of (S.files store.old) (map string_bytes words.now)) (S.files store.old) (S.files store.new) }
+    // The line, of one outcome with the bytes of the output: all of it, a front of it or nothing after a fault of the outside, nothing where memory ran out.
+    ensures line { S.told store.old → O.told out.old → Prints result (asked_of (S.files store.old) (map string_bytes words.now)) (S.files store.old) (S.files store.new) (O.held out.old) (O.held out.new) }
+    // The line that the status and the words tell, whatever the store tells: one of the command, that of the refusal or of the limit of a play, a front of some line after a fault of the outside, or nothing.
+    ensures printed { O.told out.old → PrintsOwnLine result (request_of (map string_bytes words.now)) (O.held out.old) (O.held out.new) }
+    // After a fault of the outside the store has failed, or the work is whole and the sink has failed at the line.
+    ensures whole { S.told store.old → result ≡ Status.StoreFault → Rose (S.faults store.old) (S.faults store.new)
+        ⊎ IsOver (asked_of (S.files store.old) (map string_bytes words.now)) (S.files store.old) (S.files store.new) }
+    // Usage comes exactly where the words don't fit, whatever the store tells.
+    ensures words { JudgesWords result (request_of (map string_bytes words.now)) }
+    // A fault of the outside is told exactly where a count of faults rose.
+    ensures cause { CountsFaults (S.faults store.old) (S.faults store.new) (O.faults out.old) (O.faults out.new) result }
+    // Where no count of faults rises, the answer is what is asked for: Done where the words fit and script and files are accepted. Memory may run out, and a play may be cut off at the limit of its script, but never where that has enough cycles by the rule of docs/FORMATS.md.
+    ensures complete { S.told store.old → (Rose (S.faults store.old) (S.faults store.new) → ⊥) → (Rose (O.faults out.old) (O.faults out.new) → ⊥)
+        → EndsAsAsked result (asked_of (S.files store.old) (map string_bytes words.now)) }
+{
+    match work(rt, alloc, words, store, out, gate) {
+        Ok(()) => Status::Done,
+        Err(Stop::Store) => Status::StoreFault,
+        Err(Stop::Memory) => Status::Memory,
+        Err(Stop::Refused(refusal)) => match refuse(alloc, out, refusal) {
+            Ok(()) => Status::from(refusal),
+            Err(StoreError::Failed) => Status::StoreFault,
+            Err(StoreError::Memory) => Status::Memory,
+        },
+        Err(Stop::Over(ending)) => match tell(alloc, out, ending) {
+            Ok(()) => Status::from(ending),
+            Err(StoreError::Failed) => Status::StoreFault,
+            Err(StoreError::Memory) => Status::Memory,
+        },
+    }
+}

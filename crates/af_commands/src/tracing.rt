@@ -1,0 +1,96 @@
+//! The command `trace`: a script's parties, played in rounds into a file, with the texts of their journal and of their log beside it.
+ghost use Rattle.std.specs.Prelude.{◌≡◌, ◌≤◌, ℕ, List, Ok, IfOk, string_bytes};
+ghost use Rattle.af_commands.specs.Asked.{trace_asked, trace_job};
+ghost use Rattle.af_commands.specs.Ends.{Makes};
+ghost use Rattle.af_commands.specs.Loading.{loaded_view, AreFilesFor};
+ghost use Rattle.af_commands.specs.Plays.{IsSomePlayLine};
+ghost use Rattle.af_words.specs.Requests.{Trace};
+ghost use Rattle.af_commands.specs.Status.{HasFault, SuitsRequest};
+ghost use Rattle.af_commands.specs.Told.{Tells, TellsCause, TellsTexts};
+
+use crate::deliver::write_file;
+use crate::load::{Loaded, load_script};
+use crate::playing::tell;
+use crate::status::Stop;
+use af_io::{Gate, Store};
+use af_session::{PlayFault, Played};
+use std::alloc::Global;
+use std::thread::Threads;
+
+/// Tells a play as `tell` does, and writes the text of its log behind the journal where all parties have ended.
+fn tell_with_log<S: Store>(
+    alloc: Global,
+    store: &mut S,
+    name: &str,
+    log: &str,
+    text: &[u8],
+    cycles: u32,
+    played: &Result<Played, PlayFault>,
+) -> Result<String, Stop>
+    ensures told { Tells cycles played.now result }
+    ensures files { S.told store.old → TellsTexts name.now log.now text.now played.now result (S.files store.old) (S.files store.new) }
+    ensures cause { TellsCause (S.faults store.old) (S.faults store.new) played.now result }
+{
+    let line = tell(alloc, store, name, cycles, played)?;
+    write_file(store, log, text)?;
+    Ok(line)
+}
+
+/// Plays what was loaded with a log, writes the journal and then the log, and answers the line of a run in which all parties have ended.
+fn trace<R: Threads + Sync, S: Store, G: Gate>(
+    rt: &R,
+    alloc: Global,
+    loaded: &Loaded,
+    store: &mut S,
+    target: &str,
+    journal: &str,
+    log: &str,
+    room: u32,
+    gate: &G,
+) -> Result<String, Stop>
+    requires files { AreFilesFor loaded.now }
+    requires room { (1 ≤ room) × (room ≤ 1024) }
+    ensures made { S.told store.old → Makes result (Ok (trace_job target.now journal.now log.now room (loaded_view loaded.now))) (S.files store.old) (S.files store.new) }
+    ensures line { IfOk result (λ line. IsSomePlayLine (string_bytes line)) }
+    ensures cause { HasFault (S.faults store.old) (S.faults store.new) result }
+    ensures words { (script : List ℕ) → SuitsRequest result (Trace script target.now journal.now log.now room) }
+{
+    let mut text = Vec::new(alloc);
+    let played = af_session::play_logged(
+        rt,
+        alloc,
+        &loaded.script,
+        &loaded.files,
+        store,
+        target,
+        gate,
+        room,
+        &mut text,
+    );
+    let cycles = loaded.script.cycles();
+    let told = tell_with_log(alloc, store, journal, log, &text, cycles, &played);
+    drop(played);
+    told
+}
+
+/// Loads a script and the files of its tracks, and plays it in rounds into the output, with a log of so much room. The journal is written where all parties have ended, whose line is answered, and where the play was cut off at its limit of cycles; the log behind it where all have ended.
+pub fn trace_script<R: Threads + Sync, S: Store, G: Gate>(
+    rt: &R,
+    alloc: Global,
+    store: &mut S,
+    script: &str,
+    target: &str,
+    journal: &str,
+    log: &str,
+    room: u32,
+    gate: &G,
+) -> Result<String, Stop>
+    requires { (1 ≤ room) × (room ≤ 1024) }
+    ensures made { S.told store.old → Makes result (trace_asked (S.files store.old) script.now target.now journal.now log.now room) (S.files store.old) (S.files store.new) }
+    ensures line { IfOk result (λ line. IsSomePlayLine (string_bytes line)) }
+    ensures cause { HasFault (S.faults store.old) (S.faults store.new) result }
+    ensures words { SuitsRequest result (Trace script.now target.now journal.now log.now room) }
+{
+    let loaded = load_script(alloc, store, script)?;
+    trace(rt, alloc, &loaded, store, target, journal, log, room, gate)
+}

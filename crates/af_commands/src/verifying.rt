@@ -1,0 +1,101 @@
+//! The command `verify`: a sound and its journal are judged by their script.
+ghost use Rattle.std.specs.Prelude.{◌≡◌, IfOk, string_bytes};
+ghost use Rattle.af_io.specs.Files.{SameFiles};
+ghost use Rattle.af_commands.specs.Asked.{case_of, verify_asked};
+ghost use Rattle.af_commands.specs.Ends.{Makes};
+ghost use Rattle.af_commands.specs.Line.{legal_text};
+ghost use Rattle.af_commands.specs.Loading.{AreFilesFor};
+ghost use Rattle.af_words.specs.Requests.{Verify};
+ghost use Rattle.af_commands.specs.Status.{HasFault, IsNoUsage, Meets, SuitsRequest};
+ghost use Rattle.af_commands.specs.Verified.{FoundTo, JudgesTo, ReadsTo, case_view};
+
+use crate::load::{Loaded, MOST_FILE, load_file, load_script};
+use crate::status::{Ending, Role, Stop};
+use af_audit::{Refusal, Verdict};
+use af_io::Store;
+use af_journal::JournalFault;
+use af_model::Journal;
+use af_script::Script;
+use std::alloc::Global;
+
+/// The most bytes of a journal.
+const MOST_JOURNAL: u64 = 1 << 30;
+
+/// The journal of a text.
+fn read_journal(alloc: Global, text: &[u8], script: &Script) -> Result<Journal, Stop>
+    ensures { ReadsTo result script.now text.now }
+{
+    match af_journal::read(alloc, text, script) {
+        Ok(journal) => Ok(journal),
+        Err(JournalFault::Line { number }) => {
+            Err(Stop::Over(Ending::Judged(Refusal::Text { line: number })))
+        }
+        Err(JournalFault::Memory) => Err(Stop::Memory),
+    }
+}
+
+/// What is judged: a script with its tracks' files, a sound, and the text of its journal.
+#[derive(Drop)]
+struct Case {
+    loaded: Loaded,
+    pcm: Vec<u8>,
+    text: Vec<u8>,
+}
+
+/// Loads what is judged.
+fn load_case<S: Store>(
+    alloc: Global,
+    store: &mut S,
+    script: &str,
+    sound: &str,
+    journal: &str,
+) -> Result<Case, Stop>
+    ensures loaded { S.told store.old → Meets case_view result (case_of (S.files store.old) script.now sound.now journal.now) }
+    ensures serve { IfOk result (λ c. AreFilesFor c.loaded) }
+    ensures same { S.told store.old → SameFiles (S.files store.old) (S.files store.new) }
+    ensures cause { HasFault (S.faults store.old) (S.faults store.new) result }
+    ensures words { IsNoUsage result }
+{
+    let loaded = load_script(alloc, store, script)?;
+    let pcm = load_file(alloc, store, sound, Role::Pcm, MOST_FILE)?;
+    let text = load_file(alloc, store, journal, Role::Journal, MOST_JOURNAL)?;
+    Ok(Case { loaded, pcm, text })
+}
+
+/// The line of what is found.
+fn verdict_line(alloc: Global, found: Verdict) -> Result<String, Stop>
+    ensures { FoundTo result found }
+{
+    match found {
+        Verdict::Legal => Ok(format!(in alloc; "legal\n")?),
+        Verdict::Refused(refusal) => Err(Stop::Over(Ending::Judged(refusal))),
+    }
+}
+
+/// Judges a sound and the text of its journal, and answers the line of legal ones.
+fn judge(alloc: Global, case: &Case) -> Result<String, Stop>
+    requires { AreFilesFor case.now.loaded }
+    ensures { JudgesTo result (case_view case.now) }
+{
+    let script = &case.loaded.script;
+    let journal = read_journal(alloc, &case.text, script)?;
+    let found = af_audit::verify(alloc, script, &case.loaded.files, &journal, &case.pcm)?;
+    verdict_line(alloc, found)
+}
+
+/// Loads a script and the files of its tracks, a sound and the text of its journal, and judges them. No file changes.
+pub fn verify_files<S: Store>(
+    alloc: Global,
+    store: &mut S,
+    script: &str,
+    sound: &str,
+    journal: &str,
+) -> Result<String, Stop>
+    ensures made { S.told store.old → Makes result (verify_asked (S.files store.old) script.now sound.now journal.now) (S.files store.old) (S.files store.new) }
+    ensures line { IfOk result (λ line. string_bytes line ≡ legal_text) }
+    ensures cause { HasFault (S.faults store.old) (S.faults store.new) result }
+    ensures words { SuitsRequest result (Verify script.now sound.now journal.now) }
+{
+    let case = load_case(alloc, store, script, sound, journal)?;
+    judge(alloc, &case)
+}
