@@ -9,6 +9,3 @@ mod Noted
 mod Added
 pub mod LogForms
 pub mod Meeting
-mod Zips
-mod OneBlock
-mod Waiting

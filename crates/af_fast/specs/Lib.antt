@@ -6,5 +6,4 @@ pub mod Mixer
 pub mod Known
 pub mod Mixing
 pub mod Lends
-pub mod Ready
 pub mod Meets

@@ -12,18 +12,3 @@ mod slots;
 mod submix;
 
 pub use mixer::FastMixer;
-
-#[cfg(test)]
-mod call_tests;
-#[cfg(test)]
-mod meeting_tests;
-#[cfg(test)]
-mod plain_tests;
-#[cfg(test)]
-mod run_tests;
-#[cfg(test)]
-mod table_tests;
-#[cfg(test)]
-mod tests;
-#[cfg(test)]
-mod thread_tests;

@@ -1,0 +1,3 @@
+mod Zips
+mod OneBlock
+mod Waiting

@@ -1,0 +1,96 @@
+//! Meetings of the ends that a mixer lends, and of a proxy that it holds.
+ghost use Rattle.std.specs.Prelude.{◌≡◌, ◌<◌, [], ◌∷◌};
+ghost use Rattle.af_cblk.specs.Sides.{hand_made};
+ghost use Rattle.af_link.specs.PipeEnds.{in_made};
+ghost use Rattle.af_fast.specs.Mixer.{IsInOrder, IsLinked};
+ghost use Rattle.af_client.specs.Order.{IsClientOf};
+ghost use Rattle.af_fast_tests.specs.Ready.{IsReady};
+
+use af_fast::FastMixer;
+use crate::tests::{Ends, attach, begin, push_command, turn};
+use af_base::{Command, Memory, Steps};
+use af_cblk::{Block, FlagHand};
+use af_client::Client;
+use af_link::{Links, PipeIn, ReportReader, meet_pipe, meet_report};
+use af_server::Server;
+use std::alloc::Global;
+use std::marker::Brand;
+use std::sync::ledger::{Blank, Ledger};
+use std::test::*;
+
+// The ends meet by the two references that the mixer lends.
+fn meet_lent<L: Ledger>(
+    mixer: &mut FastMixer,
+    links: &Links<'_>,
+    reader: &mut ReportReader,
+    from: &mut PipeIn,
+    steps: &mut Steps<L>,
+)
+    requires linked { IsLinked links.now mixer.old }
+    requires reader { reader.old.cell ≡ links.now.report.now }
+    requires from { in_made from.old ≡ links.now.pipe.now }
+{
+    let (writer, pipe) = mixer.ends();
+    meet_report(links.report, writer, reader, steps);
+    meet_pipe(links.pipe, from, pipe, steps);
+}
+
+// The proxy of the only track is in slot 1, and meets its client there. Slot 2 has none.
+fn meets_held<L: Ledger>(
+    mixer: &mut FastMixer,
+    links: &Links<'_>,
+    block: &Block,
+    client: &mut Client,
+    hand: &mut FlagHand,
+    steps: &mut Steps<L>,
+) -> bool
+    requires order { IsInOrder mixer.old × IsLinked links.now mixer.old }
+    requires one { links.now.streams.now ≡ block.now ∷ [] }
+    requires block { IsClientOf block.now client.old × (hand_made hand.old ≡ block.now) }
+    ensures linked { IsLinked links.now mixer.new }
+{
+    if mixer.meet_held(links, 2, client, hand, steps) {
+        return false;
+    }
+    mixer.meet_held(links, 1, client, hand, steps)
+}
+
+// A proxy whose hand was split off is mixed and meets its client, and then the ends that the mixer lends meet.
+fn meets<L: Ledger>(alloc: Global, blank: Blank) -> Result<bool, Memory>
+    requires name { blank.name ≡ L.name }
+    requires parts { (blank.parts ≡ L.parts) × (0 < blank.parts) }
+{
+    let mut steps = Steps::<L>::start(blank);
+    let (block, client, server) = Block::make(alloc, 8, 0)?;
+    let mut client = Client::with(client, &block);
+    let mut server = Server::with(server, &block);
+    let mut hand = server.hand(&block, &mut steps);
+    let streams = [block];
+    let (shared, mut ends) = begin(alloc, &streams, 2, 4)?;
+    let links = shared.links(&streams);
+    attach(&mut ends.mutator, &links, 1, false, 0x1000, 0, server);
+    push_command(&mut ends.mutator, &links, Command::MixWrite, &mut steps);
+    turn(&mut ends, &links, &mut steps);
+    let Ends {
+        mut mixer,
+        mut reader,
+        mut pipe,
+        ..
+    } = ends;
+    let held = meets_held(
+        &mut mixer,
+        &links,
+        &streams[0],
+        &mut client,
+        &mut hand,
+        &mut steps,
+    );
+    meet_lent(&mut mixer, &links, &mut reader, &mut pipe, &mut steps);
+    Ok(held && mixer.observer().number() == 1)
+}
+
+#[test]
+fn a_held_proxy_and_lent_ends_meet(rt: HostRuntime) {
+    let found = meets::<Brand>(rt.alloc(), Blank::new(1));
+    assert!(rt; found == Ok(true));
+}

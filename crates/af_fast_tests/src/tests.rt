@@ -1,0 +1,292 @@
+//! What the tests of a mixer share: its ends, the calls on them, and what they may tell.
+ghost use Rattle.std.specs.Prelude.{◌≡◌, ◌+◌, ◌*◌, ◌^◌, ◌<◌, ◌≤◌, true, false, IfOk};
+ghost use Rattle.af_base.specs.Log.{slots};
+ghost use Rattle.af_cblk.specs.Sides.{client_made};
+ghost use Rattle.af_client.specs.Order.{IsInOrder as IsClientInOrder};
+ghost use Rattle.af_link.specs.Linked.{AreLinked};
+ghost use Rattle.af_link.specs.Names.{IsStreamOf};
+ghost use Rattle.af_link.specs.PipeEnds.{in_made, out_made};
+ghost use Rattle.af_fast.specs.Fits.{NamesBlocks};
+ghost use Rattle.af_fast.specs.Mixer.{IsInOrder, IsLinked};
+ghost use Rattle.af_fast_tests.specs.Ready.{IsReady};
+ghost use Rattle.af_fast.specs.Tracks.{tracks_of};
+
+use af_fast::FastMixer;
+use af_base::{
+    Command, Cycle, CycleEntry, FastLog, Frame, Memory, Push, Report, SLOTS, Seen, SlotEntry,
+    SlotReport, Steps,
+};
+use af_cblk::Block;
+use af_client::Client;
+use af_link::{
+    Links, PipeIn, ReportCell, ReportReader, StreamNames, first_report, pipe, report, stream_names,
+};
+use af_model::carries_item;
+use af_server::Server;
+use af_stateq::{Mutator, Queue, queue};
+use std::alloc::Global;
+use std::marker::Brand;
+use std::sync::ledger::{Blank, Ledger};
+use std::test::*;
+
+pub(crate) type Line = Queue<Server, StreamNames>;
+
+pub(crate) type Pushing = Mutator<Server, StreamNames>;
+
+/// What the parties of a run share, beside the blocks of its streams.
+#[derive(Drop)]
+pub(crate) struct Shared {
+    queue: Line,
+    pipe: Block,
+    report: ReportCell,
+}
+
+/// The ends that a test moves.
+#[derive(Drop)]
+pub(crate) struct Ends {
+    pub mutator: Pushing,
+    pub mixer: FastMixer,
+    pub reader: ReportReader,
+    pub pipe: PipeIn,
+}
+
+impl Shared {
+    /// The links of a run over these blocks.
+    pub(crate) fn links<'a>(&'a self, streams: &'a [Block]) -> Links<'a>
+        ensures queue { result.queue.now ≡ self.now.queue }
+        ensures streams { result.streams.now ≡ streams.now }
+        ensures pipe { result.pipe.now ≡ self.now.pipe }
+        ensures report { result.report.now ≡ self.now.report }
+    {
+        Links {
+            queue: &self.queue,
+            streams,
+            commands: &[],
+            pipe: &self.pipe,
+            report: &self.report,
+        }
+    }
+}
+
+/// A mixer of `cycles` entries and `frames` frames a cycle, with all other ends, over these blocks and a pipe of 64 frames.
+pub(crate) fn begin(
+    alloc: Global,
+    streams: &[Block],
+    cycles: usize,
+    frames: usize,
+) -> Result<(Shared, Ends), Memory>
+    requires cycles { (1 ≤ cycles) × (cycles ≤ 100000) }
+    requires frames { (1 ≤ frames) × (frames ≤ 16) }
+    ensures names { IfOk result (λ r. NamesBlocks r.1.mutator.past.key streams.now × NamesBlocks r.1.mixer.observer.past.key streams.now) }
+    ensures queue { IfOk result (λ r. (r.1.mutator.past.queue ≡ r.0.queue) × (r.1.mixer.observer.past.queue ≡ r.0.queue)) }
+    ensures report { IfOk result (λ r. (r.1.reader.cell ≡ r.0.report) × (r.1.mixer.writer.cell ≡ r.0.report)) }
+    ensures pipe { IfOk result (λ r. (in_made r.1.pipe ≡ r.0.pipe) × (out_made r.1.mixer.pipe ≡ r.0.pipe)) }
+    ensures order { IfOk result (λ r. IsInOrder r.1.mixer × (r.1.mixer.adopted ≡ false) × (r.1.mixer.frames ≡ frames)) }
+    ensures mutator { IfOk result (λ r. (r.1.mutator.past.number ≡ 0) × (r.1.mutator.editing ≡ false)) }
+{
+    let names = stream_names(streams);
+    let (queue, mutator, observer) = queue::<Server, StreamNames>(alloc, frames as u32, names)?;
+    let (pipe, from, to) = pipe(alloc, 64)?;
+    let (report, writer, reader) = report(alloc)?;
+    let mixer = FastMixer::make(alloc, observer, writer, to, cycles, frames)?;
+    let shared = Shared {
+        queue,
+        pipe,
+        report,
+    };
+    let ends = Ends {
+        mutator,
+        mixer,
+        reader,
+        pipe: from,
+    };
+    Ok((shared, ends))
+}
+
+/// Attaches the proxy of a track where the slot is free, and says whether it was.
+pub(crate) fn attach(
+    mutator: &mut Pushing,
+    links: &Links<'_>,
+    slot: u32,
+    mono: bool,
+    scale: u16,
+    track: u32,
+    server: Server,
+) -> bool
+    requires idle { mutator.old.editing ≡ false }
+    requires slot { (1 ≤ slot) × (slot < slots) }
+    requires scale { scale ≤ 4096 }
+    requires names { NamesBlocks mutator.old.past.key links.now.streams.now }
+    requires stream { IsStreamOf links.now.streams.now track server }
+    ensures same { (mutator.new.past ≡ mutator.old.past) × (mutator.new.editing ≡ false) }
+{
+    let draft = *mutator.draft();
+    if !mutator.is_free(slot)
+        || draft.tracks_gen > 999_999
+        || draft.slots[slot as usize].generation > 999_999
+    {
+        return false;
+    }
+    mutator.begin();
+    mutator.attach(slot, mono, scale, track, server);
+    mutator.end(true);
+    true
+}
+
+/// Detaches a slot where it is active, and says whether it was.
+pub(crate) fn detach(mutator: &mut Pushing, slot: u32) -> bool
+    requires idle { mutator.old.editing ≡ false }
+    requires slot { (1 ≤ slot) × (slot < slots) }
+    ensures same { (mutator.new.past ≡ mutator.old.past) × (mutator.new.editing ≡ false) }
+{
+    let draft = *mutator.draft();
+    if !carries_item(&draft, slot as usize) || draft.tracks_gen > 999_999 {
+        return false;
+    }
+    mutator.begin();
+    mutator.detach(slot);
+    mutator.end(true);
+    true
+}
+
+/// Sets the command, and pushes.
+pub(crate) fn push_command<L: Ledger>(
+    mutator: &mut Pushing,
+    links: &Links<'_>,
+    command: Command,
+    steps: &mut Steps<L>,
+) -> Push
+    requires idle { mutator.old.editing ≡ false }
+    requires queue { mutator.old.past.queue ≡ links.now.queue.now }
+    requires few { mutator.old.past.number < 1000000 }
+    ensures idle { mutator.new.editing ≡ false }
+    ensures same { (mutator.new.past.queue ≡ mutator.old.past.queue) × (mutator.new.past.key ≡ mutator.old.past.key) }
+    ensures few { mutator.new.past.number ≤ mutator.old.past.number + 1 }
+{
+    let draft = *mutator.draft();
+    mutator.begin();
+    if draft.cold_gen < 999_999 {
+        mutator.set_command(command);
+    }
+    mutator.end(true);
+    mutator.push(links.queue, steps)
+}
+
+/// One cycle of four frames takes at most 97 steps for seven tracks, and at most 385 for any.
+pub(crate) fn one_cycle<L: Ledger>(
+    mixer: &mut FastMixer,
+    links: &Links<'_>,
+    out: &mut [Frame; 4],
+    steps: &mut Steps<L>,
+) -> Cycle
+    requires linked { IsLinked links.now mixer.old }
+    requires order { IsInOrder mixer.old }
+    requires turn { mixer.old.adopted ≡ false }
+    requires frames { mixer.old.frames ≡ 4 }
+    ensures linked { IsLinked links.now mixer.new }
+    ensures order { IsInOrder mixer.new }
+    ensures turn { mixer.new.adopted ≡ false }
+    ensures frames { mixer.new.frames ≡ 4 }
+    ensures seven { tracks_of mixer.new.observer.past.state ≤ 7 → steps.new ≤ steps.old + 97 }
+    ensures most { steps.new ≤ steps.old + 385 }
+{
+    mixer.cycle(links, out, steps)
+}
+
+/// The frames of a cycle of a table.
+pub(crate) const FRAMES: usize = 4;
+
+/// What a cycle of a table answered and wrote, and the report after it.
+#[derive(Clone, Copy, Debug, PartialEq, Eq)]
+pub(crate) struct Turned {
+    pub cycle: Cycle,
+    pub out: [Frame; FRAMES],
+    pub report: Report,
+}
+
+/// What stands in `out` before each cycle.
+pub(crate) const BEFORE: Frame = Frame { left: 9, right: 9 };
+
+/// Makes a cycle, and loads the report.
+pub(crate) fn turn<L: Ledger>(ends: &mut Ends, links: &Links<'_>, steps: &mut Steps<L>) -> Turned
+    requires ready { IsReady links.now 4 ends.old.mutator ends.old.mixer ends.old.reader }
+    ensures ready { IsReady links.now 4 ends.new.mutator ends.new.mixer ends.new.reader }
+    ensures same { ends.new.mutator ≡ ends.old.mutator }
+    ensures pipe { ends.new.pipe ≡ ends.old.pipe }
+{
+    let mut out = [BEFORE; 4];
+    let cycle = one_cycle(&mut ends.mixer, links, &mut out, steps);
+    let report = ends.reader.load(links.report, steps);
+    Turned { cycle, out, report }
+}
+
+pub(crate) const SILENCE: Frame = Frame { left: 0, right: 0 };
+
+pub(crate) const ABSENT: SlotEntry = SlotEntry {
+    gains: 0,
+    flush: 0,
+    rear: 0,
+    seen: Seen::Absent,
+    first: 0,
+};
+
+/// An entry in which every slot is absent.
+pub(crate) fn still(state: u64, cycle: Cycle) -> CycleEntry {
+    CycleEntry {
+        state,
+        cycle,
+        slots: [ABSENT; SLOTS],
+        scales: [0; SLOTS],
+        mono: 0,
+    }
+}
+
+/// A slot at unity, on a block without flushes.
+pub(crate) fn at_unity(rear: u32, seen: Seen, first: usize) -> SlotEntry {
+    SlotEntry {
+        gains: 0x1000_1000,
+        flush: 0,
+        rear,
+        seen,
+        first,
+    }
+}
+
+/// The entry of a mix of slot 1 alone, at unity, where the pipe is empty.
+pub(crate) fn mixed_one(state: u64, slot: SlotEntry) -> CycleEntry {
+    let mut entry = still(state, Cycle::Mixed);
+    entry.slots[0] = at_unity(0, Seen::Empty, 0);
+    entry.slots[1] = slot;
+    entry.scales[0] = 0x1000;
+    entry.scales[1] = 0x1000;
+    entry
+}
+
+/// Whether these are the entries of a log, and these its frames.
+pub(crate) fn log_is(log: &FastLog, entries: &[CycleEntry], frames: &[Frame]) -> bool {
+    let mut same = log.len() == entries.len();
+    for (i, entry) in entries.iter().enumerate() {
+        same = same && log.entry(i) == Some(entry);
+    }
+    same && log.frames() == frames
+}
+
+/// The report after so many entries of a slot 1 of its first generation, without flushes.
+pub(crate) fn reported(cycle: u64, consumed: u64, partials: u32, empties: u32) -> Report {
+    let mut report = first_report();
+    report.cycle = cycle;
+    report.slots[1] = SlotReport {
+        consumed,
+        shut: false,
+        generation: 1,
+        flush_seen: 0,
+        fulls: 0,
+        partials,
+        empties,
+    };
+    report
+}
+
+pub(crate) fn outcome(cycle: Cycle, out: [Frame; 4], report: Report) -> Turned {
+    Turned { cycle, out, report }
+}

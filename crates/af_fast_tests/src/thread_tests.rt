@@ -1,0 +1,156 @@
+//! A mixer on one thread, and a client that writes on another.
+ghost use Rattle.std.specs.Prelude.{◌≡◌, ◌<◌, ◌≤◌, false, length};
+ghost use Rattle.af_cblk.specs.Sides.{client_made};
+ghost use Rattle.af_client.specs.Order.{IsInOrder as IsClientInOrder};
+ghost use Rattle.af_fast.specs.Mixer.{IsInOrder, IsLinked};
+
+use af_fast::FastMixer;
+use crate::tests::{BEFORE, SILENCE, attach, begin, push_command};
+use af_base::{Command, Cycle, Frame, Memory, Steps};
+use af_cblk::Block;
+use af_client::{Client, Wrote};
+use af_link::Links;
+use af_server::Server;
+use std::alloc::Global;
+use std::marker::Brand;
+use std::sync::ledger::{Blank, Ledger};
+use std::test::*;
+use std::thread::{Threads, join, yield_now};
+
+const CYCLES: usize = 20_000;
+
+const FRAMES: usize = 16;
+
+// How many frames are written.
+const TOTAL: u32 = 5_000;
+
+// How many calls the client makes at most.
+const MOST: u32 = 1_000_000;
+
+// The frames of the numbers up to the total, each with its number as its word.
+fn numbered(alloc: Global) -> Result<Vec<Frame>, Memory> {
+    let mut frames = Vec::new(alloc);
+    for number in 0..TOTAL {
+        frames.push(Frame::unpack(number))?;
+    }
+    Ok(frames)
+}
+
+// Whether a cycle wrote the frames from one place to another, and then silence.
+fn goes_on(out: &[Frame; FRAMES], frames: &[Frame], from: usize, to: usize) -> bool {
+    let to = to.min(frames.len());
+    let next = &frames[from.min(to)..to];
+    let mut right = next.len() <= FRAMES;
+    for i in 0..FRAMES {
+        let wanted = if i < next.len() { next[i] } else { SILENCE };
+        right = right && out[i] == wanted;
+    }
+    right
+}
+
+// Mixes until all frames came or the log is full. It answers whether each cycle's frames went on from those of the cycles before.
+fn mix_in<L: Ledger>(
+    blank: Blank,
+    links: &Links<'_>,
+    mut mixer: FastMixer,
+    frames: &[Frame],
+) -> bool
+    requires ledger { (blank.name ≡ L.name) × (blank.parts ≡ L.parts) × (0 < blank.parts) }
+    requires linked { IsLinked links.now mixer }
+    requires order { IsInOrder mixer }
+    requires turn { (mixer.adopted ≡ false) × (mixer.frames ≡ 16) }
+{
+    let mut steps = Steps::<L>::start(blank);
+    let mut out = [BEFORE; FRAMES];
+    let mut right = true;
+    for _ in 0..CYCLES {
+        let from = mixer.log().frames().len();
+        let cycle = mixer.cycle(links, &mut out, &mut steps);
+        let to = mixer.log().frames().len();
+        right = right && cycle == Cycle::Mixed && goes_on(&out, frames, from, to);
+        if to >= frames.len() {
+            break;
+        }
+        if to == from {
+            yield_now();
+        }
+    }
+    right
+}
+
+fn mix_all(links: &Links<'_>, mixer: FastMixer, frames: &[Frame]) -> bool
+    requires linked { IsLinked links.now mixer }
+    requires order { IsInOrder mixer }
+    requires turn { (mixer.adopted ≡ false) × (mixer.frames ≡ 16) }
+{
+    mix_in::<Brand>(Blank::new(1), links, mixer, frames)
+}
+
+// Writes the frames in order, as far as its calls go. It answers whether no call found the block dead or corrupt.
+fn write_in<L: Ledger>(blank: Blank, block: &Block, mut client: Client, frames: &[Frame]) -> bool
+    requires ledger { (blank.name ≡ L.name) × (blank.parts ≡ L.parts) × (0 < blank.parts) }
+    requires made { client_made client.pass ≡ block.now }
+    requires order { IsClientInOrder client }
+{
+    let mut steps = Steps::<L>::start(blank);
+    let mut rest = frames;
+    for _ in 0..MOST {
+        if rest.is_empty() || client.released() > 1 << 60 {
+            return true;
+        }
+        match client.write(block, rest, &mut steps) {
+            Wrote::Put { count, .. } => rest = &rest[count as usize..],
+            Wrote::Full { .. } => yield_now(),
+            _ => return false,
+        }
+    }
+    true
+}
+
+fn write_all(block: &Block, client: Client, frames: &[Frame]) -> bool
+    requires made { client_made client.pass ≡ block.now }
+    requires order { IsClientInOrder client }
+{
+    write_in::<Brand>(Blank::new(1), block, client, frames)
+}
+
+// Both on two threads, over a block of 48 frames.
+fn play<R: Threads + Sync, L: Ledger>(
+    rt: &R,
+    blank: Blank,
+    alloc: Global,
+) -> Result<(bool, bool), Memory>
+    requires ledger { (blank.name ≡ L.name) × (blank.parts ≡ L.parts) × (0 < blank.parts) }
+{
+    let mut steps = Steps::<L>::start(blank);
+    let frames = numbered(alloc)?;
+    let (block, client, server) = Block::make(alloc, 48, 0)?;
+    let client = Client::with(client, &block);
+    let server = Server::with(server, &block);
+    let streams = [block];
+    let (shared, mut ends) = begin(alloc, &streams, CYCLES, FRAMES)?;
+    let links = shared.links(&streams);
+    attach(&mut ends.mutator, &links, 1, false, 0x1000, 0, server);
+    push_command(&mut ends.mutator, &links, Command::MixWrite, &mut steps);
+    let mixer = ends.mixer;
+    let (links, block, frames) = (&links, &streams[0], frames.as_slice());
+    Ok(join(
+        rt,
+        move || -> bool
+            requires { IsLinked links.now mixer × IsInOrder mixer × (mixer.adopted ≡ false) × (mixer.frames ≡ 16) }
+        { mix_all(links, mixer, frames) },
+        move || -> bool
+            requires { (client_made client.pass ≡ block.now) × IsClientInOrder client }
+        { write_all(block, client, frames) },
+    ))
+}
+
+fn plays<R: Threads + Sync>(rt: &R, alloc: Global) -> Result<(bool, bool), Memory> {
+    play::<R, Brand>(rt, Blank::new(1), alloc)
+}
+
+#[test]
+fn frames_go_on_from_cycle_to_cycle(rt: HostRuntime) {
+    let found = plays(&rt, rt.alloc());
+    assert!(rt; found == Ok((true, true)));
+}
