@@ -1,5 +1,13 @@
-//! Tests of journals' texts, of static buffers and of logs of notes.
+//! Tests of journals' texts, of what a client wants, and of logs of notes.
 #![tactic(auto)]
 
 #[cfg(test)]
+mod building_tests;
+#[cfg(test)]
+mod client_tests;
+#[cfg(test)]
+mod line_tests;
+#[cfg(test)]
 mod note_tests;
+#[cfg(test)]
+mod reading_tests;

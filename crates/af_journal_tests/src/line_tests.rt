@@ -1,5 +1,5 @@
 //! Lines of each kind, and a small journal with its text.
-use crate::{Line, write};
+use af_journal::{Line, write};
 use af_base::{
     ClientCall, Cycle, CycleEntry, FastLog, Memory, Push, SLOTS, Seen, SlotEntry, TurnEntry,
 };

@@ -1,15 +1,9 @@
 //! Texts that are read and written again, what a journal says that was read, and texts that aren't read.
-use crate::building::{JournalFault, build, read};
-use crate::reading_tests::text_with;
-use crate::writing::write;
+use crate::reading_tests::{script, text_with};
 use af_base::{Cycle, Frame, Memory, Seen};
-use af_script::read as read_script;
+use af_journal::{JournalFault, read, write};
 use std::alloc::Global;
 use std::test::Fail;
-
-// A script of two tracks.
-const SCRIPT: &str =
-    "version = 1\nframes = 2\nnormal = 1\ncycles = 4\nturns = []\n[[track]]\nkind = 'fast'\nframes = 8\nchannels = 2\nfile = 'tone.pcm'\nops = ['open']\n[[track]]\nkind = 'normal'\nframes = 8\nchannels = 1\nfile = 'tone.pcm'\nops = ['open']\n";
 
 // How many lines of the text of all kinds of line are a text.
 const WHOLE: [usize; 13] = [0, 1, 3, 11, 18, 20, 21, 25, 26, 27, 28, 29, 30];
@@ -28,7 +22,7 @@ const TEXTS: [(&str, usize, u64); 8] = [
 
 // Whether a text is read for two tracks, and written as it was.
 fn comes_back(alloc: Global, text: &[u8]) -> Result<bool, Memory> {
-    let Ok(journal) = build(alloc, text, 2) else {
+    let Ok(journal) = read(alloc, text, &script(alloc)?) else {
         return Ok(false);
     };
     let mut out = Vec::new(alloc);
@@ -48,10 +42,7 @@ fn all_come_back(alloc: Global) -> Result<bool, Memory> {
 
 // How many rounds a text has for the script, or else the number of its first bad line.
 fn outcome(alloc: Global, text: &str) -> Result<(usize, u64), Memory> {
-    let Ok(script) = read_script(alloc, SCRIPT.as_bytes()) else {
-        return Err(Memory);
-    };
-    match read(alloc, text.as_bytes(), &script) {
+    match read(alloc, text.as_bytes(), &script(alloc)?) {
         Ok(journal) => Ok((journal.rounds(), 0)),
         Err(JournalFault::Line { number }) => Ok((0, number)),
         Err(JournalFault::Memory) => Err(Memory),
@@ -75,7 +66,7 @@ fn texts_have_rounds_or_a_bad_line(rt: HostRuntime) -> Result<(), Fail> {
 #[test]
 fn a_journal_says_what_its_text_said(rt: HostRuntime) -> Result<(), Fail> {
     let text = text_with(rt.alloc(), 30, 30, "")?;
-    let Ok(journal) = build(rt.alloc(), text.as_bytes(), 2) else {
+    let Ok(journal) = read(rt.alloc(), text.as_bytes(), &script(rt.alloc())?) else {
         return Err(Memory.into());
     };
     assert_eq!(rt; journal.rounds(), 3);
