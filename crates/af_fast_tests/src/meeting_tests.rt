@@ -15,6 +15,7 @@ use af_link::{Links, PipeIn, ReportReader, meet_pipe, meet_report};
 use af_server::Server;
 use std::alloc::Global;
 use std::marker::Brand;
+use std::mem::drop;
 use std::sync::ledger::{Blank, Ledger};
 use std::test::*;
 
@@ -72,11 +73,12 @@ fn meets<L: Ledger>(alloc: Global, blank: Blank) -> Result<bool, Memory>
     push_command(&mut ends.mutator, &links, Command::MixWrite, &mut steps);
     turn(&mut ends, &links, &mut steps);
     let Ends {
+        mutator,
         mut mixer,
         mut reader,
         mut pipe,
-        ..
     } = ends;
+    drop(mutator);
     let held = meets_held(
         &mut mixer,
         &links,
@@ -86,7 +88,12 @@ fn meets<L: Ledger>(alloc: Global, blank: Blank) -> Result<bool, Memory>
         &mut steps,
     );
     meet_lent(&mut mixer, &links, &mut reader, &mut pipe, &mut steps);
-    Ok(held && mixer.observer().number() == 1)
+    let polled = mixer.observer().number() == 1;
+    drop(mixer);
+    drop(reader);
+    drop(pipe);
+    drop(client);
+    Ok(held && polled)
 }
 
 #[test]

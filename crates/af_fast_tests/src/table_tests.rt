@@ -16,6 +16,7 @@ use af_model::mix_entry;
 use af_server::Server;
 use std::alloc::Global;
 use std::marker::Brand;
+use std::mem::drop;
 use std::sync::ledger::{Blank, Ledger};
 
 /// The first eight multiples of a word, as frames.
@@ -352,14 +353,14 @@ fn is_mix(log: &FastLog, told: Told) -> bool {
 
 // Makes the steps of a table. It answers how many told what they should, each cycle with the mix of its entry, and whether the log is right, where entries are given.
 fn play_all<L: Ledger>(
-    mut table: Table,
+    table: &mut Table,
     links: &Links<'_>,
     rows: &[Row],
     entries: &[CycleEntry],
     frames: &[Frame],
     steps: &mut Steps<L>,
 ) -> (usize, bool)
-    requires { IsTable links.now table.ends.mutator table.ends.mixer table.ends.reader table.ends.pipe table.clients.items table.servers.items table.pushes }
+    requires { IsTable links.now table.old.ends.mutator table.old.ends.mixer table.old.ends.reader table.old.ends.pipe table.old.clients.items table.old.servers.items table.old.pushes }
 {
     let mut right = 0;
     for (step, wanted) in rows {
@@ -416,13 +417,15 @@ fn plays_in<L: Ledger>(
     let (streams, clients, servers) = lines(alloc, sizes)?;
     let (shared, ends) = begin(alloc, &streams, cycles, FRAMES)?;
     let links = shared.links(&streams);
-    let table = Table {
+    let mut table = Table {
         ends,
         clients,
         servers,
         pushes: 0,
     };
-    Ok(play_all(table, &links, rows, entries, frames, &mut steps))
+    let told = play_all(&mut table, &links, rows, entries, frames, &mut steps);
+    drop(table);
+    Ok(told)
 }
 
 /// Makes the steps of a table over blocks of these sizes, with a mixer of so many entries on four frames a cycle. It answers how many told what they should, and whether the log then has these entries and frames, where entries are given.

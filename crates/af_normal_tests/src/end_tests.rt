@@ -11,6 +11,7 @@ use af_life::{OPEN, REMOVE};
 use af_link::Links;
 use std::alloc::Global;
 use std::marker::Brand;
+use std::mem::drop;
 use std::sync::ledger::{Blank, Ledger};
 use std::test::*;
 
@@ -73,7 +74,9 @@ fn ends_in<L: Ledger>(alloc: Global, blank: Blank) -> Result<bool, Memory>
         polls(1),
     ];
     let played = world.plays(&links, &rows, &mut steps);
-    Ok(played && stays_ended(&mut world.mixer, &links, &mut steps))
+    let ended = played && stays_ended(&mut world.mixer, &links, &mut steps);
+    drop(world);
+    Ok(ended)
 }
 
 #[test]

@@ -19,6 +19,7 @@ use af_server::Server;
 use af_stateq::{Mutator, Queue, queue};
 use std::alloc::Global;
 use std::marker::Brand;
+use std::mem::drop;
 use std::sync::ledger::{Blank, Ledger};
 
 /// What a track is made of.
@@ -206,12 +207,12 @@ pub(crate) type Row = (Step, Told);
 
 // Whether each step of a table tells what it should.
 fn play_all<L: Ledger>(
-    mut world: World,
+    world: &mut World,
     links: &Links<'_>,
     rows: &[Row],
     steps: &mut Steps<L>,
 ) -> bool
-    requires { IsWorld links.now world.mixer world.others.observer world.others.writer world.others.pipe world.others.report world.others.streams.items world.others.commands.items }
+    requires { IsWorld links.now world.old.mixer world.old.others.observer world.old.others.writer world.old.others.pipe world.old.others.report world.old.others.streams.items world.old.others.commands.items }
 {
     for (step, wanted) in rows {
         let told = world.does(links, *step, steps);
@@ -238,8 +239,10 @@ fn plays_in<L: Ledger>(
     let mut steps = Steps::<L>::start(blank);
     let (shared, parts) = begin(alloc, kinds, frames, normal)?;
     let links = shared.links();
-    let world = parts.join(alloc, &links, frames, normal)?;
-    Ok(play_all(world, &links, rows, &mut steps))
+    let mut world = parts.join(alloc, &links, frames, normal)?;
+    let told = play_all(&mut world, &links, rows, &mut steps);
+    drop(world);
+    Ok(told)
 }
 
 // Whether each step of a table over new blocks tells what it should, for one to 32 tracks and up to 1,024 frames a cycle and 16 cycles a buffer.
