@@ -1,4 +1,4 @@
-//! Tests of journals' texts, of what a client wants, and of logs of notes.
+//! Tests of journals' texts, of what a client wants, of static buffers and of logs of notes.
 #![tactic(auto)]
 
 #[cfg(test)]
@@ -11,3 +11,7 @@ mod line_tests;
 mod note_tests;
 #[cfg(test)]
 mod reading_tests;
+#[cfg(test)]
+mod static_tests;
+#[cfg(test)]
+mod static_threads;

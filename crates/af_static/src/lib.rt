@@ -13,8 +13,3 @@ pub use ends::{Player, Setter, Shared, Unrolled, make, meet_static};
 pub use head::Head;
 pub use in_hand::InHand;
 pub use setting::Setting;
-
-#[cfg(test)]
-mod tests;
-#[cfg(test)]
-mod thread_tests;

@@ -3,8 +3,8 @@ ghost use Rattle.std.specs.Prelude.{◌≡◌, ◌<◌, ◌≤◌};
 ghost use Rattle.af_latest.specs.Laws.{stores};
 ghost use Rattle.af_static.specs.Ends.{IsPlayerOf};
 
-use crate::tests::{NEW, Numbers, Plain, call, counted};
-use crate::{Player, Setter, Shared, make};
+use crate::static_tests::{NEW, Numbers, Plain, call, counted};
+use af_static::{Player, Setter, Shared, make};
 use af_base::{Frame, Memory, Steps};
 use std::alloc::Global;
 use std::marker::Brand;

@@ -1,6 +1,6 @@
 use Rattle.std.proofs.Common.{◌≡◌, ◌+◌, ◌≤◌}
 use Rattle.af_latest.specs.Laws.{stores}
-use Rattle.af_static.proofs.thread_tests.set_in.Given as goal
+use Rattle.af_journal_tests.proofs.static_threads.set_in.Given as goal
 
 abbrev pub invariant-loop-number : goal.invariant-loop-number
 invariant-loop-number g l = record {

@@ -2,7 +2,7 @@
 ghost use Rattle.std.specs.Prelude.{◌≡◌, ◌<◌};
 ghost use Rattle.af_static.specs.Ends.{IsPlayerOf};
 
-use crate::{InHand, Player, Shared, Unrolled, make};
+use af_static::{InHand, Player, Shared, Unrolled, make};
 use af_base::{Frame, Gains, Memory, Steps};
 use std::alloc::Global;
 use std::marker::Brand;
