@@ -26,7 +26,6 @@ use af_party::Party;
 use af_script::Script;
 use af_tally::{Summary, Tally};
 use std::alloc::Global;
-use std::mem::drop;
 use std::marker::Model;
 use std::mem::drop;
 
