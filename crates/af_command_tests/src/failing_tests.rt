@@ -2,9 +2,9 @@
 ghost use Rattle.std.specs.Prelude.{◌≡◌, None};
 ghost use Rattle.af_io.specs.Causes.{HasCause};
 
+use crate::ending_tests::{LOOP, RECORD, RENDER, expect, numbered, sink, words_of};
 use crate::playing_tests::loud;
 use af_commands::run;
-use crate::ending_tests::{LOOP, RECORD, RENDER, expect, numbered, sink, words_of};
 use af_io::{Load, MemSink, MemStore, NoGate, Store, StoreError};
 use std::alloc::Global;
 use std::process::Abort;

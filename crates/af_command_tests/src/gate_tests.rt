@@ -1,6 +1,6 @@
 //! A gate by which two parties are seen to begin their turns side by side.
-use af_commands::run;
 use crate::ending_tests::{sink, words_of};
+use af_commands::run;
 use af_io::{Gate, MemStore, Pcm, frames_of};
 use af_script::{Script, read};
 use af_session::{have_files, play};

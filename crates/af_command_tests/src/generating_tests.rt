@@ -1,6 +1,6 @@
 //! A session that is generated, and each call of the store that it makes failing in turn.
-use af_commands::run;
 use crate::ending_tests::words_of;
+use af_commands::run;
 use af_io::{MemSink, MemStore, NoGate};
 use std::alloc::Global;
 use std::process::Abort;

@@ -1,6 +1,6 @@
 //! Plays: what is the same however the turns of the parties fall.
-use af_commands::run;
 use crate::ending_tests::{numbered, words_of};
+use af_commands::run;
 use af_io::{MemSink, MemStore, NoGate};
 use std::alloc::Global;
 use std::process::Abort;

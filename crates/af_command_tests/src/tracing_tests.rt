@@ -1,7 +1,7 @@
 //! Traces: the log of a play, whatever the order of its parties' turns.
+use crate::ending_tests::{numbered, words_of};
 use crate::playing_tests::WHOLE;
 use af_commands::run;
-use crate::ending_tests::{numbered, words_of};
 use af_io::{MemSink, MemStore, NoGate};
 use std::alloc::Global;
 use std::process::Abort;

@@ -1,7 +1,7 @@
 //! What is verified: a play, and what was made of its sound and its journal.
+use crate::ending_tests::{expect, numbered, sink, words_of};
 use crate::playing_tests::WHOLE;
 use af_commands::run;
-use crate::ending_tests::{expect, numbered, sink, words_of};
 use af_io::{MemSink, MemStore, NoGate};
 use std::alloc::Global;
 use std::process::Abort;

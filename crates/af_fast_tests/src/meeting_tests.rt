@@ -6,11 +6,11 @@ ghost use Rattle.af_fast.specs.Mixer.{IsInOrder, IsLinked};
 ghost use Rattle.af_client.specs.Order.{IsClientOf};
 ghost use Rattle.af_fast_tests.specs.Ready.{IsReady};
 
-use af_fast::FastMixer;
 use crate::tests::{Ends, attach, begin, push_command, turn};
 use af_base::{Command, Memory, Steps};
 use af_cblk::{Block, FlagHand};
 use af_client::Client;
+use af_fast::FastMixer;
 use af_link::{Links, PipeIn, ReportReader, meet_pipe, meet_report};
 use af_server::Server;
 use std::alloc::Global;

@@ -11,13 +11,13 @@ ghost use Rattle.af_fast.specs.Mixer.{IsInOrder, IsLinked};
 ghost use Rattle.af_fast_tests.specs.Ready.{IsReady};
 ghost use Rattle.af_fast.specs.Tracks.{tracks_of};
 
-use af_fast::FastMixer;
 use af_base::{
     Command, Cycle, CycleEntry, FastLog, Frame, Memory, Push, Report, SLOTS, Seen, SlotEntry,
     SlotReport, Steps,
 };
 use af_cblk::Block;
 use af_client::Client;
+use af_fast::FastMixer;
 use af_link::{
     Links, PipeIn, ReportCell, ReportReader, StreamNames, first_report, pipe, report, stream_names,
 };

@@ -4,11 +4,11 @@ ghost use Rattle.af_cblk.specs.Sides.{client_made};
 ghost use Rattle.af_client.specs.Order.{IsInOrder as IsClientInOrder};
 ghost use Rattle.af_fast.specs.Mixer.{IsInOrder, IsLinked};
 
-use af_fast::FastMixer;
 use crate::tests::{BEFORE, SILENCE, attach, begin, push_command};
 use af_base::{Command, Cycle, Frame, Memory, Steps};
 use af_cblk::Block;
 use af_client::{Client, Wrote};
+use af_fast::FastMixer;
 use af_link::Links;
 use af_server::Server;
 use std::alloc::Global;

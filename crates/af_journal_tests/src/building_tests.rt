@@ -102,8 +102,7 @@ fn tells_turn(journal: &Journal) -> bool {
     let Some(take) = turn.mixes.as_slice().first() else {
         return false;
     };
-    track.status == Some(258)
-        && take.frames.as_slice() == [Frame { left: -1, right: 1 }].as_slice()
+    track.status == Some(258) && take.frames.as_slice() == [Frame { left: -1, right: 1 }].as_slice()
 }
 
 // Whether the whole text says so.

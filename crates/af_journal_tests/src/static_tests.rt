@@ -2,8 +2,8 @@
 ghost use Rattle.std.specs.Prelude.{◌≡◌, ◌<◌};
 ghost use Rattle.af_static.specs.Ends.{IsPlayerOf};
 
-use af_static::{InHand, Player, Shared, Unrolled, make};
 use af_base::{Frame, Gains, Memory, Steps};
+use af_static::{InHand, Player, Shared, Unrolled, make};
 use std::alloc::Global;
 use std::marker::Brand;
 use std::sync::ledger::{Blank, Ledger};

@@ -4,8 +4,8 @@ ghost use Rattle.af_latest.specs.Laws.{stores};
 ghost use Rattle.af_static.specs.Ends.{IsPlayerOf};
 
 use crate::static_tests::{NEW, Numbers, Plain, call, counted};
-use af_static::{Player, Setter, Shared, make};
 use af_base::{Frame, Memory, Steps};
+use af_static::{Player, Setter, Shared, make};
 use std::alloc::Global;
 use std::marker::Brand;
 use std::sync::ledger::{Blank, Ledger};

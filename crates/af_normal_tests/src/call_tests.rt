@@ -1,5 +1,4 @@
 //! What turns answer, store and push, by tables of steps.
-use af_normal::Turn;
 use crate::table_tests::{
     FAST, Kind, busy, clears, ends, flushes, has_slot, heard, mixes, plays, pokes, polls, pushed,
     reports, saw, sends, status_is, turns, writes,
@@ -7,6 +6,7 @@ use crate::table_tests::{
 use crate::tests::{Step, Told};
 use af_base::{Memory, Push};
 use af_life::{OPEN, PAUSE, REMOVE, START, STOP};
+use af_normal::Turn;
 use std::alloc::Global;
 use std::test::*;
 

@@ -4,11 +4,11 @@ ghost use Rattle.af_server.specs.Order.{IsServerOf};
 ghost use Rattle.af_party.specs.Asking.{HasBlocks};
 ghost use Rattle.af_party.specs.Works.{CanWork, IsFittingOp, flushes_to_come, frames_to_come};
 
-use af_party::Party;
 use af_base::{ClientCall, DISABLED, Frame, INVALID, Items, Memory, Seen, Steps};
 use af_cblk::Block;
 use af_client::Client as Proxy;
 use af_life::{OPEN, REMOVE, START, STOP};
+use af_party::Party;
 use af_runs::Client;
 use af_script::Op;
 use af_server::Server;

@@ -5,10 +5,10 @@ ghost use Rattle.af_normal.specs.Order.{IsInOrder};
 ghost use Rattle.af_normal.specs.declared.turn.Turn.TheVariants.{Ended};
 
 use crate::table_tests::{FAST, begin, polls, pushed, sends, turns};
-use af_normal::{NormalMixer, Turn};
 use af_base::{Memory, Push, Steps, TurnEntry};
 use af_life::{OPEN, REMOVE};
 use af_link::Links;
+use af_normal::{NormalMixer, Turn};
 use std::alloc::Global;
 use std::marker::Brand;
 use std::mem::drop;

@@ -10,12 +10,12 @@ use crate::table_tests::{
     turns, writes,
 };
 use crate::tests::{Others, Step, Told, World};
-use af_normal::{NormalMixer, TrackHand};
 use af_base::{Memory, Push, Steps};
 use af_cblk::Block;
 use af_client::Client;
 use af_life::{OPEN, PAUSE, REMOVE, START, STOP};
 use af_link::{Links, meet_flag};
+use af_normal::{NormalMixer, TrackHand};
 use std::alloc::Global;
 use std::marker::Brand;
 use std::sync::ledger::{Blank, Ledger};

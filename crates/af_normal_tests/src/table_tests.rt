@@ -6,7 +6,6 @@ ghost use Rattle.af_normal_tests.specs.Testing.{AreLines, AreOthers, IsLine, IsW
 
 use crate::stream_tests::new_block;
 use crate::tests::{NO_FRAME, Others, Step, Told, World};
-use af_normal::{NormalMixer, TrackSetup, Tracks, Turn};
 use af_base::{Frame, Memory, Push, Steps};
 use af_cblk::Block;
 use af_client::Client;
@@ -15,6 +14,7 @@ use af_link::{
     stream_names,
 };
 use af_model::Poll;
+use af_normal::{NormalMixer, TrackSetup, Tracks, Turn};
 use af_server::Server;
 use af_stateq::{Mutator, Queue, queue};
 use std::alloc::Global;

@@ -7,12 +7,12 @@ ghost use Rattle.af_normal_tests.specs.Testing.{AreClients, AreOthers, IsWorld};
 
 use crate::held_tests::{command_of, plays_slot};
 use crate::meeting_tests::disables;
-use af_normal::{NormalMixer, Turn};
 use af_base::{Command, FastTrack, Frame, Report, SLOTS, Seen, SlotReport, Steps, TurnEntry};
 use af_cblk::Block;
 use af_client::{Client, Sent};
 use af_link::{Links, PipeOut, ReportWriter, StreamNames};
 use af_model::{Poll, carries_item};
+use af_normal::{NormalMixer, Turn};
 use af_server::Server;
 use af_stateq::Observer;
 use std::sync::ledger::Ledger;
