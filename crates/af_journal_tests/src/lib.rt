@@ -1,4 +1,4 @@
-//! Tests of journals' texts, of what a client wants, of static buffers and of logs of notes.
+//! Tests of journals' texts, of what a client wants and of static buffers.
 #![tactic(auto)]
 
 #[cfg(test)]
@@ -7,8 +7,6 @@ mod building_tests;
 mod client_tests;
 #[cfg(test)]
 mod line_tests;
-#[cfg(test)]
-mod note_tests;
 #[cfg(test)]
 mod reading_tests;
 #[cfg(test)]
