@@ -9,6 +9,7 @@ use Rattle.af_base.specs.Log.{Logged}
 use Rattle.af_base.specs.Roomy.{Roomy}
 use Rattle.af_model.specs.Cycles.{is_mixed}
 use Rattle.af_fast.specs.Mixer.{MixerState}
+use Rattle.af_link.specs.declared.links.Links.{Links}
 use Rattle.af_session.specs.Alone.{CyclesOn, CyclesOnce, FastTurned, most_cycles}
 use Rattle.af_session.specs.FastTurns.{TurnAdds}
 use Rattle.af_tally.specs.Sound.{IsMixed, IsWhole, pcm_of}
@@ -19,36 +20,36 @@ use Rattle.af_tally.proofs.Sounding.{grows_not}
 -- ## A chain
 
 -- After i cycles that wrote `front` the mixer is `now`: what the other cycles do from there on completes the turn
-abbrev pub ComesTo : ℕ → ℕ → MixerState → MixerState → List ℕ → Type 0
-ComesTo count i first now front = (left : ℕ) (back : List ℕ) (last : MixerState) → left + i ≡ count → CyclesOn left now back last → CyclesOn count first (front ++ back) last
+abbrev pub ComesTo : Links → ℕ → ℕ → MixerState → MixerState → List ℕ → Type 0
+ComesTo links count i first now front = (left : ℕ) (back : List ℕ) (last : MixerState) → left + i ≡ count → CyclesOn links left now back last → CyclesOn links count first (front ++ back) last
 
 -- at the beginning
-pub comes_first : (count : ℕ) (first : MixerState) → ComesTo count 0 first first []
-comes_first count first left back last is turn = subst (λ (n : ℕ). CyclesOn n first back last) (sym (add-zero left) ∙ is) turn
+pub comes_first : (links : Links) (count : ℕ) (first : MixerState) → ComesTo links count 0 first first []
+comes_first links count first left back last is turn = subst (λ (n : ℕ). CyclesOn links n first back last) (sym (add-zero left) ∙ is) turn
 
 -- after one more mix
-pub comes_on : (count i : ℕ) (first now next : MixerState) (answer : Cycle) (front more : List ℕ) → ComesTo count i first now front → CyclesOnce now answer more next → is_mixed answer ≡ true → ComesTo count (i + 1) first next (front ++ more)
-comes_on count i first now next answer front more comes w mixed left back last is turn =
-    let whole : CyclesOn (suc left) now (more ++ back) last = (answer, next, more, back, w, refl, λ _. turn, λ dry. absurd (true≢false (sym mixed ∙ dry))) in
-    subst (λ (bytes : List ℕ). CyclesOn count first bytes last) (sym (append_assoc front more back)) (comes (suc left) (more ++ back) last (omega (arith, is)) whole)
+pub comes_on : (links : Links) (count i : ℕ) (first now next : MixerState) (answer : Cycle) (front more : List ℕ) → ComesTo links count i first now front → CyclesOnce links now answer more next → is_mixed answer ≡ true → ComesTo links count (i + 1) first next (front ++ more)
+comes_on links count i first now next answer front more comes w mixed left back last is turn =
+    let whole : CyclesOn links (suc left) now (more ++ back) last = (answer, next, more, back, w, refl, λ _. turn, λ dry. absurd (true≢false (sym mixed ∙ dry))) in
+    subst (λ (bytes : List ℕ). CyclesOn links count first bytes last) (sym (append_assoc front more back)) (comes (suc left) (more ++ back) last (omega (arith, is)) whole)
 
 -- where all cycles were made
-pub comes_whole : (count : ℕ) (first now : MixerState) (front : List ℕ) → ComesTo count count first now front → CyclesOn count first front now
-comes_whole count first now front comes = subst (λ (bytes : List ℕ). CyclesOn count first bytes now) (append-nil front) (comes 0 [] now (omega arith) (refl, refl))
+pub comes_whole : (links : Links) (count : ℕ) (first now : MixerState) (front : List ℕ) → ComesTo links count count first now front → CyclesOn links count first front now
+comes_whole links count first now front comes = subst (λ (bytes : List ℕ). CyclesOn links count first bytes now) (append-nil front) (comes 0 [] now (omega arith) (refl, refl))
 
 -- where a cycle mixes nothing
-pub comes_over : (count i : ℕ) (first now next : MixerState) (answer : Cycle) (front more : List ℕ) → ComesTo count i first now front → CyclesOnce now answer more next → is_mixed answer ≡ false → i < count
-    → CyclesOn count first (front ++ more) next
-comes_over count i first now next answer front more comes w dry lt =
+pub comes_over : (links : Links) (count i : ℕ) (first now next : MixerState) (answer : Cycle) (front more : List ℕ) → ComesTo links count i first now front → CyclesOnce links now answer more next → is_mixed answer ≡ false → i < count
+    → CyclesOn links count first (front ++ more) next
+comes_over links count i first now next answer front more comes w dry lt =
     let left : ℕ = count - i - 1 in
-    let turn : CyclesOn (suc left) now more next = (answer, next, more, [], w, sym (append-nil more), (λ mixed. absurd (true≢false (sym mixed ∙ dry))), λ _. (refl, refl)) in
+    let turn : CyclesOn links (suc left) now more next = (answer, next, more, [], w, sym (append-nil more), (λ mixed. absurd (true≢false (sym mixed ∙ dry))), λ _. (refl, refl)) in
     comes (suc left) more next (omega arith) turn
 
 -- ## What is added
 
 -- by one cycle
-pub once_adds : (m m' : MixerState) (answer : Cycle) (bytes : List ℕ) → IsWhole m.log → CyclesOnce m answer bytes m' → AddsOne m.frames answer m.log m'.log bytes
-once_adds m m' answer bytes whole w =
+pub once_adds : (links : Links) (m m' : MixerState) (answer : Cycle) (bytes : List ℕ) → IsWhole m.log → CyclesOnce links m answer bytes m' → AddsOne m.frames answer m.log m'.log bytes
+once_adds links m m' answer bytes whole w =
     let polled = polled_keeps m w.polled w.adopts in
     let adds = mix_adds w.polled m' w.before w.after answer (w.long ∙ sym polled.1) (subst IsWhole (sym polled.0) whole) w.mixes in
     let of_log = subst (λ (l : Logged). AddsOne w.polled.frames answer l m'.log (written answer w.after)) polled.0 adds in
@@ -81,26 +82,26 @@ none_added len count log log' whole same = record {
 }
 
 -- by the cycles of a turn
-pub cycles_add : (left : ℕ) (m m' : MixerState) (bytes : List ℕ) → IsWhole m.log → CyclesOn left m bytes m' → TurnAdds m.frames left m.log m'.log bytes
-cycles_add zero m m' bytes whole turn = subst (TurnAdds m.frames zero m.log m'.log) (sym turn.0) (none_added m.frames zero m.log m'.log whole (ap (λ (y : MixerState). y.log) turn.1))
-cycles_add (suc left) m m' bytes whole (answer, next, front, back, cycle, bytes_are, more, over) =
-    let first = once_adds m next answer front whole cycle in
+pub cycles_add : (links : Links) (left : ℕ) (m m' : MixerState) (bytes : List ℕ) → IsWhole m.log → CyclesOn links left m bytes m' → TurnAdds m.frames left m.log m'.log bytes
+cycles_add links zero m m' bytes whole turn = subst (TurnAdds m.frames zero m.log m'.log) (sym turn.0) (none_added m.frames zero m.log m'.log whole (ap (λ (y : MixerState). y.log) turn.1))
+cycles_add links (suc left) m m' bytes whole (answer, next, front, back, cycle, bytes_are, more, over) =
+    let first = once_adds links m next answer front whole cycle in
     subst (TurnAdds m.frames (suc left) m.log m'.log) (sym bytes_are)
-    (on_step left m next m' answer front back first cycle.sizes.0 (λ mixed. cycles_add left next m' back first.grows.whole (more mixed)) over)
+    (on_step left m next m' answer front back first cycle.sizes.0 (λ mixed. cycles_add links left next m' back first.grows.whole (more mixed)) over)
 
 -- by a turn
-pub turned_adds : (m m' : MixerState) (bytes : List ℕ) → IsWhole m.log → FastTurned m bytes m' → TurnAdds m.frames most_cycles m.log m'.log bytes
-turned_adds m m' bytes whole turned = by_exit m.exited turned
+pub turned_adds : (links : Links) (m m' : MixerState) (bytes : List ℕ) → IsWhole m.log → FastTurned links m bytes m' → TurnAdds m.frames most_cycles m.log m'.log bytes
+turned_adds links m m' bytes whole turned = by_exit m.exited turned
   where
-    by_exit : (exited : Bool) → MatchBool exited ((bytes ≡ []) × (m' ≡ m)) (CyclesOn most_cycles m bytes m') → TurnAdds m.frames most_cycles m.log m'.log bytes
+    by_exit : (exited : Bool) → MatchBool exited ((bytes ≡ []) × (m' ≡ m)) (CyclesOn links most_cycles m bytes m') → TurnAdds m.frames most_cycles m.log m'.log bytes
     by_exit true done = subst (TurnAdds m.frames most_cycles m.log m'.log) (sym done.0) (none_added m.frames most_cycles m.log m'.log whole (ap (λ (y : MixerState). y.log) done.1))
-    by_exit false done = cycles_add most_cycles m m' bytes whole done
+    by_exit false done = cycles_add links most_cycles m m' bytes whole done
 
 -- bytes that were the sound of the log, behind others, are so again
-pub sounds_on : (m m' : MixerState) (bytes bytes' : Roomy ℕ) (added before : List ℕ) → IsWhole m.log → FastTurned m added m' → bytes' ≡ record bytes { items = bytes.items ++ added }
+pub sounds_on : (links : Links) (m m' : MixerState) (bytes bytes' : Roomy ℕ) (added before : List ℕ) → IsWhole m.log → FastTurned links m added m' → bytes' ≡ record bytes { items = bytes.items ++ added }
     → before ++ bytes.items ≡ pcm_of m.frames m.log → before ++ bytes'.items ≡ pcm_of m.frames m'.log
-sounds_on m m' bytes bytes' added before whole turned is same =
-    let adds = turned_adds m m' added whole turned in
+sounds_on links m m' bytes bytes' added before whole turned is same =
+    let adds = turned_adds links m m' added whole turned in
     ap (λ (y : Roomy ℕ). before ++ y.items) is
     ∙ sym (append_assoc before bytes.items added)
     ∙ ap (λ (l : List ℕ). l ++ added) same

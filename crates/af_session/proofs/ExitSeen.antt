@@ -24,6 +24,7 @@ use Rattle.af_life.specs.Heard.{learnt}
 use Rattle.af_life.specs.Kept.{NormalKept, Outside}
 use Rattle.af_life.specs.TurnEvents.{number_seen, going, push_list}
 use Rattle.af_life.specs.Turn.{after_edits}
+use Rattle.af_link.specs.declared.links.Links.{Links}
 use Rattle.af_link.specs.declared.names.StreamNames.{StreamNames}
 use Rattle.af_normal.specs.LegalTurned.{IsLegal}
 use Rattle.af_normal.specs.State.{NormalState, setup_of, kept_of}
@@ -35,7 +36,7 @@ use Rattle.af_stateq.specs.Shelved.{no_state}
 use Rattle.af_stateq.proofs.Told.{told_learn, told_look, told_new}
 use Rattle.af_session.specs.Alone.{CyclesOn, CyclesOnce, FastTurned, most_cycles}
 use Rattle.af_session.specs.Met.{EndsMet}
-use Rattle.af_session.specs.SideBySide.{IsRoundOfAll, NormalPlayed}
+use Rattle.af_session.specs.SideBySide.{IsRoundOfAll, NormalPlayed, TurnPlayed}
 use Rattle.af_session.specs.Rounds.{Given, end_party, with_ends}
 use Rattle.af_session.specs.Together.{SessionState}
 use Rattle.af_session.proofs.Quiet.{IsQuiet, turn_quiet}
@@ -84,8 +85,8 @@ adds_knows p m' entry told adds = record {
 }
 
 -- one cycle
-once_knows : (m m' : MixerState) (answer : Cycle) (bytes : List ℕ) → FastKnows m → CyclesOnce m answer bytes m' → FastKnows m'
-once_knows m m' answer bytes knows w = by_over (is_over m) refl
+once_knows : (links : Links) (m m' : MixerState) (answer : Cycle) (bytes : List ℕ) → FastKnows m → CyclesOnce links m answer bytes m' → FastKnows m'
+once_knows links m m' answer bytes knows w = by_over (is_over m) refl
   where
     by_over : (b : Bool) → is_over m ≡ b → FastKnows m'
     by_over true over =
@@ -105,19 +106,19 @@ on_answer answer next m' back knows more over = by_answer (is_mixed answer) refl
     by_answer true is = more is
     by_answer false is = subst FastKnows (sym (over is).1) knows
 
-cycles_know : (left : ℕ) (m m' : MixerState) (bytes : List ℕ) → FastKnows m → CyclesOn left m bytes m' → FastKnows m'
-cycles_know zero m m' bytes knows turn = subst FastKnows (sym turn.1) knows
-cycles_know (suc left) m m' bytes knows (answer, next, front, back, cycle, bytes_are, more, over) =
-    let first = once_knows m next answer front knows cycle in
-    on_answer answer next m' back first (λ is. cycles_know left next m' back first (more is)) over
+cycles_know : (links : Links) (left : ℕ) (m m' : MixerState) (bytes : List ℕ) → FastKnows m → CyclesOn links left m bytes m' → FastKnows m'
+cycles_know links zero m m' bytes knows turn = subst FastKnows (sym turn.1) knows
+cycles_know links (suc left) m m' bytes knows (answer, next, front, back, cycle, bytes_are, more, over) =
+    let first = once_knows links m next answer front knows cycle in
+    on_answer answer next m' back first (λ is. cycles_know links left next m' back first (more is)) over
 
 -- a turn
-pub fast_knows : (m m' : MixerState) (bytes : List ℕ) → FastKnows m → FastTurned m bytes m' → FastKnows m'
-fast_knows m m' bytes knows turned = by_exit m.exited turned
+pub fast_knows : (links : Links) (m m' : MixerState) (bytes : List ℕ) → FastKnows m → FastTurned links m bytes m' → FastKnows m'
+fast_knows links m m' bytes knows turned = by_exit m.exited turned
   where
-    by_exit : (b : Bool) → MatchBool b ((bytes ≡ []) × (m' ≡ m)) (CyclesOn most_cycles m bytes m') → FastKnows m'
+    by_exit : (b : Bool) → MatchBool b ((bytes ≡ []) × (m' ≡ m)) (CyclesOn links most_cycles m bytes m') → FastKnows m'
     by_exit true done = subst FastKnows (sym done.1) knows
-    by_exit false done = cycles_know most_cycles m m' bytes knows done
+    by_exit false done = cycles_know links most_cycles m m' bytes knows done
 
 -- ## The normal mixer
 
@@ -142,9 +143,9 @@ legal_knows o m m' knows legal =
 pub normal_knows : (m m' : NormalState) → NormalKnows m → NormalPlayed m m' → NormalKnows m'
 normal_knows m m' knows played = by_end m.ended played
   where
-    by_end : (b : Bool) → MatchBool b (m' ≡ m) ((o : Outside) × IsLegal o m m') → NormalKnows m'
+    by_end : (b : Bool) → MatchBool b (m' ≡ m) (TurnPlayed m m') → NormalKnows m'
     by_end true still = subst NormalKnows (sym still) knows
-    by_end false (o, legal) = legal_knows o m m' knows legal
+    by_end false (o, legal, made) = legal_knows o m m' knows legal
 
 -- ## The meeting
 
@@ -236,7 +237,7 @@ mixers_stay s = by_end s.normal.ended
 pub round_knows : (g : Given) (s t : SessionState) (r : RoundNoted) (bytes : List ℕ) → Knowing s → IsRoundOfAll g s r bytes t → Knowing t
 round_knows g s t r bytes knows w =
     let normal = normal_knows s.normal w.turned.normal knows.normal w.plays.normal in
-    let fast = fast_knows s.fast w.turned.fast bytes knows.fast w.plays.fast in
+    let fast = fast_knows w.links s.fast w.turned.fast bytes knows.fast w.plays.fast in
     let both = met_knows w.turned.normal w.met.normal w.turned.fast w.met.fast normal fast w.meets.ends in
     let still = mixers_stay w.met in
     let met : HasMet w.met.normal w.met.fast = has_met w.turned.normal w.met.normal w.turned.fast w.met.fast w.meets.ends in
@@ -250,8 +251,8 @@ round_knows g s t r bytes knows w =
 pub exit_seen : (g : Given) (s t : SessionState) (r : RoundNoted) (bytes : List ℕ) → Knowing s → s.fast.exited ≡ has_exit s.fast.log.entries → s.fast.exited ≡ true → s.normal.ended ≡ false → IsRoundOfAll g s r bytes t → t.normal.ended ≡ true
 exit_seen g s t r bytes knows is exited goes w =
     let exit : has_exit s.fast.log.entries ≡ true = sym is ∙ exited in
-    let played = MatchBool-at_false (w.turned.normal ≡ s.normal) ((o : Outside) × IsLegal o s.normal w.turned.normal) goes w.plays.normal in
-    let still : w.turned.fast ≡ s.fast = (MatchBool-at_true ((bytes ≡ []) × (w.turned.fast ≡ s.fast)) (CyclesOn most_cycles s.fast bytes w.turned.fast) exited w.plays.fast).1 in
+    let played = MatchBool-at_false (w.turned.normal ≡ s.normal) (TurnPlayed s.normal w.turned.normal) goes w.plays.normal in
+    let still : w.turned.fast ≡ s.fast = (MatchBool-at_true ((bytes ≡ []) × (w.turned.fast ≡ s.fast)) (CyclesOn w.links most_cycles s.fast bytes w.turned.fast) exited w.plays.fast).1 in
     let ends : EndsMet w.turned.normal w.met.normal s.fast w.met.fast = subst (λ (f : MixerState). EndsMet w.turned.normal w.met.normal f w.met.fast) still w.meets.ends in
     let ended : w.turned.normal.ended ≡ true = exit_ends played.0 s.normal w.turned.normal w.met.normal s.fast w.met.fast knows.normal knows.fast (knows.met exit) exit goes played.1 ends in
     ap (λ (y : SessionState). y.normal.ended) w.ends ∙ ap (λ (y : NormalState). y.ended) ((mixers_stay w.met).0 ∙ ends.normal) ∙ ended

@@ -89,7 +89,7 @@ module _ (script : ScriptData) (files : List (List Frame)) (s : Stage) (r : Resu
   j = journal_of noted t.fast.log
 
   run : (ended : Bool) → all_ended t ≡ ended → (x : JournalData) (e : EndsState) → x ≡ j → e ≡ ends_from t → HandsBackRun ended script files x e
-  run ended all x e journal ends = hands_back ended script files t noted x e have.all have.noted.tracks have.noted.count have.few have.over all journal ends
+  run ended all x e journal ends = hands_back ended script files t noted x e have.all have.noted.tracks have.noted.form have.noted.count have.few have.over all journal ends
 
   back : HandsBackRun (all_ended t) script files j (ends_from t)
   back = run (all_ended t) refl j (ends_from t) refl refl

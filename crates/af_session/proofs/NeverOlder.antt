@@ -10,6 +10,7 @@ use Rattle.af_model.specs.JournalForm.{IsWhole}
 use Rattle.af_model.specs.Journals.{EntrySeen, RoundNoted, RoundsNoted, journal_of}
 use Rattle.af_fast.specs.Mixer.{MixerState, is_over}
 use Rattle.af_fast.specs.Mixing.{MixesOnce}
+use Rattle.af_link.specs.declared.links.Links.{Links}
 use Rattle.af_script.specs.Data.{ScriptData}
 use Rattle.af_session.specs.Alone.{CyclesOn, CyclesOnce, FastTurned, most_cycles}
 use Rattle.af_session.specs.PlayedRuns.{IsRunOfAll, Plays}
@@ -48,32 +49,32 @@ mix_steps m m' out out' answer x steps = by_exit m.exited refl
     by_exit false is = by_length (length m.log.entries == m.cycles) is refl
 
 -- a cycle, some of them, and a turn
-once_steps : (m m' : MixerState) (answer : Cycle) (bytes : List ℕ) → CyclesOnce m answer bytes m' → Steps m.log → Steps m'.log
-once_steps m m' answer bytes w steps = mix_steps w.polled m' w.before w.after answer w.mixes (subst Steps (sym (polled_keeps m w.polled w.adopts).0) steps)
+once_steps : (links : Links) (m m' : MixerState) (answer : Cycle) (bytes : List ℕ) → CyclesOnce links m answer bytes m' → Steps m.log → Steps m'.log
+once_steps links m m' answer bytes w steps = mix_steps w.polled m' w.before w.after answer w.mixes (subst Steps (sym (polled_keeps m w.polled w.adopts).0) steps)
 
 steps_by : (next m' : MixerState) (back : List ℕ) (mixed : Bool) → Steps next.log → (mixed ≡ true → Steps m'.log) → (mixed ≡ false → (back ≡ []) × (m' ≡ next)) → Steps m'.log
 steps_by next m' back true first goes stops = goes refl
 steps_by next m' back false first goes stops = subst (λ (x : MixerState). Steps x.log) (sym (stops refl).1) first
 
-cycles_step : (left : ℕ) (m m' : MixerState) (bytes : List ℕ) → CyclesOn left m bytes m' → Steps m.log → Steps m'.log
-cycles_step zero m m' bytes turn steps = subst (λ (x : MixerState). Steps x.log) (sym turn.1) steps
-cycles_step (suc left) m m' bytes (answer, next, front, back, cycle, bytes_are, more, over) steps =
-    let first : Steps next.log = once_steps m next answer front cycle steps in
-    steps_by next m' back (is_mixed answer) first (λ yes. cycles_step left next m' back (more yes) first) over
+cycles_step : (links : Links) (left : ℕ) (m m' : MixerState) (bytes : List ℕ) → CyclesOn links left m bytes m' → Steps m.log → Steps m'.log
+cycles_step links zero m m' bytes turn steps = subst (λ (x : MixerState). Steps x.log) (sym turn.1) steps
+cycles_step links (suc left) m m' bytes (answer, next, front, back, cycle, bytes_are, more, over) steps =
+    let first : Steps next.log = once_steps links m next answer front cycle steps in
+    steps_by next m' back (is_mixed answer) first (λ yes. cycles_step links left next m' back (more yes) first) over
 
-turn_steps : (m m' : MixerState) (bytes : List ℕ) → FastTurned m bytes m' → Steps m.log → Steps m'.log
-turn_steps m m' bytes turned steps = by_exit m.exited turned
+turn_steps : (links : Links) (m m' : MixerState) (bytes : List ℕ) → FastTurned links m bytes m' → Steps m.log → Steps m'.log
+turn_steps links m m' bytes turned steps = by_exit m.exited turned
   where
-    by_exit : (exited : Bool) → MatchBool exited ((bytes ≡ []) × (m' ≡ m)) (CyclesOn most_cycles m bytes m') → Steps m'.log
+    by_exit : (exited : Bool) → MatchBool exited ((bytes ≡ []) × (m' ≡ m)) (CyclesOn links most_cycles m bytes m') → Steps m'.log
     by_exit true done = subst (λ (x : MixerState). Steps x.log) (sym done.1) steps
-    by_exit false done = cycles_step most_cycles m m' bytes done steps
+    by_exit false done = cycles_step links most_cycles m m' bytes done steps
 
 -- a run
 run_steps : (g : Given) (s : SessionState) (rounds : List RoundNoted) (bytes : List ℕ) (t : SessionState) → IsRunOfAll g s rounds bytes t → Steps s.fast.log → Steps t.fast.log
 run_steps g s [] bytes t run steps = subst (λ (x : SessionState). Steps x.fast.log) (sym run.1) steps
 run_steps g s (r ∷ rs) bytes t run steps =
     let round : IsRoundOfAll g s r run.0 run.2 = run.5 in
-    run_steps g run.2 rs run.1 t run.6 (subst Steps (sym (log_of_turns g s r run.0 run.2 round)) (turn_steps s.fast round.turned.fast run.0 round.plays.fast steps))
+    run_steps g run.2 rs run.1 t run.6 (subst Steps (sym (log_of_turns g s r run.0 run.2 round)) (turn_steps round.links s.fast round.turned.fast run.0 round.plays.fast steps))
 
 -- the journal of one that was played since its session was made
 pub none_older : (script : ScriptData) (files : List (List Frame)) (noted : RoundsNoted) (t : SessionState) → Plays script files noted.rounds t → IsWhole noted t.fast.log → NoneOlder (journal_of noted t.fast.log)

@@ -5,6 +5,7 @@ use Rattle.af_io.specs.Causes.{HasCause}
 use Rattle.af_io.specs.Files.{Files, SetsFile}
 use Rattle.af_io.specs.declared.store.StoreError.{StoreError}
 use Rattle.af_io.specs.declared.store.StoreError.TheVariants as store
+use Rattle.af_model.specs.JournalForm.{IsJournal}
 use Rattle.af_model.specs.Journals.{JournalData, RoundsNoted, journal_of}
 use Rattle.af_runs.specs.LegalRuns.{IsCutRun}
 use Rattle.af_script.specs.Data.{ScriptData}
@@ -164,12 +165,13 @@ cause_cut (Err f) A j e x before now cause (inr is) = subst (λ (y : PlayFault).
 
 -- what is handed back
 pub hands_back : (ended : Bool) (script : ScriptData) (files : List (List Frame)) (t : SessionState) (noted : RoundsNoted) (j : JournalData) (e : EndsState) → Plays script files noted.rounds t → noted.tracks ≡ length script.tracks
-    → length t.clients ≡ length script.tracks → length noted.rounds ≤ script.cycles → (all_ended t ≡ false → is_full t ≡ true) → all_ended t ≡ ended → j ≡ journal_of noted t.fast.log → e ≡ ends_from t → HandsBackRun ended script files j e
-hands_back ended script files t noted j e played tracks count few over is journal ends = record {
+    → IsJournal (journal_of noted t.fast.log) → length t.clients ≡ length script.tracks → length noted.rounds ≤ script.cycles → (all_ended t ≡ false → is_full t ≡ true) → all_ended t ≡ ended → j ≡ journal_of noted t.fast.log → e ≡ ends_from t → HandsBackRun ended script files j e
+hands_back ended script files t noted j e played tracks form count few over is journal ends = record {
   parties = t;
   rounds = noted.rounds;
   played = played;
   journal_is = journal ∙ ap (λ (n : ℕ). journal_of (record { tracks = n; rounds = noted.rounds }) t.fast.log) tracks;
+  form = subst IsJournal (sym journal) form;
   ends_are = ends;
   count = ap (λ (x : EndsState). length x.clients) ends ∙ count;
   few = few;

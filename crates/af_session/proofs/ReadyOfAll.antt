@@ -6,14 +6,13 @@ use Rattle.std.proofs.lemmas.Option.{slice_get-get_or, slice_get_within}
 use Rattle.std.proofs.lemmas.Slice.Zip.{AllZip-right}
 use Rattle.af_base.specs.Roomy.{Roomy}
 use Rattle.af_fast.specs.Mixer.{MixerState}
-use Rattle.af_life.specs.Kept.{Outside, Setup}
+use Rattle.af_life.specs.Kept.{Setup}
 use Rattle.af_link.specs.declared.links.Links.{Links}
-use Rattle.af_normal.specs.LegalTurned.{IsLegal}
 use Rattle.af_normal.specs.Meeting.{AreClientsOf}
 use Rattle.af_normal.specs.State.{NormalState, setup_of}
 use Rattle.af_party.specs.Parties.{PartyState}
 use Rattle.af_session.specs.Rounds.{Given, IsReady, file_at, ops_at}
-use Rattle.af_session.specs.SideBySide.{AllPlayed, CanCycle, CanMixOn, CanTurn, ClientPlayed, HasCycledOn, HasMixedOn, HasTurned, NormalPlayed}
+use Rattle.af_session.specs.SideBySide.{AllPlayed, CanCycle, CanMixOn, CanTurn, ClientPlayed, HasCycledOn, HasMixedOn, HasTurned, NormalPlayed, TurnPlayed}
 use Rattle.af_session.specs.Together.{SessionState}
 use Rattle.af_party.specs.Works.{CanWork}
 
@@ -73,9 +72,9 @@ module _ (links : Links) (g : Given) (n : ℕ) (s : SessionState) (ready : IsRea
 same_setup : (m m' : NormalState) → NormalPlayed m m' → setup_of m' ≡ setup_of m
 same_setup m m' played = by_end m.ended played
   where
-    by_end : (ended : Bool) → MatchBool ended (m' ≡ m) ((o : Outside) × IsLegal o m m') → setup_of m' ≡ setup_of m
+    by_end : (ended : Bool) → MatchBool ended (m' ≡ m) (TurnPlayed m m') → setup_of m' ≡ setup_of m
     by_end true same = ap setup_of same
-    by_end false legal = legal.1.setup
+    by_end false turned = turned.1.setup
 
 module _ (links : Links) (g : Given) (n : ℕ) (s : SessionState) (ready : IsReady links g n s) (clients : List PartyState) (m : NormalState) (f : MixerState) (bytes bytes' : Roomy ℕ)
     (turned : AllZip (HasTurned links g) s.clients clients) (mixed : HasMixedOn links s.normal m) (cycled : HasCycledOn links s.fast f bytes bytes') where
@@ -110,7 +109,7 @@ module _ (links : Links) (g : Given) (n : ℕ) (s : SessionState) (ready : IsRea
     whole = cycled.can.whole;
   }
 
-  pub played_by_all : AllPlayed g s after cycled.added
+  pub played_by_all : AllPlayed links g s after cycled.added
   played_by_all = record {
     clients = zip_weaker (HasTurned links g) (ClientPlayed g) (λ p q h. h.played) s.clients clients turned;
     normal = mixed.played;

@@ -5,21 +5,20 @@ use Rattle.af_base.specs.declared.log.Cycle.{Cycle}
 use Rattle.af_model.specs.Cycles.{has_exit, is_mixed}
 use Rattle.af_model.specs.Journals.{RoundNoted}
 use Rattle.af_fast.specs.Mixer.{MixerState, is_over}
-use Rattle.af_life.specs.Kept.{Outside}
-use Rattle.af_normal.specs.LegalTurned.{IsLegal}
+use Rattle.af_link.specs.declared.links.Links.{Links}
 use Rattle.af_normal.specs.State.{NormalState}
 use Rattle.af_session.specs.Alone.{CyclesOn, CyclesOnce, FastTurned, most_cycles}
 use Rattle.af_party.specs.Parties.{PartyState}
 use Rattle.af_session.specs.Rounds.{Given, end_party, with_ends}
-use Rattle.af_session.specs.SideBySide.{IsRoundOfAll}
+use Rattle.af_session.specs.SideBySide.{IsRoundOfAll, TurnPlayed}
 use Rattle.af_session.specs.Together.{SessionState}
 use Rattle.af_session.proofs.ExitSeen.{Knowing, exit_seen, mixers_stay, rests_over}
 
 -- ## The log
 
 -- a cycle takes no entry off the log, and adds one where the mixer wasn't over
-once_adds : (m m' : MixerState) (answer : Cycle) (bytes : List ℕ) → CyclesOnce m answer bytes m' → (length m.log.entries ≤ length m'.log.entries) × (is_over m ≡ false → length m.log.entries + 1 ≤ length m'.log.entries)
-once_adds m m' answer bytes w = by_over (is_over m) refl
+once_adds : (links : Links) (m m' : MixerState) (answer : Cycle) (bytes : List ℕ) → CyclesOnce links m answer bytes m' → (length m.log.entries ≤ length m'.log.entries) × (is_over m ≡ false → length m.log.entries + 1 ≤ length m'.log.entries)
+once_adds links m m' answer bytes w = by_over (is_over m) refl
   where
     by_over : (b : Bool) → is_over m ≡ b → (length m.log.entries ≤ length m'.log.entries) × (is_over m ≡ false → length m.log.entries + 1 ≤ length m'.log.entries)
     by_over true over =
@@ -40,21 +39,21 @@ on_answer answer next m' back n first more over = by_answer (is_mixed answer) re
     by_answer true is = let rest = more is in omega (arith, first, rest)
     by_answer false is = let same : length m'.log.entries ≡ length next.log.entries = ap (λ (y : MixerState). length y.log.entries) (over is).1 in omega (arith, first, same)
 
-cycles_grow : (left : ℕ) (m m' : MixerState) (bytes : List ℕ) → CyclesOn left m bytes m' → length m.log.entries ≤ length m'.log.entries
-cycles_grow zero m m' bytes turn = let same : length m'.log.entries ≡ length m.log.entries = ap (λ (y : MixerState). length y.log.entries) turn.1 in omega (arith, same)
-cycles_grow (suc left) m m' bytes (answer, next, front, back, cycle, bytes_are, more, over) =
-    on_answer answer next m' back (length m.log.entries) (once_adds m next answer front cycle).0 (λ is. cycles_grow left next m' back (more is)) over
+cycles_grow : (links : Links) (left : ℕ) (m m' : MixerState) (bytes : List ℕ) → CyclesOn links left m bytes m' → length m.log.entries ≤ length m'.log.entries
+cycles_grow links zero m m' bytes turn = let same : length m'.log.entries ≡ length m.log.entries = ap (λ (y : MixerState). length y.log.entries) turn.1 in omega (arith, same)
+cycles_grow links (suc left) m m' bytes (answer, next, front, back, cycle, bytes_are, more, over) =
+    on_answer answer next m' back (length m.log.entries) (once_adds links m next answer front cycle).0 (λ is. cycles_grow links left next m' back (more is)) over
 
-cycles_add_one : (left : ℕ) (m m' : MixerState) (bytes : List ℕ) → is_over m ≡ false → CyclesOn (suc left) m bytes m' → length m.log.entries + 1 ≤ length m'.log.entries
-cycles_add_one left m m' bytes runs (answer, next, front, back, cycle, bytes_are, more, over) =
-    on_answer answer next m' back (length m.log.entries + 1) ((once_adds m next answer front cycle).1 runs) (λ is. cycles_grow left next m' back (more is)) over
+cycles_add_one : (links : Links) (left : ℕ) (m m' : MixerState) (bytes : List ℕ) → is_over m ≡ false → CyclesOn links (suc left) m bytes m' → length m.log.entries + 1 ≤ length m'.log.entries
+cycles_add_one links left m m' bytes runs (answer, next, front, back, cycle, bytes_are, more, over) =
+    on_answer answer next m' back (length m.log.entries + 1) ((once_adds links m next answer front cycle).1 runs) (λ is. cycles_grow links left next m' back (more is)) over
 
 -- a turn of a mixer that hasn't exited, with a log that isn't full, adds an entry
-turn_adds : (m m' : MixerState) (bytes : List ℕ) → m.exited ≡ false → length m.log.entries < m.cycles → FastTurned m bytes m' → length m.log.entries + 1 ≤ length m'.log.entries
-turn_adds m m' bytes runs room turned =
+turn_adds : (links : Links) (m m' : MixerState) (bytes : List ℕ) → m.exited ≡ false → length m.log.entries < m.cycles → FastTurned links m bytes m' → length m.log.entries + 1 ≤ length m'.log.entries
+turn_adds links m m' bytes runs room turned =
     let full : (length m.log.entries == m.cycles) ≡ false = ne_eqb (length m.log.entries) m.cycles (λ e. omega (arith, e, room)) in
     let over : is_over m ≡ false = ap (λ (b : Bool). b || (length m.log.entries == m.cycles)) runs ∙ full in
-    cycles_add_one 15 m m' bytes over (MatchBool-at_false ((bytes ≡ []) × (m' ≡ m)) (CyclesOn most_cycles m bytes m') runs turned)
+    cycles_add_one links 15 m m' bytes over (MatchBool-at_false ((bytes ≡ []) × (m' ≡ m)) (CyclesOn links most_cycles m bytes m') runs turned)
 
 -- what a round leaves of the fast mixer
 round_leaves : (g : Given) (s t : SessionState) (r : RoundNoted) (bytes : List ℕ) → (w : IsRoundOfAll g s r bytes t) → (t.fast.log ≡ w.turned.fast.log) × (t.fast.exited ≡ w.turned.fast.exited)
@@ -65,7 +64,7 @@ round_leaves g s t r bytes w =
 -- Up to the Exit each round of all parties adds an entry to a log that isn't full
 pub round_adds : (g : Given) (s t : SessionState) (r : RoundNoted) (bytes : List ℕ) → s.fast.exited ≡ false → length s.fast.log.entries < s.fast.cycles → IsRoundOfAll g s r bytes t → length s.fast.log.entries + 1 ≤ length t.fast.log.entries
 round_adds g s t r bytes runs room w =
-    let more = turn_adds s.fast w.turned.fast bytes runs room w.plays.fast in
+    let more = turn_adds w.links s.fast w.turned.fast bytes runs room w.plays.fast in
     let same = ap (λ l. length l) (ap (λ (y : MixerState). y.log.entries) (ap (λ (y : SessionState). y.fast) w.ends ∙ (mixers_stay w.met).1 ∙ w.meets.ends.fast)) in
     omega (arith, more, same)
 
@@ -97,14 +96,14 @@ clients_ended s ended i p e = ended_at s.clients i p (sym (ap (λ (b : Bool). sl
 -- the normal mixer stays ended
 stays_ended : (g : Given) (s t : SessionState) (r : RoundNoted) (bytes : List ℕ) → s.normal.ended ≡ true → IsRoundOfAll g s r bytes t → t.normal.ended ≡ true
 stays_ended g s t r bytes ended w =
-    let still = MatchBool-at_true (w.turned.normal ≡ s.normal) ((o : Outside) × IsLegal o s.normal w.turned.normal) ended w.plays.normal in
+    let still = MatchBool-at_true (w.turned.normal ≡ s.normal) (TurnPlayed s.normal w.turned.normal) ended w.plays.normal in
     ap (λ (y : SessionState). y.normal.ended) w.ends ∙ ap (λ (y : NormalState). y.ended) ((mixers_stay w.met).0 ∙ w.meets.ends.normal) ∙ ap (λ (y : NormalState). y.ended) still ∙ ended
 
 -- after the round in which the fast mixer had exited, all have ended
 pub round_ends : (g : Given) (s t : SessionState) (r : RoundNoted) (bytes : List ℕ) → Knowing s → s.fast.exited ≡ has_exit s.fast.log.entries → s.fast.exited ≡ true → IsRoundOfAll g s r bytes t → AllEnded t
 round_ends g s t r bytes knows is exited w = record {
   normal = ended;
-  fast = (round_leaves g s t r bytes w).1 ∙ ap (λ (y : MixerState). y.exited) (MatchBool-at_true ((bytes ≡ []) × (w.turned.fast ≡ s.fast)) (CyclesOn most_cycles s.fast bytes w.turned.fast) exited w.plays.fast).1 ∙ exited;
+  fast = (round_leaves g s t r bytes w).1 ∙ ap (λ (y : MixerState). y.exited) (MatchBool-at_true ((bytes ≡ []) × (w.turned.fast ≡ s.fast)) (CyclesOn w.links most_cycles s.fast bytes w.turned.fast) exited w.plays.fast).1 ∙ exited;
   clients = subst (λ (y : SessionState). (i : ℕ) (p : PartyState) → slice_get y.clients i ≡ Some p → p.client.ended ≡ true) (sym w.ends)
       (clients_ended w.met (sym (ap (λ (y : SessionState). y.normal.ended) w.ends ∙ ap (λ (y : NormalState). y.ended) (mixers_stay w.met).0) ∙ ended));
 }

@@ -7,13 +7,11 @@ use Rattle.af_base.specs.declared.state.FastState.{FastState}
 use Rattle.af_base.specs.Log.{Logged}
 use Rattle.af_base.specs.Turn.{turn_of}
 use Rattle.af_fast.specs.Mixer.{MixerState}
-use Rattle.af_life.specs.Kept.{Outside}
 use Rattle.af_life.proofs.TurnForms.{turn_form}
 use Rattle.af_link.specs.declared.links.Links.{Links}
 use Rattle.af_model.specs.Cycles.{is_mixed}
 use Rattle.af_model.specs.JournalForm.{IsTurn}
 use Rattle.af_model.specs.Journals.{RoundNoted, RoundsNoted}
-use Rattle.af_normal.specs.LegalTurned.{IsLegal}
 use Rattle.af_normal.specs.State.{kept_of, setup_of}
 use Rattle.af_script.specs.Data.{ScriptData}
 use Rattle.af_session.specs.Alone.{CyclesOn, CyclesOnce, FastTurned, most_cycles}
@@ -24,7 +22,7 @@ use Rattle.af_session.specs.PlayedRuns.{IsRunOfAll, RunsOfAll}
 use Rattle.af_session.specs.Rounds.{Given, IsReady}
 use Rattle.af_session.specs.Shares.{SharedState}
 use Rattle.af_session.specs.Shown.{shown_at, shown_in}
-use Rattle.af_session.specs.SideBySide.{ClientPlayed, IsRoundOfAll, all_noted}
+use Rattle.af_session.specs.SideBySide.{ClientPlayed, IsRoundOfAll, TurnPlayed, all_noted}
 use Rattle.af_tally.specs.Tallies.{IsTally, Tallied}
 use Rattle.af_session.specs.Together.{SessionState}
 use Rattle.af_session.proofs.ExitSeen.{mixers_stay}
@@ -36,28 +34,28 @@ use Rattle.af_session.proofs.ShownWhole.{AreInStep, in_step_met, in_step_new, ta
 
 -- ## The log
 
-once_goes : (m m' : MixerState) (answer : Cycle) (bytes : List ℕ) → CyclesOnce m answer bytes m' → Goes m.log m'.log
-once_goes m m' answer bytes w = subst (λ (l : Logged). Goes l m'.log) (polled_keeps m w.polled w.adopts).0 (mix_goes w.polled m' w.before w.after answer w.mixes)
+once_goes : (links : Links) (m m' : MixerState) (answer : Cycle) (bytes : List ℕ) → CyclesOnce links m answer bytes m' → Goes m.log m'.log
+once_goes links m m' answer bytes w = subst (λ (l : Logged). Goes l m'.log) (polled_keeps m w.polled w.adopts).0 (mix_goes w.polled m' w.before w.after answer w.mixes)
 
 goes_by : (m next m' : MixerState) (back : List ℕ) (mixed : Bool) → Goes m.log next.log → (mixed ≡ true → Goes next.log m'.log) → (mixed ≡ false → (back ≡ []) × (m' ≡ next)) → Goes m.log m'.log
 goes_by m next m' back true first goes stops = goes_then m.log next.log m'.log first (goes refl)
 goes_by m next m' back false first goes stops = subst (λ (x : MixerState). Goes m.log x.log) (sym (stops refl).1) first
 
-cycles_go : (left : ℕ) (m m' : MixerState) (bytes : List ℕ) → CyclesOn left m bytes m' → Goes m.log m'.log
-cycles_go zero m m' bytes turn = goes_not m.log m'.log (ap (λ (y : MixerState). y.log) turn.1)
-cycles_go (suc left) m m' bytes (answer, next, front, back, cycle, bytes_are, more, over) =
-    goes_by m next m' back (is_mixed answer) (once_goes m next answer front cycle) (λ yes. cycles_go left next m' back (more yes)) over
+cycles_go : (links : Links) (left : ℕ) (m m' : MixerState) (bytes : List ℕ) → CyclesOn links left m bytes m' → Goes m.log m'.log
+cycles_go links zero m m' bytes turn = goes_not m.log m'.log (ap (λ (y : MixerState). y.log) turn.1)
+cycles_go links (suc left) m m' bytes (answer, next, front, back, cycle, bytes_are, more, over) =
+    goes_by m next m' back (is_mixed answer) (once_goes links m next answer front cycle) (λ yes. cycles_go links left next m' back (more yes)) over
 
-turned_goes : (m m' : MixerState) (bytes : List ℕ) → FastTurned m bytes m' → Goes m.log m'.log
-turned_goes m m' bytes turned = by_exit m.exited turned
+turned_goes : (links : Links) (m m' : MixerState) (bytes : List ℕ) → FastTurned links m bytes m' → Goes m.log m'.log
+turned_goes links m m' bytes turned = by_exit m.exited turned
   where
-    by_exit : (exited : Bool) → MatchBool exited ((bytes ≡ []) × (m' ≡ m)) (CyclesOn most_cycles m bytes m') → Goes m.log m'.log
+    by_exit : (exited : Bool) → MatchBool exited ((bytes ≡ []) × (m' ≡ m)) (CyclesOn links most_cycles m bytes m') → Goes m.log m'.log
     by_exit true done = goes_not m.log m'.log (ap (λ (y : MixerState). y.log) done.1)
-    by_exit false done = cycles_go most_cycles m m' bytes done
+    by_exit false done = cycles_go links most_cycles m m' bytes done
 
 -- ## What is noted
 
-turn_noted_form : (s t : SessionState) (ended : Bool) → MatchBool ended (t.normal ≡ s.normal) ((o : Outside) × IsLegal o s.normal t.normal) → length s.normal.tracks ≡ length s.clients
+turn_noted_form : (s t : SessionState) (ended : Bool) → MatchBool ended (t.normal ≡ s.normal) (TurnPlayed s.normal t.normal) → length s.normal.tracks ≡ length s.clients
     → MatchOption (if ended then None else Some (turn_of t.normal.entry)) (Unit {0}) HasFrames → MatchOption (if ended then None else Some (turn_of t.normal.entry)) (Unit {0}) (IsTurn (length s.clients))
 turn_noted_form s t true played tracks frames = tt
 turn_noted_form s t false played tracks frames = turn_form (setup_of s.normal) played.0 (kept_of s.normal) (turn_of t.normal.entry) (length s.clients) tracks frames played.1.legal
@@ -70,7 +68,7 @@ module _ (g : Given) (s : SessionState) (r : RoundNoted) (bytes : List ℕ) (t :
   pub notes_of_all : Notes s r t.fast.log
   notes_of_all =
       let x = round.turned in
-      let goes : Goes s.fast.log x.fast.log = turned_goes s.fast x.fast bytes round.plays.fast in
+      let goes : Goes s.fast.log x.fast.log = turned_goes round.links s.fast x.fast bytes round.plays.fast in
       let told : Notes s (all_noted s x) x.fast.log = record {
         goes = goes;
         count = (let more = goes.longer in omega arith);

@@ -15,14 +15,13 @@ use Rattle.af_life.specs.Kept.{NormalKept, Outside, Setup}
 use Rattle.af_life.specs.Plays.{after_takes}
 use Rattle.af_life.specs.Turn.{LegalTurn, after_edits, turn_after}
 use Rattle.af_model.specs.Journals.{EntrySeen, JournalData, RoundNoted, RoundSeen, rounds_seen}
-use Rattle.af_normal.specs.LegalTurned.{IsLegal}
 use Rattle.af_normal.specs.State.{NormalState, kept_of, setup_of}
 use Rattle.af_script.specs.Data.{ScriptData}
 use Rattle.af_stateq.specs.Laws.{pushed_states}
 use Rattle.af_session.specs.Ends.{EndsState}
 use Rattle.af_session.specs.PlayedRuns.{HandsBackRun, IsRunOfAll}
 use Rattle.af_session.specs.Rounds.{Given}
-use Rattle.af_session.specs.SideBySide.{IsRoundOfAll, NormalPlayed, turn_noted}
+use Rattle.af_session.specs.SideBySide.{IsRoundOfAll, NormalPlayed, TurnPlayed, turn_noted}
 use Rattle.af_session.specs.Spelled.{PushesStandOnce, first_numbers, number_pushed, pushed_by, pushes_told}
 use Rattle.af_session.specs.Together.{SessionState}
 use Rattle.af_session.proofs.ExitSeen.{Knowing, mixers_stay, round_knows}
@@ -53,9 +52,9 @@ module _ (told : List ℕ) (c : Setup) (o : Outside) (m : NormalKept) (e : Turn)
 normal_tells : (told : List ℕ) (m m' : NormalState) → NormalPlayed m m' → told ≡ first_numbers (kept_of m).pushed → told ++ pushed_by (turn_noted m m') ≡ first_numbers (kept_of m').pushed
 normal_tells told m m' played is = by_end m.ended played
   where
-    by_end : (b : Bool) → MatchBool b (m' ≡ m) ((o : Outside) × IsLegal o m m') → told ++ pushed_by (if b then None else Some (turn_of m'.entry)) ≡ first_numbers (kept_of m').pushed
+    by_end : (b : Bool) → MatchBool b (m' ≡ m) (TurnPlayed m m') → told ++ pushed_by (if b then None else Some (turn_of m'.entry)) ≡ first_numbers (kept_of m').pushed
     by_end true still = append-nil told ∙ is ∙ ap (λ (y : NormalState). first_numbers (kept_of y).pushed) (sym still)
-    by_end false (o, legal) = turn_tells told (setup_of m) o (kept_of m) (turn_of m'.entry) legal.legal is ∙ ap (λ (k : NormalKept). first_numbers k.pushed) (sym legal.leaves)
+    by_end false (o, legal, made) = turn_tells told (setup_of m) o (kept_of m) (turn_of m'.entry) legal.legal is ∙ ap (λ (k : NormalKept). first_numbers k.pushed) (sym legal.leaves)
 
 -- ## A run
 

@@ -8,6 +8,7 @@ use Rattle.af_base.specs.Log.{Logged, entry_at, no_entry}
 use Rattle.af_fast.specs.Mixer.{MixerState, adopted_states, is_over}
 use Rattle.af_fast.specs.Mixing.{MixesOnce}
 use Rattle.af_fast.specs.Slots.{found}
+use Rattle.af_link.specs.declared.links.Links.{Links}
 use Rattle.af_model.specs.JournalForm.{is_spent}
 use Rattle.af_model.proofs.EntryForms.{entry_form}
 use Rattle.af_nblog.specs.NoteEnds.{WriterState}
@@ -42,8 +43,8 @@ from_polled m p m' same (adds_nothing is) = adds_nothing (is ∙ ap (λ (l : Log
 from_polled m p m' same (adds_entry entry is kept) = adds_entry entry (is ∙ ap (λ (l : Logged). l.entries ++ entry ∷ []) same) kept
 
 -- a cycle adds no more
-pub cycle_adds_up_to_one : (m m' : MixerState) (answer : Cycle) (bytes : List ℕ) → CyclesOnce m answer bytes m' → AddsUpToOne m m'
-cycle_adds_up_to_one m m' answer bytes w = from_polled m w.polled m' (polled_keeps m w.polled w.adopts).0 (mix_adds_up_to_one w.polled m' w.before w.after answer w.mixes)
+pub cycle_adds_up_to_one : (links : Links) (m m' : MixerState) (answer : Cycle) (bytes : List ℕ) → CyclesOnce links m answer bytes m' → AddsUpToOne m m'
+cycle_adds_up_to_one links m m' answer bytes w = from_polled m w.polled m' (polled_keeps m w.polled w.adopts).0 (mix_adds_up_to_one w.polled m' w.before w.after answer w.mixes)
 
 -- so the log is no shorter
 pub grown_by : (m m' : MixerState) → AddsUpToOne m m' → (more : List CycleEntry) × (m'.log.entries ≡ m.log.entries ++ more)

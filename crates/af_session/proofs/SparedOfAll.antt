@@ -5,18 +5,16 @@ use Rattle.std.specs.List.{list_all}
 use Rattle.std.proofs.lemmas.Option.{none-some, same_Some, slice_get-get_or, slice_get_within}
 use Rattle.af_base.specs.Turn.{Turn, turn_of}
 use Rattle.af_runs.specs.ClientTurns.{after_calls}
-use Rattle.af_life.specs.Kept.{Outside}
 use Rattle.af_link.specs.declared.links.Links.{Links}
 use Rattle.af_model.proofs.Logic.{both_are}
 use Rattle.af_model.specs.Journals.{RoundNoted}
-use Rattle.af_normal.specs.LegalTurned.{IsLegal}
 use Rattle.af_server.specs.Order.{ServerState}
 use Rattle.af_audit.specs.Spared.{none_corrupt}
 use Rattle.af_session.specs.Hostile.{IsTame, SparesSoFar, is_spared_in_turn}
 use Rattle.af_party.specs.Parties.{PartyState, track_of}
 use Rattle.af_session.specs.Rounds.{Given, IsReady, file_at, ops_at}
 use Rattle.af_session.specs.Shown.{turn_in}
-use Rattle.af_session.specs.SideBySide.{ClientPlayed, IsRoundOfAll}
+use Rattle.af_session.specs.SideBySide.{ClientPlayed, IsRoundOfAll, TurnPlayed}
 use Rattle.af_tally.specs.Summaries.{has_no_poke}
 use Rattle.af_session.specs.Together.{SessionState}
 use Rattle.af_session.proofs.OpenCalls.{AreOpen, AreTame, open_turn, tame_turn}
@@ -77,10 +75,10 @@ module _ (links : Links) (g : Given) (n : ℕ) (s : SessionState) (before : IsRe
         let all = open_turn (track_of ops file x.party) x.party'.calls.items x.played.legal (subst AreOpen x.played.turned fine) in
         ap none_corrupt (calls_are i x.party' x.is) ∙ all
 
-    by_ended : (b : Bool) → MatchBool b (turned.normal ≡ s.normal) ((o : Outside) × IsLegal o s.normal turned.normal)
+    by_ended : (b : Bool) → MatchBool b (turned.normal ≡ s.normal) (TurnPlayed s.normal turned.normal)
         → list_all (is_spared_in_turn i) (turn_in (if b then None else Some (turn_of turned.normal.entry))) ≡ true
     by_ended true none = refl
-    by_ended false (o, legal) =
+    by_ended false (o, legal, made) =
         let e : Turn = turn_of turned.normal.entry in
         let tame' : IsTame x.party' = tame_before links g (n + 1) turned round.met t round.meets round.ends after i q at tame x.party' x.is in
         let lt : i < length s.normal.tracks = omega (arith, slice_get_within s.clients i x.party x.was, before.together.count) in

@@ -3,31 +3,34 @@ use Rattle.std.specs.Prelude.{◌≡◌, ℕ, zero, suc, ◌++◌, true, false, 
 use Rattle.af_base.specs.declared.frame.Frame.{Frame}
 use Rattle.af_base.specs.declared.log.Cycle.{Cycle}
 use Rattle.af_model.specs.Cycles.{is_mixed}
-use Rattle.af_fast.specs.Mixer.{MixerState}
+use Rattle.af_fast.specs.Mixer.{IsInOrder as IsFastInOrder, IsLinked, MixerState}
 use Rattle.af_fast.specs.Mixing.{Adopts, MixesOnce}
+use Rattle.af_link.specs.declared.links.Links.{Links}
 use Rattle.af_runs.specs.Pcm.{written}
 
--- One cycle: a poll and a mix into some buffer that has the frames of a cycle, and the bytes of what was mixed
-pub record CyclesOnce (m : MixerState) (answer : Cycle) (bytes : List ℕ) (m' : MixerState) : Type 0 where
+-- One cycle: a poll and a mix into some buffer that has the frames of a cycle, after each of which the mixer is in order over these links, and the bytes of what was mixed
+pub record CyclesOnce (links : Links) (m : MixerState) (answer : Cycle) (bytes : List ℕ) (m' : MixerState) : Type 0 where
   pub polled : MixerState
   pub adopts : Adopts m polled
+  pub polled_in : IsFastInOrder polled × IsLinked links polled
   pub before : List Frame
   pub after : List Frame
   pub long : length before ≡ m.frames
   pub mixes : MixesOnce polled before answer m' after
+  pub mixed_in : IsFastInOrder m' × IsLinked links m'
   pub sizes : (m'.frames ≡ m.frames) × (m'.cycles ≡ m.cycles)
   pub bytes_are : bytes ≡ written answer after
 
 -- So many cycles with the bytes that they wrote, or fewer where one of them mixes nothing: it is the last
-abbrev pub CyclesOn : ℕ → MixerState → List ℕ → MixerState → Type 0
-CyclesOn zero m bytes m' = (bytes ≡ []) × (m' ≡ m)
-CyclesOn (suc left) m bytes m' = (answer : Cycle) × (next : MixerState) × (front : List ℕ) × (back : List ℕ) × CyclesOnce m answer front next × (bytes ≡ front ++ back)
-    × (is_mixed answer ≡ true → CyclesOn left next back m') × (is_mixed answer ≡ false → (back ≡ []) × (m' ≡ next))
+abbrev pub CyclesOn : Links → ℕ → MixerState → List ℕ → MixerState → Type 0
+CyclesOn links zero m bytes m' = (bytes ≡ []) × (m' ≡ m)
+CyclesOn links (suc left) m bytes m' = (answer : Cycle) × (next : MixerState) × (front : List ℕ) × (back : List ℕ) × CyclesOnce links m answer front next × (bytes ≡ front ++ back)
+    × (is_mixed answer ≡ true → CyclesOn links left next back m') × (is_mixed answer ≡ false → (back ≡ []) × (m' ≡ next))
 
 -- the most cycles of a turn
 abbrev pub most_cycles : ℕ
 most_cycles = 16
 
 -- a turn: none where the mixer has ended
-abbrev pub FastTurned : MixerState → List ℕ → MixerState → Type 0
-FastTurned m bytes m' = MatchBool m.exited ((bytes ≡ []) × (m' ≡ m)) (CyclesOn most_cycles m bytes m')
+abbrev pub FastTurned : Links → MixerState → List ℕ → MixerState → Type 0
+FastTurned links m bytes m' = MatchBool m.exited ((bytes ≡ []) × (m' ≡ m)) (CyclesOn links most_cycles m bytes m')

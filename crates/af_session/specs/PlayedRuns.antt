@@ -7,6 +7,7 @@ use Rattle.af_io.specs.Causes.{Rose}
 use Rattle.af_io.specs.Files.{Files, SameFiles, LeavesFront}
 use Rattle.af_io.specs.declared.store.StoreError.{StoreError}
 use Rattle.af_io.specs.declared.store.StoreError.TheVariants as store
+use Rattle.af_model.specs.JournalForm.{IsJournal}
 use Rattle.af_model.specs.Journals.{JournalData, RoundNoted, journal_of}
 use Rattle.af_script.specs.Data.{ScriptData}
 use Rattle.af_audit.specs.Drained.{EachDrainedTrackReachedItsStop}
@@ -71,12 +72,13 @@ abbrev pub LeavesRun : ScriptData → List (List Frame) → List ℕ → Files �
 LeavesRun script files name old new = SameFiles old new
     ⊎ ((rounds : List RoundNoted) × (t : SessionState) × Plays script files rounds t × LeavesFront old name (pcm_of script.frames t.fast.log) new)
 
--- The journal and the ends of parties that have played rounds since they were made, no more than there are cycles: the journal has these rounds, and the entries of the fast mixer's log. `ended` says whether all have ended; else the log has all of its entries
+-- The journal and the ends of parties that have played rounds since they were made, no more than there are cycles: the journal has these rounds, and the entries of the fast mixer's log, and its form. `ended` says whether all have ended; else the log has all of its entries
 pub record HandsBackRun (ended : Bool) (script : ScriptData) (files : List (List Frame)) (journal : JournalData) (ends : EndsState) : Type 0 where
   pub parties : SessionState
   pub rounds : List RoundNoted
   pub played : Plays script files rounds parties
   pub journal_is : journal ≡ journal_of (record { tracks = length script.tracks; rounds = rounds }) parties.fast.log
+  pub form : IsJournal journal
   pub ends_are : ends ≡ ends_from parties
   pub count : length ends.clients ≡ length script.tracks
   pub few : length rounds ≤ script.cycles

@@ -13,6 +13,7 @@ use Rattle.af_normal.specs.LegalTurned.{IsLegal}
 use Rattle.af_normal.specs.Meeting.{AreClientsOf}
 use Rattle.af_normal.specs.Order.{IsInOrder as IsNormalInOrder}
 use Rattle.af_normal.specs.State.{NormalState}
+use Rattle.af_normal.specs.TurnMade.{TurnMade, answer_of}
 use Rattle.af_session.specs.Alone.{FastTurned}
 use Rattle.af_session.specs.Met.{Met}
 use Rattle.af_party.specs.Parties.{PartyState, track_of}
@@ -21,7 +22,7 @@ use Rattle.af_session.specs.Shown.{Follows, HasPlaces}
 use Rattle.af_tally.specs.Sound.{IsWhole, pcm_of}
 use Rattle.af_tally.specs.Summaries.{Shown, with_calls, with_turn}
 use Rattle.af_tally.specs.Tallies.{Tallied}
-use Rattle.af_session.specs.Together.{SessionState}
+use Rattle.af_session.specs.Together.{AreTogether, SessionState}
 use Rattle.af_party.specs.Works.{CanWork}
 
 -- ## The turns
@@ -31,9 +32,13 @@ pub record ClientPlayed (g : Given) (p q : PartyState) : Type 0 where
   pub legal : LegalClientTurn (track_of (ops_at g p.track) (file_at g p.track) p) q.calls.items
   pub turned : track_of (ops_at g p.track) (file_at g p.track) q ≡ after_calls (track_of (ops_at g p.track) (file_at g p.track) p) q.calls.items
 
--- the normal mixer made a legal turn, by what it saw outside; one that has ended makes none
+-- the normal mixer made a legal turn, by what it saw outside and by its steps
+abbrev pub TurnPlayed : NormalState → NormalState → Type 0
+TurnPlayed m m' = (o : Outside) × IsLegal o m m' × TurnMade (answer_of (turn_of m'.entry)) m m'
+
+-- it did so; one that has ended makes none
 abbrev pub NormalPlayed : NormalState → NormalState → Type 0
-NormalPlayed m m' = MatchBool m.ended (m' ≡ m) ((o : Outside) × IsLegal o m m')
+NormalPlayed m m' = MatchBool m.ended (m' ≡ m) (TurnPlayed m m')
 
 -- what the journal notes of a round: the calls of each client, the normal mixer's turn if it made one, and how many entries came
 abbrev pub turn_noted : NormalState → NormalState → Option Turn
@@ -46,22 +51,24 @@ all_noted s t = record {
   cycles = length t.fast.log.entries - length s.fast.log.entries;
 }
 
--- each party made its turn, at the same time as the others
-pub record AllPlayed (g : Given) (s t : SessionState) (bytes : List ℕ) : Type 0 where
+-- each party made its turn, at the same time as the others, over these links
+pub record AllPlayed (links : Links) (g : Given) (s t : SessionState) (bytes : List ℕ) : Type 0 where
   pub clients : AllZip (ClientPlayed g) s.clients t.clients
   pub normal : NormalPlayed s.normal t.normal
-  pub fast : FastTurned s.fast bytes t.fast
+  pub fast : FastTurned links s.fast bytes t.fast
 
 -- ## The round
 
--- the turns, then the meetings of all, and then the ends
+-- The turns, then the meetings of all, and then the ends; the parties belong together before the turns, after them and after the meetings, over the same links
 pub record IsRoundOfAll (g : Given) (s : SessionState) (r : RoundNoted) (bytes : List ℕ) (t : SessionState) : Type 0 where
   pub turned : SessionState
   pub met : SessionState
-  pub plays : AllPlayed g s turned bytes
+  pub links : Links
+  pub plays : AllPlayed links g s turned bytes
   pub told : r ≡ all_noted s turned
   pub meets : Met turned met
   pub ends : t ≡ with_ends met
+  pub together : AreTogether links s × AreTogether links turned × AreTogether links met
 
 -- ## What each party needs for its turn, and has after it
 
@@ -102,7 +109,7 @@ pub record CanCycle (links : Links) (m : MixerState) : Type 0 where
 pub record HasCycledOn (links : Links) (m m' : MixerState) (bytes bytes' : Roomy ℕ) : Type 0 where
   pub added : List ℕ
   pub written_is : bytes' ≡ record bytes { items = bytes.items ++ added }
-  pub played : FastTurned m added m'
+  pub played : FastTurned links m added m'
   pub can : CanCycle links m'
   pub sizes : (m'.frames ≡ m.frames) × (m'.cycles ≡ m.cycles)
   pub sound : (before : List ℕ) → before ++ bytes.items ≡ pcm_of m.frames m.log → before ++ bytes'.items ≡ pcm_of m.frames m'.log

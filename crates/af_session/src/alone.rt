@@ -32,7 +32,7 @@ fn cycle_once<L: Ledger>(
     requires room { length bytes.old.items + 4 * fast.old.frames ≤ bytes.old.room }
     requires places { (n : ℕ) × (tracks : ℕ) × (n ≤ 100000) × HasPlaces n tracks (length fast.old.log.entries) tally.old }
     ensures can { CanCycle links.now fast.new }
-    ensures cycle { CyclesOnce fast.old result (written result buffer.new) fast.new }
+    ensures cycle { CyclesOnce links.now fast.old result (written result buffer.new) fast.new }
     ensures bytes { bytes.new ≡ record bytes.old { items = bytes.old.items ++ written result buffer.new } }
     ensures tally { Follows fast.old fast.new tally.old tally.new }
     ensures places { (n tracks : ℕ) → HasPlaces n tracks (length fast.old.log.entries) tally.old → HasPlaces n tracks (length fast.new.log.entries) tally.new }
@@ -60,7 +60,7 @@ fn cycle_logged<L: Ledger>(
     requires places { (n : ℕ) × (tracks : ℕ) × (n ≤ 100000) × HasPlaces n tracks (length fast.old.log.entries) tally.old }
     requires log { IsScribe log.now (length fast.old.log.entries) scribe.old }
     ensures can { CanCycle links.now fast.new }
-    ensures cycle { CyclesOnce fast.old result (written result buffer.new) fast.new }
+    ensures cycle { CyclesOnce links.now fast.old result (written result buffer.new) fast.new }
     ensures bytes { bytes.new ≡ record bytes.old { items = bytes.old.items ++ written result buffer.new } }
     ensures tally { Follows fast.old fast.new tally.old tally.new }
     ensures places { (n tracks : ℕ) → HasPlaces n tracks (length fast.old.log.entries) tally.old → HasPlaces n tracks (length fast.new.log.entries) tally.new }
@@ -94,7 +94,7 @@ fn cycles_on<L: Ledger>(
     requires log { IsScribe log.now (length fast.old.log.entries) scribe.old }
     ensures can { CanCycle links.now fast.new }
     ensures sizes { (fast.new.frames ≡ fast.old.frames) × (fast.new.cycles ≡ fast.old.cycles) }
-    ensures turned { (added : List ℕ) × (bytes.new ≡ record bytes.old { items = bytes.old.items ++ added }) × CyclesOn most_cycles fast.old added fast.new }
+    ensures turned { (added : List ℕ) × (bytes.new ≡ record bytes.old { items = bytes.old.items ++ added }) × CyclesOn links.now most_cycles fast.old added fast.new }
     ensures tally { Follows fast.old fast.new tally.old tally.new }
     ensures places { (n tracks : ℕ) → HasPlaces n tracks (length fast.old.log.entries) tally.old → HasPlaces n tracks (length fast.new.log.entries) tally.new }
     ensures scribe { IsScribe log.now (length fast.new.log.entries) scribe.new }

@@ -47,7 +47,7 @@ impl Parties {
         requires auditor { IsAuditor logging.old.log logging.old.auditor }
         ensures ready { (n : ℕ) → IsReady links.now (record { tracks = tracks.now; files = files.now }) n self.old → IsReady links.now (record { tracks = tracks.now; files = files.now }) (n + 1) self.new }
         ensures sizes { (self.new.fast.frames ≡ self.old.fast.frames) × (self.new.fast.cycles ≡ self.old.fast.cycles) }
-        ensures turns { (added : List ℕ) × (bytes.new ≡ record bytes.old { items = bytes.old.items ++ added }) × AllPlayed (record { tracks = tracks.now; files = files.now }) self.old self.new added }
+        ensures turns { (added : List ℕ) × (bytes.new ≡ record bytes.old { items = bytes.old.items ++ added }) × AllPlayed links.now (record { tracks = tracks.now; files = files.now }) self.old self.new added }
         ensures noted { HasNotedOn self.old.fast self.new.fast tally.old tally.new }
         ensures logged { HasBothLogged (length self.old.fast.log.entries) self.new.fast logging.old logging.new }
         ensures sound { (before : List ℕ) → before ++ bytes.old.items ≡ pcm_of self.old.fast.frames self.old.fast.log → before ++ bytes.new.items ≡ pcm_of self.old.fast.frames self.new.fast.log }

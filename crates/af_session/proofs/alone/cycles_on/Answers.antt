@@ -22,7 +22,7 @@ loop-i-init g c =
         [],
         ap (λ (l : List ℕ). record bytes { items = l }) (sym (append-nil bytes.items)),
         omega arith,
-        comes_first most_cycles c.args.fast.now,
+        comes_first c.args.links.now most_cycles c.args.fast.now,
       );
       longer = omega arith;
       scribe = c.requires.log;
@@ -42,7 +42,7 @@ returns-then-not-is_mixed-clause-turned g c =
     let dry : is_mixed call.result ≡ false = sym c.is_mixed.ensures ∙ c.if-not-is_mixed.true in (
       so_far.0 ++ more,
       put_behind c.args.bytes.now c.loop-i.bytes call.new.bytes so_far.0 more so_far.1 call.ensures.bytes,
-      comes_over most_cycles c.loop-i.i c.args.fast.now c.loop-i.fast call.new.fast call.result so_far.0 more so_far.3 call.ensures.cycle dry (omega arith),
+      comes_over c.args.links.now most_cycles c.loop-i.i c.args.fast.now c.loop-i.fast call.new.fast call.result so_far.0 more so_far.3 call.ensures.cycle dry (omega arith),
     )
 
 pub loop-i-preserved : goal.loop-i-preserved
@@ -51,7 +51,7 @@ loop-i-preserved g c =
     let more : List ℕ = written call.result call.new.buffer in
     let inv = c.loop-i.invariant in
     let so_far = inv.turn in
-    let cycle : CyclesOnce c.loop-i.fast call.result more call.new.fast = call.ensures.cycle in
+    let cycle : CyclesOnce c.args.links.now c.loop-i.fast call.result more call.new.fast = call.ensures.cycle in
     let mixed : is_mixed call.result ≡ true = sym c.is_mixed.ensures ∙ c.if-not-is_mixed.false in
     let buffer : length call.new.buffer ≡ c.args.fast.now.frames = call.auto.buffer ∙ inv.buffer ∙ inv.sizes.0 in
     let long = length-append so_far.0 more in
@@ -66,18 +66,18 @@ loop-i-preserved g c =
         so_far.0 ++ more,
         put_behind c.args.bytes.now c.loop-i.bytes call.new.bytes so_far.0 more so_far.1 call.ensures.bytes,
         omega (arith, buffer, long, wide, so_far.2),
-        comes_on most_cycles c.loop-i.i c.args.fast.now c.loop-i.fast call.new.fast call.result so_far.0 more so_far.3 cycle mixed,
+        comes_on c.args.links.now most_cycles c.loop-i.i c.args.fast.now c.loop-i.fast call.new.fast call.result so_far.0 more so_far.3 cycle mixed,
       );
-      longer = (let adds = cycle_adds_up_to_one c.loop-i.fast call.new.fast call.result more cycle in let here = no_shorter c.loop-i.fast call.new.fast adds in let before = inv.longer in omega (arith, here, before));
+      longer = (let adds = cycle_adds_up_to_one c.args.links.now c.loop-i.fast call.new.fast call.result more cycle in let here = no_shorter c.loop-i.fast call.new.fast adds in let before = inv.longer in omega (arith, here, before));
       scribe = call.ensures.scribe;
-      logged = noted_more (length c.args.fast.now.log.entries) c.loop-i.fast call.new.fast c.args.scribe.now c.loop-i.scribe call.new.scribe inv.longer cycle.sizes.0 (cycle_adds_up_to_one c.loop-i.fast call.new.fast call.result more cycle) inv.logged call.ensures.logged;
+      logged = noted_more (length c.args.fast.now.log.entries) c.loop-i.fast call.new.fast c.args.scribe.now c.loop-i.scribe call.new.scribe inv.longer cycle.sizes.0 (cycle_adds_up_to_one c.args.links.now c.loop-i.fast call.new.fast call.result more cycle) inv.logged call.ensures.logged;
     }
 
 pub returns-clause-turned : goal.returns-clause-turned
 returns-clause-turned g c =
     let so_far = c.loop-i.invariant.turn in
     let whole : c.loop-i.i ≡ most_cycles = omega arith in
-    (so_far.0, so_far.1, comes_whole most_cycles c.args.fast.now c.loop-i.fast so_far.0 (subst (λ (n : ℕ). ComesTo most_cycles n c.args.fast.now c.loop-i.fast so_far.0) whole so_far.3))
+    (so_far.0, so_far.1, comes_whole c.args.links.now most_cycles c.args.fast.now c.loop-i.fast so_far.0 (subst (λ (n : ℕ). ComesTo c.args.links.now most_cycles n c.args.fast.now c.loop-i.fast so_far.0) whole so_far.3))
 
 pub cycle_logged-cycle-requires-clause-places : goal.cycle_logged-cycle-requires-clause-places
 cycle_logged-cycle-requires-clause-places g c =
@@ -92,8 +92,8 @@ returns-then-not-is_mixed-clause-logged g c =
     let call = c.cycle_logged-cycle in
     let more : List ℕ = written call.result call.new.buffer in
     let inv = c.loop-i.invariant in
-    let cycle : CyclesOnce c.loop-i.fast call.result more call.new.fast = call.ensures.cycle in
-    noted_more (length c.args.fast.now.log.entries) c.loop-i.fast call.new.fast c.args.scribe.now c.loop-i.scribe call.new.scribe inv.longer cycle.sizes.0 (cycle_adds_up_to_one c.loop-i.fast call.new.fast call.result more cycle) inv.logged call.ensures.logged
+    let cycle : CyclesOnce c.args.links.now c.loop-i.fast call.result more call.new.fast = call.ensures.cycle in
+    noted_more (length c.args.fast.now.log.entries) c.loop-i.fast call.new.fast c.args.scribe.now c.loop-i.scribe call.new.scribe inv.longer cycle.sizes.0 (cycle_adds_up_to_one c.args.links.now c.loop-i.fast call.new.fast call.result more cycle) inv.logged call.ensures.logged
 
 pub cycle_logged-cycle-requires-clause-can : goal.cycle_logged-cycle-requires-clause-can
 cycle_logged-cycle-requires-clause-can g c = c.loop-i.invariant.can

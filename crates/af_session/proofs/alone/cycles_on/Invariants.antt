@@ -14,7 +14,7 @@ invariant-loop-i g l = record {
   places : (n tracks : ℕ) → HasPlaces n tracks (length l.initial.fast.log.entries) l.initial.tally → HasPlaces n tracks (length l.fast.log.entries) l.tally;
   sizes : (l.fast.frames ≡ l.initial.fast.frames) × (l.fast.cycles ≡ l.initial.fast.cycles);
   turn : (front : List ℕ) × (l.bytes ≡ record l.initial.bytes { items = l.initial.bytes.items ++ front }) × (length front ≤ 4 * (l.i * l.initial.fast.frames))
-      × ComesTo most_cycles l.i l.initial.fast l.fast front;
+      × ComesTo l.links most_cycles l.i l.initial.fast l.fast front;
   longer : length l.initial.fast.log.entries ≤ length l.fast.log.entries;
   scribe : IsScribe l.log (length l.fast.log.entries) l.scribe;
   logged : HasLogged (length l.initial.fast.log.entries) l.fast l.initial.scribe l.scribe;

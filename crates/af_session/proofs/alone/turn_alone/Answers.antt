@@ -13,14 +13,14 @@ returns-then-not-has_exited-clause-turned g c =
     let done = c.cycles_on.ensures.turned in
     let added : List ℕ = done.0 in
     let runs : m.exited ≡ false = sym c.has_exited.ensures ∙ c.if-not-has_exited.true in
-    let turned : FastTurned m added m' = subst (λ (b : Bool). MatchBool b ((added ≡ []) × (m' ≡ m)) (CyclesOn most_cycles m added m')) (sym runs) done.2 in
+    let turned : FastTurned c.args.links.now m added m' = subst (λ (b : Bool). MatchBool b ((added ≡ []) × (m' ≡ m)) (CyclesOn c.args.links.now most_cycles m added m')) (sym runs) done.2 in
     record {
       added = added;
       written_is = done.1;
       played = turned;
       can = c.cycles_on.ensures.can;
       sizes = c.cycles_on.ensures.sizes;
-      sound = (λ before same. sounds_on m m' c.args.bytes.now c.cycles_on.new.bytes added before c.requires.can.whole turned done.1 same);
+      sound = (λ before same. sounds_on c.args.links.now m m' c.args.bytes.now c.cycles_on.new.bytes added before c.requires.can.whole turned done.1 same);
     }
 
 pub returns-else-not-has_exited-clause-logged : goal.returns-else-not-has_exited-clause-logged

@@ -76,7 +76,7 @@ returns-clause-turns g c =
     let played = played_by_all c.args.links.now given n was (subst (IsReady c.args.links.now given n) (sym is) c.requires.ready.2) new.clients new.normal new.fast c.args.bytes.now new.bytes c.all_turns.ensures.clients c.all_turns.ensures.normal cycled in (
       cycled.added,
       cycled.written_is,
-      subst (λ (x : SessionState × SessionState). AllPlayed given x.0 x.1 cycled.added) (λ i. (is i, record { clients = sym kept i; normal = new.normal; fast = new.fast })) played,
+      subst (λ (x : SessionState × SessionState). AllPlayed c.args.links.now given x.0 x.1 cycled.added) (λ i. (is i, record { clients = sym kept i; normal = new.normal; fast = new.fast })) played,
     )
 
 pub returns-clause-noted : goal.returns-clause-noted

@@ -75,10 +75,12 @@ returns-clause-round g c =
       record {
         turned = c.play_at_once.new.self;
         met = c.meet_in.new.self;
+        links = c.args.links.now;
         plays = turns.2;
         told = noted_after c.args.self.now c.play_at_once.new.self c.meet_in.new.self c.end_clients.new.self c.meet_in.ensures.met (sym after.given.0 ∙ next.given.0) c.end_clients.ensures;
         meets = c.meet_in.ensures.met;
         ends = c.end_clients.ensures;
+        together = (c.requires.ready.2.together, next.together, after.together);
       },
     )
 
@@ -136,7 +138,7 @@ returns-clause-log g c = λ kept rounds held.
     let after = c.meet_in.ensures.ready (n + 1) next in
     let same = sizes_after was is c.meet_in.new.self end c.meet_in.ensures.met (sym after.given.0 ∙ next.given.0) c.end_clients.ensures in
     let turns = c.play_at_once.ensures.turns in
-    let adds = turned_adds was.fast is.fast turns.0 c.requires.ready.2.whole turns.2.fast in
+    let adds = turned_adds c.args.links.now was.fast is.fast turns.0 c.requires.ready.2.whole turns.2.fast in
     let more : List CycleEntry = adds.mixes ++ adds.last in
     let few : length more ≤ 16 = (let both = length-append adds.mixes adds.last in let most = adds.few in omega arith) in
     let count : length end.fast.log.entries - length was.fast.log.entries ≡ length more =
