@@ -1,5 +1,6 @@
 mod Texts
 mod Entries
+mod Small
 mod Decimal
 mod Spelled
 mod LineLaws

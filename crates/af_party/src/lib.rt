@@ -2,6 +2,8 @@
 #![tactic(auto)]
 
 mod asking;
+#[cfg(test)]
+mod client_tests;
 mod client_turn;
 mod party;
 

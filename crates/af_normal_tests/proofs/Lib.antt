@@ -1,6 +1,0 @@
-mod Zips
-mod Lines
-mod HeldFacts
-mod Clients
-mod AfterEnd
-mod OthersMet
