@@ -104,15 +104,7 @@ impl Stage {
         ensures cut { IfErr result (λ f. (f ≡ CycleLimit (journal_of self.rounds self.parties.fast.log) (ends_from self.parties)) ⊎ (f ≡ MemoryFault)) }
         ensures cut_run { IfErr result (AtLimit (λ journal _. IsCutRun script.now files.now journal)) }
     {
-        let Stage {
-            shared,
-            parties,
-            room,
-            rounds,
-        } = self;
-        drop(shared);
-        drop(room);
-        let (journal, ends) = hand_over(parties, rounds);
+        let (journal, ends) = hand_over(self.parties, self.rounds);
         match judged(alloc, script, files, &journal, true) {
             Ok(()) => Err(PlayFault::CycleLimit { journal, ends }),
             Err(_) => {

@@ -198,22 +198,14 @@ impl Stage {
     }
 
     /// What is handed back of a stage whose rounds were noted.
-    pub(crate) fn finish(self) -> Played
+    pub(crate) fn finish(mut self) -> Played
         requires { (script : ScriptData) × IsNoted script self }
         ensures journal { result.journal ≡ journal_of self.rounds self.parties.fast.log }
         ensures ends { result.ends ≡ ends_from self.parties }
         ensures summary { (script : ScriptData) → IsNoted script self → result.summary ≡ summary_told script.frames result.journal result.ends }
     {
-        let Stage {
-            shared,
-            parties,
-            mut room,
-            rounds,
-        } = self;
-        drop(shared);
-        let summary = sum_up(&parties, &room.tally, &mut room.released);
-        drop(room);
-        hand_back(parties, rounds, summary)
+        let summary = sum_up(&self.parties, &self.room.tally, &mut self.room.released);
+        hand_back(self.parties, self.rounds, summary)
     }
 }
 
