@@ -1,10 +1,10 @@
 -- A static buffer that is looped under one setting: calls of so many places, one after the other, at unity.
-use Rattle.std.specs.Prelude.{ℕ, zero, suc, ◌+◌, ◌^◌, Bool, List, [], ◌++◌, length, is_some, if◌then◌else◌}
+use Rattle.std.specs.Prelude.{ℕ, ◌^◌, Bool, List, length, replicate, is_some, if◌then◌else◌}
 use Rattle.af_base.specs.declared.frame.Frame.{Frame}
 use Rattle.af_static.specs.declared.setting.Setting.{Setting}
-use Rattle.af_static.specs.declared.head.Head.{Head}
+use Rattle.af_static.specs.Calls.{Call, filled_of, outputs_of, standing_in, unplayed}
 use Rattle.af_static.specs.InStep.{HandState}
-use Rattle.af_static.specs.Loops.{at_first, head_after, heard, is_valid, opening, output, shut_by, taken}
+use Rattle.af_static.specs.Loops.{is_valid, shut_by}
 use Rattle.af_words.specs.declared.request.Turns.{Turns}
 
 -- the most bytes of a file that is looped: 8192 frames
@@ -15,28 +15,21 @@ most_buffer = 2 ^ 15
 abbrev pub unity : ℕ × ℕ
 unity = (4096, 4096)
 
--- what is heard of so many calls from a head on
-abbrev pub heard_of : List Frame → Setting → ℕ → ℕ → Head → List Frame
-heard_of frames s places zero head = []
-heard_of frames s places (suc calls) head =
-    output unity (taken frames s head places) places ++ heard_of frames s places calls (head_after (length frames) s head places)
+-- a call at unity that finds a setting
+abbrev pub call_under : Setting → ℕ → Call
+call_under setting places = record { setting = setting; gains = unity; places = places }
 
--- how many frames they take
-abbrev pub filled_of : List Frame → Setting → ℕ → ℕ → Head → ℕ
-filled_of frames s places zero head = 0
-filled_of frames s places (suc calls) head = length (taken frames s head places) + filled_of frames s places calls (head_after (length frames) s head places)
+-- so many calls of so many places that find one setting
+abbrev pub calls_under : Setting → ℕ → ℕ → List Call
+calls_under setting places calls = replicate calls (call_under setting places)
 
 -- the one setting, which the first call sees
 abbrev pub setting_of : Turns → Setting
 setting_of turns = record { number = 1; start = turns.start; end = turns.end; count = turns.count }
 
--- the head from which the first call plays
-abbrev pub first_head : Turns → List Frame → Head
-first_head turns frames = heard (length frames) opening at_first (setting_of turns)
-
 -- what is heard of all calls
 abbrev pub looped : Turns → List Frame → List Frame
-looped turns frames = heard_of frames (setting_of turns) turns.places turns.calls (first_head turns frames)
+looped turns frames = outputs_of frames unplayed (calls_under (setting_of turns) turns.places turns.calls)
 
 -- how many calls there were, how many frames they took, and whether the player is shut
 pub record Rolls : Type 0 where
@@ -47,7 +40,7 @@ pub record Rolls : Type 0 where
 abbrev pub rolls_of : Turns → List Frame → Rolls
 rolls_of turns frames = record {
   cycles = turns.calls;
-  filled = filled_of frames (setting_of turns) turns.places turns.calls (first_head turns frames);
+  filled = filled_of frames unplayed (calls_under (setting_of turns) turns.places turns.calls);
   is_shut = is_some (shut_by (length frames) (setting_of turns));
 }
 
@@ -55,19 +48,14 @@ rolls_of turns frames = record {
 unfoldable pub next_setting : HandState → Setting
 next_setting hand = if is_valid (length hand.frames) hand.used then hand.newest else hand.used
 
--- and the head from which it plays
-unfoldable pub next_head : HandState → Head
-unfolding next_setting
-next_head hand = heard (length hand.frames) hand.used hand.head (next_setting hand)
-
 -- what is heard of all calls of a buffer in hand
 abbrev pub heard_in : HandState → Turns → List Frame
-heard_in hand turns = heard_of hand.frames (next_setting hand) turns.places turns.calls (next_head hand)
+heard_in hand turns = outputs_of hand.frames (standing_in hand) (calls_under hand.newest turns.places turns.calls)
 
 -- how many calls there were, how many frames they took, and whether the player is shut
 abbrev pub rolls_from : HandState → Turns → Rolls
 rolls_from hand turns = record {
   cycles = turns.calls;
-  filled = filled_of hand.frames (next_setting hand) turns.places turns.calls (next_head hand);
+  filled = filled_of hand.frames (standing_in hand) (calls_under hand.newest turns.places turns.calls);
   is_shut = is_some (shut_by (length hand.frames) (next_setting hand));
 }

@@ -1,13 +1,15 @@
 //! The command `loop`: what it makes of a file.
-ghost use Rattle.std.specs.Prelude.{◌≡◌, ◌+◌, ◌*◌, ◌++◌, ◌≤◌, ℕ, List, Err, IfOk, OnOk, Some, length, is_some, string_bytes};
+ghost use Rattle.std.specs.Prelude.{◌≡◌, ◌+◌, ◌*◌, [], ◌∷◌, ◌++◌, ◌≤◌, ℕ, List, Err, IfOk, OnOk, Some, length, is_some, string_bytes};
+ghost use Rattle.af_base.specs.declared.frame.Frame.{Frame};
 ghost use Rattle.af_base.specs.Sample.{pcm_bytes};
 ghost use Rattle.af_io.specs.Files.{SameFiles};
-ghost use Rattle.af_static.specs.Loops.{head_after, output, shut_by, taken};
+ghost use Rattle.af_static.specs.Calls.{Call, CallsPlay, Standing, filled_of, outputs_of, standing_in, unplayed};
+ghost use Rattle.af_static.specs.Loops.{shut_by};
 ghost use Rattle.af_commands.specs.Asked.{buffer_in, loop_asked};
 ghost use Rattle.af_commands.specs.Asking.{output_job};
 ghost use Rattle.af_commands.specs.Ends.{Makes};
 ghost use Rattle.af_commands.specs.Line.{rolls_text};
-ghost use Rattle.af_commands.specs.Looped.{Rolls, filled_of, first_head, heard_in, heard_of, looped, next_head, next_setting, rolls_from, rolls_of, setting_of, unity};
+ghost use Rattle.af_commands.specs.Looped.{Rolls, call_under, calls_under, heard_in, looped, next_setting, rolls_from, rolls_of, setting_of};
 ghost use Rattle.af_words.specs.Asking.{AreTurns};
 ghost use Rattle.af_commands.specs.Rolled.{rolls_in};
 ghost use Rattle.af_commands.specs.Status.{HasFault, IsNoUsage, Meets};
@@ -64,10 +66,10 @@ fn play_once(
 ) -> Result<Unrolled, Memory>
     requires { (1 ≤ length places.old) × (length places.old ≤ 1024) }
     ensures buffer { OnOk result ((hand.new.frames ≡ hand.old.frames) × (length places.new ≡ length places.old)) }
-    ensures setting { OnOk result (next_setting hand.new ≡ next_setting hand.old) }
-    ensures head { OnOk result (next_head hand.new ≡ head_after (length hand.old.frames) (next_setting hand.old) (next_head hand.old) (length places.old)) }
-    ensures bytes { OnOk result (bytes.new.items ≡ bytes.old.items ++ pcm_bytes (output unity (taken hand.old.frames (next_setting hand.old) (next_head hand.old) (length places.old)) (length places.old))) }
-    ensures filled { IfOk result (λ unrolled. unrolled.filled ≡ length (taken hand.old.frames (next_setting hand.old) (next_head hand.old) (length places.old))) }
+    ensures setting { OnOk result ((hand.new.newest ≡ hand.old.newest) × (next_setting hand.new ≡ next_setting hand.old)) }
+    ensures bytes { OnOk result (bytes.new.items ≡ bytes.old.items ++ pcm_bytes places.new) }
+    ensures played { IfOk result (λ unrolled. (first : Standing) (calls : List Call) (played : List Frame) (count : ℕ) → CallsPlay hand.old.frames first calls played count (standing_in hand.old)
+        → CallsPlay hand.old.frames first (calls ++ call_under hand.old.newest (length places.old) ∷ []) (played ++ places.new) (count + unrolled.filled) (standing_in hand.new)) }
     ensures shut { IfOk result (λ unrolled. unrolled.shut ≡ shut_by (length hand.old.frames) (next_setting hand.old)) }
 {
     let unrolled = hand.play(Gains::clamped(UNITY), places);
@@ -84,9 +86,9 @@ fn play_calls(
 ) -> Result<Rolled, Memory>
     requires places { (1 ≤ length places.old) × (length places.old ≤ 1024) }
     requires calls { (1 ≤ calls) × (calls ≤ 2048) }
-    ensures bytes { OnOk result (bytes.new.items ≡ bytes.old.items ++ pcm_bytes (heard_of hand.old.frames (next_setting hand.old) (length places.old) calls (next_head hand.old))) }
+    ensures bytes { OnOk result (bytes.new.items ≡ bytes.old.items ++ pcm_bytes (outputs_of hand.old.frames (standing_in hand.old) (calls_under hand.old.newest (length places.old) calls))) }
     ensures cycles { IfOk result (λ rolled. rolled.cycles ≡ calls) }
-    ensures filled { IfOk result (λ rolled. rolled.filled ≡ filled_of hand.old.frames (next_setting hand.old) (length places.old) calls (next_head hand.old)) }
+    ensures filled { IfOk result (λ rolled. rolled.filled ≡ filled_of hand.old.frames (standing_in hand.old) (calls_under hand.old.newest (length places.old) calls)) }
     ensures shut { IfOk result (λ rolled. rolled.is_shut ≡ is_some (shut_by (length hand.old.frames) (next_setting hand.old))) }
 {
     let mut rolled = Rolled {
@@ -107,8 +109,8 @@ fn play_calls(
 fn set_once(alloc: Global, frames: &[Frame], turns: Turns) -> Result<InHand, Memory>
     requires { (1 ≤ length frames.now) × (length frames.now ≤ 8192) }
     ensures buffer { IfOk result (λ hand. hand.frames ≡ frames.now) }
-    ensures setting { IfOk result (λ hand. next_setting hand ≡ setting_of turns) }
-    ensures head { IfOk result (λ hand. next_head hand ≡ first_head turns frames.now) }
+    ensures setting { IfOk result (λ hand. (hand.newest ≡ setting_of turns) × (next_setting hand ≡ setting_of turns)) }
+    ensures start { IfOk result (λ hand. standing_in hand ≡ unplayed) }
 {
     let mut hand = InHand::make(alloc, frames)?;
     hand.set(turns.start, turns.end, turns.count);

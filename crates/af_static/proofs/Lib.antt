@@ -1,3 +1,5 @@
 mod Numbering
 mod Rows
 mod Newest
+pub mod Calling
+mod Cuts

@@ -18,10 +18,10 @@ use Rattle.af_static.specs.Played.{IsPlayedTo, IsSilentFrom, IsDone}
 abbrev head_at : Head → ℕ → Head
 head_at h position = record { position = position; start = h.start; end = h.end; left = h.left }
 
-first_step : (frames : List Frame) (h : Head) (steps : ℕ) → h.position < length frames → frames_of frames h (suc steps) ≡ frame_at frames h.position ∷ frames_of frames (moved h 1) steps
+pub first_step : (frames : List Frame) (h : Head) (steps : ℕ) → h.position < length frames → frames_of frames h (suc steps) ≡ frame_at frames h.position ∷ frames_of frames (moved h 1) steps
 first_step frames h steps ahead = ap (λ (b : Bool). if b then frame_at frames h.position ∷ frames_of frames (if b then moved h 1 else h) steps else []) (lt-ltb h.position (length frames) ahead)
 
-first_moves : (n : ℕ) (h : Head) (steps : ℕ) → h.position < n → after n h (suc steps) ≡ after n (moved h 1) steps
+pub first_moves : (n : ℕ) (h : Head) (steps : ℕ) → h.position < n → after n h (suc steps) ≡ after n (moved h 1) steps
 first_moves n h steps ahead = ap (λ (b : Bool). after n (if b then moved h 1 else h) steps) (lt-ltb h.position n ahead)
 
 no_jump : (left place stop : ℕ) → (0 < left → place < stop) → (not (left == 0) && place == stop) ≡ false
@@ -88,11 +88,11 @@ row_moves n (suc (suc run)) (suc steps) rest h some is row =
 
 -- ## The end of the buffer
 
-none_left : (frames : List Frame) (h : Head) (steps : ℕ) → length frames ≤ h.position → frames_of frames h steps ≡ []
+pub none_left : (frames : List Frame) (h : Head) (steps : ℕ) → length frames ≤ h.position → frames_of frames h steps ≡ []
 none_left frames h zero past = refl
 none_left frames h (suc steps) past = ap (λ (b : Bool). if b then frame_at frames h.position ∷ frames_of frames (if b then moved h 1 else h) steps else []) (le-ltb h.position (length frames) past)
 
-stays : (n : ℕ) (h : Head) (steps : ℕ) → n ≤ h.position → after n h steps ≡ h
+pub stays : (n : ℕ) (h : Head) (steps : ℕ) → n ≤ h.position → after n h steps ≡ h
 stays n h zero past = refl
 stays n h (suc steps) past = ap (λ (b : Bool). after n (if b then moved h 1 else h) steps) (le-ltb h.position n past) ∙ stays n h steps past
 
@@ -107,7 +107,7 @@ heard_of gains frame = record {
 heard_at : (gains : ℕ × ℕ) (frames : List Frame) (k : ℕ) → mixed_frame (take_at gains frames ∷ []) k ≡ heard_of gains (frame_at frames k)
 heard_at gains frames k = refl
 
-same_mix : (gains : ℕ × ℕ) (xs ys : List Frame) (i j : ℕ) → frame_at xs i ≡ frame_at ys j → mixed_frame (take_at gains xs ∷ []) i ≡ mixed_frame (take_at gains ys ∷ []) j
+pub same_mix : (gains : ℕ × ℕ) (xs ys : List Frame) (i j : ℕ) → frame_at xs i ≡ frame_at ys j → mixed_frame (take_at gains xs ∷ []) i ≡ mixed_frame (take_at gains ys ∷ []) j
 same_mix gains xs ys i j is = heard_at gains xs i ∙ ap (heard_of gains) is ∙ sym (heard_at gains ys j)
 
 zero_times : (gain : ℕ) → pos 0 *ℤ pos gain +ℤ pos 0 ≡ pos 0

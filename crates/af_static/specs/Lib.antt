@@ -3,3 +3,4 @@ pub mod Ends
 pub mod Numbers
 pub mod Played
 pub mod InStep
+pub mod Calls

@@ -1,5 +1,5 @@
 -- A buffer that is played in loops, frame by frame.
-use Rattle.std.specs.Prelude.{ℕ, zero, suc, ◌+◌, ◌-◌, ◌*◌, ◌<◌, ◌≤◌, Bool, false, not, ◌&&◌, ◌==◌, nat_lt, nat_le, if◌then◌else◌, List, [], ◌∷◌, length, Option, Some, None}
+use Rattle.std.specs.Prelude.{ℕ, zero, suc, ◌+◌, ◌-◌, ◌*◌, ◌<◌, ◌≤◌, min, Bool, false, not, ◌&&◌, ◌==◌, nat_lt, nat_le, if◌then◌else◌, List, [], ◌∷◌, length, Option, Some, None}
 use Rattle.af_base.specs.declared.frame.Frame.{Frame}
 use Rattle.af_base.specs.Mix.{Take, frame_at, mix}
 use Rattle.af_static.specs.declared.setting.Setting.{Setting}
@@ -46,6 +46,10 @@ spent left = if left == endless then left else left - 1
 -- at the end of a loop with jumps left the head goes to its start
 abbrev pub jumped : Head → Head
 jumped h = if not (h.left == 0) && h.position == h.end then record { position = h.start; start = h.start; end = h.end; left = spent h.left } else h
+
+-- how many frames come in the longest row: to the end of the loop, or else of the buffer, and no more than there are places
+abbrev pub longest_row : ℕ → Head → ℕ → ℕ
+longest_row n h places = min places ((if h.left == 0 then n else h.end) - h.position)
 
 -- the head so many frames on, all of them in one row
 abbrev pub moved : Head → ℕ → Head

@@ -1,10 +1,13 @@
 //! The two ends, and what they share.
-ghost use Rattle.std.specs.Prelude.{◌≡◌, ℕ, ◌+◌, ◌<◌, ◌≤◌, ◌^◌, true, false, [], ◌∷◌, ◌++◌, length, IfOk};
+ghost use Rattle.std.specs.Prelude.{◌≡◌, ℕ, ◌+◌, ◌<◌, ◌≤◌, ◌^◌, true, false, List, [], ◌∷◌, ◌++◌, length, All, IfOk};
+ghost use Rattle.af_base.specs.declared.frame.Frame.{Frame};
+ghost use Rattle.af_gain.specs.Sums.{no_sum};
 ghost use Rattle.af_model.specs.NewestValue.{HasHistory};
 ghost use Rattle.af_model.specs.declared.newest.WriterEvent.TheVariants as writes;
 ghost use Rattle.af_model.specs.declared.newest.ReaderEvent.TheVariants as reads;
 ghost use Rattle.af_latest.specs.Ends.{last_number, load_steps};
 ghost use Rattle.af_latest.specs.Laws.{stores};
+ghost use Rattle.af_static.specs.Calls.{Call, HasPlayed};
 ghost use Rattle.af_static.specs.Ends.{IsPlayerOf};
 ghost use Rattle.af_static.specs.Loops.{at_first, head_after, heard, is_valid, opening, output, shut_by, taken};
 ghost use Rattle.af_static.specs.Numbers.{NumbersNeverFall};
@@ -88,7 +91,8 @@ pub struct Unrolled {
 
 /// So many sums of 0.
 fn no_sums(alloc: Global) -> Result<Vec<Sum>, Memory>
-    ensures { IfOk result (λ v. length v.items ≡ 1024) }
+    ensures count { IfOk result (λ v. length v.items ≡ 1024) }
+    ensures zero { IfOk result (λ v. All (λ sum. sum ≡ no_sum) v.items) }
 {
     let mut sums = Vec::with_capacity(alloc, PLACES)?;
     sums.resize(PLACES, Sum { left: 0, right: 0 })?;
@@ -102,6 +106,7 @@ pub fn make(alloc: Global, frames: &[Frame]) -> Result<(Shared, Setter, Player),
     ensures frames { IfOk result (λ m. m.0.frames ≡ frames.now) }
     ensures lists { IfOk result (λ m. (m.1.events ≡ []) × (m.2.events ≡ [])) }
     ensures start { IfOk result (λ m. (m.2.setting ≡ opening) × (m.2.head ≡ at_first)) }
+    ensures played { IfOk result (λ m. HasPlayed frames.now [] [] 0 m.2) }
 {
     let buffer = frames.to_vec(alloc)?;
     let sums = no_sums(alloc)?;
@@ -187,6 +192,8 @@ impl Player {
     /// Plays the next frames of the buffer to 1 to 1024 places, by the newest setting: it loads once and appends Load with it.
     ///
     /// It takes one step, and one more where the setting is another than at the load before. An invalid setting shuts the player for good: it plays nothing, loads nothing and takes no step then.
+    ///
+    /// The outputs of all calls since the player was made, one after the other, are those of the settings that it loaded, in that order (`played`).
     pub fn mix_next<L: Ledger>(
         &mut self,
         shared: &Shared,
@@ -203,6 +210,8 @@ impl Player {
         ensures head { let head = heard self.old.size self.old.setting self.old.head self.new.setting in self.new.head ≡ head_after self.old.size self.new.setting head (length out.old) }
         ensures answer { let head = heard self.old.size self.old.setting self.old.head self.new.setting in result ≡ (record { number = self.new.setting.number; filled = length (taken shared.now.frames self.new.setting head (length out.old)); shut = shut_by self.old.size self.new.setting }) }
         ensures short { result.filled < length out.old → is_valid self.old.size self.new.setting ≡ true → self.new.head.position ≡ self.old.size }
+        ensures played { (calls : List Call) (played : List Frame) (count : ℕ) → HasPlayed shared.now.frames calls played count self.old
+            → let call : Call = record { setting = self.new.setting; gains = gains; places = length out.old } in HasPlayed shared.now.frames (calls ++ call ∷ []) (played ++ out.new) (count + result.filled) self.new }
     {
         self.hear(shared, steps);
         let filled = self.play(shared, gains, out);
@@ -216,7 +225,7 @@ impl Player {
 
 /// Each end learns that the other's list so far stands in the history before its own next event. It appends Learn to each list, in five steps.
 ///
-/// Whatever the order in which their steps came, the two ends' lists have a history, before that and with these Learns: each load shows the last setting made before it, whole. No call uses an older one than a call before it, or than was learnt before it.
+/// Whatever the order in which their steps came, the two ends' lists have a history, before that and with these Learns: each load shows the last setting made before it, whole. No call uses an older one than a call before it, or than was learnt before it. What all calls have played stays as it was.
 pub fn meet_static<L: Ledger>(
     shared: &Shared,
     setter: &mut Setter,
@@ -229,6 +238,7 @@ pub fn meet_static<L: Ledger>(
     ensures before { HasHistory opening setter.old.events player.old.events }
     ensures history { HasHistory opening setter.new.events player.new.events }
     ensures never_older { NumbersNeverFall setter.new.events 0 player.new.events }
+    ensures played { (frames : List Frame) (calls : List Call) (played : List Frame) (count : ℕ) → HasPlayed frames calls played count player.old → HasPlayed frames calls played count player.new }
     ensures steps { steps.new ≡ steps.old + 5 }
 {
     meet_latest(&shared.cell, &mut setter.writer, &mut player.reader, steps);

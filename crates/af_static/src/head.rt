@@ -1,5 +1,5 @@
 ghost use Rattle.std.specs.Prelude.{◌≡◌, ◌+◌, ◌<◌, ◌≤◌, true};
-ghost use Rattle.af_static.specs.Loops.{adopted, at_first, heard, is_valid, jumped, kept_in, moved, spent, IsRow, IsSound};
+ghost use Rattle.af_static.specs.Loops.{adopted, at_first, heard, is_valid, jumped, kept_in, longest_row, moved, spent, IsRow, IsSound};
 
 use crate::setting::Setting;
 
@@ -84,6 +84,7 @@ impl Head {
     pub(crate) fn row(self, size: usize, places: usize) -> usize
         requires sound { IsSound size self }
         requires ahead { (self.position < size) × (0 < places) }
+        ensures longest { result ≡ longest_row size self places }
         ensures row { IsRow size self result }
         ensures some { (0 < result) × (result ≤ places) }
     {

@@ -1,6 +1,8 @@
 //! Both ends of a static buffer in one hand.
-ghost use Rattle.std.specs.Prelude.{◌≡◌, ◌+◌, ◌^◌, ◌<◌, ◌≤◌, IfOk, if◌then◌else◌, length};
+ghost use Rattle.std.specs.Prelude.{◌≡◌, ℕ, ◌+◌, ◌^◌, ◌<◌, ◌≤◌, IfOk, if◌then◌else◌, List, [], ◌∷◌, ◌++◌, length};
+ghost use Rattle.af_base.specs.declared.frame.Frame.{Frame};
 ghost use Rattle.af_latest.specs.Laws.{last_of, stores};
+ghost use Rattle.af_static.specs.Calls.{Call, CallsPlay, Standing, standing_in};
 ghost use Rattle.af_static.specs.Ends.{IsPlayerOf};
 ghost use Rattle.af_static.specs.InStep.{IsInStep};
 ghost use Rattle.af_static.specs.Loops.{at_first, head_after, heard, is_valid, opening, output, shut_by, taken};
@@ -121,6 +123,8 @@ impl InHand {
     }
 
     /// Plays the next frames of the buffer to 1 to 1024 places, by the last setting made. An invalid setting shuts the player for good.
+    ///
+    /// The outputs of calls, one after the other, are those of the settings that they found (`played`).
     pub fn play(&mut self, gains: Gains, out: &mut [Frame]) -> Unrolled
         requires { (1 ≤ length out.old) × (length out.old ≤ 1024) }
         ensures used { self.new.used ≡ (if is_valid (length self.old.frames) self.old.used then self.old.newest else self.old.used) }
@@ -128,6 +132,8 @@ impl InHand {
         ensures head { let head = heard (length self.old.frames) self.old.used self.old.head self.new.used in self.new.head ≡ head_after (length self.old.frames) self.new.used head (length out.old) }
         ensures answer { let head = heard (length self.old.frames) self.old.used self.old.head self.new.used in result ≡ (record { number = self.new.used.number; filled = length (taken self.old.frames self.new.used head (length out.old)); shut = shut_by (length self.old.frames) self.new.used }) }
         ensures rest { (self.new.frames ≡ self.old.frames) × (self.new.made ≡ self.old.made) × (self.new.newest ≡ self.old.newest) }
+        ensures played { (first : Standing) (calls : List Call) (played : List Frame) (count : ℕ) → CallsPlay self.old.frames first calls played count (standing_in self.old)
+            → let call : Call = record { setting = self.old.newest; gains = gains; places = length out.old } in CallsPlay self.old.frames first (calls ++ call ∷ []) (played ++ out.new) (count + result.filled) (standing_in self.new) }
     {
         play_met::<Brand>(
             Blank::new(1),

@@ -6,10 +6,12 @@
 mod ends;
 mod head;
 mod in_hand;
+mod laws;
 mod playing;
 mod setting;
 
 pub use ends::{Player, Setter, Shared, Unrolled, make, meet_static};
 pub use head::Head;
 pub use in_hand::InHand;
+pub use laws::two_calls_alike_are_one;
 pub use setting::Setting;

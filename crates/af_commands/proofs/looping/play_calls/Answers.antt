@@ -1,8 +1,7 @@
-use Rattle.std.proofs.Common.{◌≡◌, ℕ, ◌+◌, ◌<◌, ◌++◌, is_some, length, ap, ◌∙◌, arith}
-use Rattle.af_base.specs.Sample.{pcm_bytes}
+use Rattle.std.proofs.Common.{◌≡◌, ℕ, ◌+◌, ◌<◌, [], ◌∷◌, ◌++◌, is_some, length, sym, ap, subst, ◌∙◌, arith}
+use Rattle.af_static.specs.Calls.{CallsPlay, standing_in}
 use Rattle.af_static.specs.InStep.{HandState}
-use Rattle.af_static.specs.Loops.{head_after, output, taken}
-use Rattle.af_commands.specs.Looped.{next_head, next_setting, unity}
+use Rattle.af_commands.specs.Looped.{call_under}
 use Rattle.af_commands.proofs.Rolling.{on_again}
 use Rattle.af_commands.proofs.looping.play_calls.Goals as goal
 
@@ -10,17 +9,17 @@ pub loop-rolled-preserved : goal.loop-rolled-preserved
 loop-rolled-preserved c =
     let invariant = c.loop-rolled.invariant in
     let once = c.in_ok-unrolled.ensures in
+    let first : HandState = c.args.hand.now in
     let hand : HandState = c.loop-rolled.hand in
+    let after : HandState = c.play_once.new.hand in
     let same : length c.loop-rolled.places ≡ length c.args.places.now = invariant.places in
     let left : c.loop-rolled.rolled.cycles < c.args.calls = grind arith in
     record {
-      on = on_again c.args.hand.now (length c.args.places.now) c.args.calls c.args.bytes.now.items
-          hand c.play_once.new.hand c.loop-rolled.bytes.items c.play_once.new.bytes.items
-          c.loop-rolled.rolled.cycles c.loop-rolled.rolled.filled (c.loop-rolled.rolled.filled + c.from.result) c.loop-rolled.rolled.is_shut c.is_some.result
-          left invariant.on once.buffer.0 once.setting
-          (once.head ∙ (λ i. head_after (length hand.frames) (next_setting hand) (next_head hand) (same i)))
-          (once.bytes ∙ (λ i. c.loop-rolled.bytes.items ++ pcm_bytes (output unity (taken hand.frames (next_setting hand) (next_head hand) (same i)) (same i))))
-          (ap (λ (n : ℕ). c.loop-rolled.rolled.filled + n) (c.from.ensures ∙ once.filled) ∙ (λ i. c.loop-rolled.rolled.filled + length (taken hand.frames (next_setting hand) (next_head hand) (same i))))
+      on = on_again first (length c.args.places.now) c.args.bytes.now.items hand after c.loop-rolled.bytes.items c.play_once.new.bytes.items c.play_once.new.places
+          c.loop-rolled.rolled.cycles c.loop-rolled.rolled.filled c.from.result c.loop-rolled.rolled.is_shut c.is_some.result
+          invariant.on once.buffer.0 once.setting.0 once.setting.1 once.bytes
+          (λ calls played count had. subst (λ (x : ℕ × ℕ). CallsPlay hand.frames (standing_in first) (calls ++ call_under hand.newest x.0 ∷ []) (played ++ c.play_once.new.places) (count + x.1) (standing_in after))
+          (λ i. (same i, sym c.from.ensures i)) (once.played (standing_in first) calls played count had))
           (c.is_some.ensures ∙ ap is_some once.shut);
       places = once.buffer.1 ∙ same;
       most = (let a = left in omega arith);

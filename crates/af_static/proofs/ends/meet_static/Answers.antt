@@ -3,9 +3,11 @@ use Rattle.af_model.specs.declared.newest.WriterEvent.{WriterEvent}
 use Rattle.af_latest.specs.Laws.{stores}
 use Rattle.af_latest.proofs.NeverFalls.{never_older}
 use Rattle.af_static.specs.declared.setting.Setting.{Setting}
+use Rattle.af_static.specs.Calls.{HasPlayed, loaded}
 use Rattle.af_static.specs.Loops.{opening}
 use Rattle.af_static.specs.Numbers.{AreNumbered}
 use Rattle.af_static.proofs.Numbering.{numbered_met, stores_met, numbers_never_fall}
+use Rattle.af_static.proofs.Calling.{loaded_met}
 use Rattle.af_static.proofs.ends.meet_static.Goals as goal
 
 pub invariant_of-setter : goal.invariant_of-setter
@@ -22,3 +24,8 @@ returns-clause-never_older g c =
     let h = c.meet_latest.ensures.history opening c.setter.invariant.first in
     numbers_never_fall c.meet_latest.new.writer.events c.meet_latest.new.reader.events (invariant_of-setter g c).numbered h
     (never_older opening c.meet_latest.new.writer.events c.meet_latest.new.reader.events h)
+
+pub returns-clause-played : goal.returns-clause-played
+returns-clause-played g c frames calls played count was =
+    let had = subst (HasPlayed frames calls played count) (sym c.player.view_is) was in
+    record { all = had.all; loads = ap loaded c.meet_latest.ensures.reader ∙ loaded_met (length c.setter.inside.writer.events) c.player.inside.reader.events ∙ had.loads }
