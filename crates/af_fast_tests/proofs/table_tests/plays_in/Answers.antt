@@ -3,8 +3,8 @@ use Rattle.af_cblk.specs.Sides.{Made}
 use Rattle.af_fast_tests.specs.Ready.{AreClientsOf, AreWaiting}
 use Rattle.af_fast_tests.proofs.table_tests.plays_in.Goals as goal
 
-pub play_all-requires : goal.play_all-requires
-play_all-requires g c =
+pub play_all-told-requires : goal.play_all-told-requires
+play_all-told-requires g c =
     let k = c.in_ok-shared.ensures in
     let links = c.links-links.ensures in
     let lines = c.in_ok-streams.ensures in
