@@ -9,10 +9,10 @@ mod load;
 mod looping;
 mod playing;
 mod render;
-mod run;
+mod running;
 mod status;
 mod tracing;
 mod verifying;
 
-pub use run::run;
+pub use running::run;
 pub use status::{FileFault, Role, Status, Why};

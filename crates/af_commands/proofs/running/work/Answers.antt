@@ -7,7 +7,7 @@ use Rattle.af_words.specs.Asking.{request_view}
 use Rattle.af_commands.specs.Ends.{Makes, PrintsLine}
 use Rattle.af_words.specs.Requests.{request_of}
 use Rattle.af_commands.proofs.Left.{asked_line, asked_named, Printed-printed, PrintsSomeLine-stopped, PrintsSomeLine-written, Renders-memory, Renders-printed, Renders-stopped, WholeUnless-printed}
-use Rattle.af_commands.proofs.run.work.Goals as goal
+use Rattle.af_commands.proofs.running.work.Goals as goal
 
 pub returns-in_err-request-clause-rendered : goal.returns-in_err-request-clause-rendered
 returns-in_err-request-clause-rendered g c = λ told.

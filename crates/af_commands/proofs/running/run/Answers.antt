@@ -9,7 +9,7 @@ use Rattle.af_commands.specs.Status.{JudgesWords}
 use Rattle.af_words.specs.Requests.{request_of}
 use Rattle.af_commands.proofs.Left.{Works-done, EndsAsAsked-done}
 use Rattle.af_commands.proofs.Ended.{EndsAsAsked-ended, IsCutOff-ended, IsOver-ended, JudgesWords-ended, Prints-end_cut, Prints-ended, PrintsOwnLine-ended, Works-ended, end_asked, end_named, end_reached, end_unprinted}
-use Rattle.af_commands.proofs.run.run.Goals as goal
+use Rattle.af_commands.proofs.running.run.Goals as goal
 
 pub returns-in-Ok-clause-work : goal.returns-in-Ok-clause-work
 returns-in-Ok-clause-work g c = λ told.
