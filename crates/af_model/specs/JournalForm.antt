@@ -12,6 +12,7 @@ use Rattle.af_base.specs.Sample.{IsFrame}
 use Rattle.af_base.specs.Turn.{TakeSeen, Turn, ended_turn}
 use Rattle.af_model.specs.Cycles.{IsSeen, is_mixed, place_of, taken_before, still_entry, shown}
 use Rattle.af_model.specs.Journals.{EntrySeen, RoundSeen, JournalData, RoundsNoted, cycles_of, entries_of, entries_seen, frames_of, taken_by}
+use Rattle.af_model.specs.Numbers.{HasRanges}
 
 -- a look at a command block: only one of two frames has words
 abbrev pub IsCommandLook : CommandLook → Type 0
@@ -78,10 +79,11 @@ pub record IsRound (tracks : ℕ) (round : RoundSeen) : Type 0 where
   pub calls : length round.calls ≡ tracks
   pub turn : MatchOption round.turn (Unit {0}) (IsTurn tracks)
 
--- what every journal keeps
+-- what every journal keeps: the form of its rounds and of its entries, and the ranges of its numbers
 pub record IsJournal (j : JournalData) : Type 0 where
   pub rounds : All (IsRound j.tracks) j.rounds
   pub entries : AreEntries 0 (entries_of j.rounds)
+  pub numbers : HasRanges j
 
 -- the log has as many entries as the rounds, and no frames beside those that its entries took
 abbrev pub IsWhole : RoundsNoted → Logged → Type 0

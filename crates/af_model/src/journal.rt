@@ -1,12 +1,14 @@
 //! Journals: what each party of a run saw and did, round by round.
-ghost use Rattle.std.specs.Prelude.{◌≡◌, ◌+◌, ◌<◌, ◌≤◌, ◌^◌, [], ◌∷◌, ◌++◌, length, map, take, IfOk, OnErr, MatchOption, slice_index_or};
+ghost use Rattle.std.specs.Prelude.{◌≡◌, ◌+◌, ◌<◌, ◌≤◌, ◌^◌, [], ◌∷◌, ◌++◌, length, map, take, All, IfOk, OnErr, MatchOption, slice_index_or};
 ghost use Rattle.std.specs.Option.{option_map};
 ghost use Rattle.af_base.specs.Log.{Logged};
 ghost use Rattle.af_base.specs.Turn.{turn_of};
 ghost use Rattle.af_model.specs.Journals.{calls_at, cycles_of, entries_of, entries_seen, frames_of, journal_of, round_at};
 ghost use Rattle.af_model.specs.JournalForm.{IsJournal, IsWhole};
 ghost use Rattle.af_model.specs.Noting.{none_noted, round_noted};
+ghost use Rattle.af_model.specs.Numbers.{FitTurns, HasRanges};
 
+use crate::numbers::{know_clients, know_log, know_turns, know_word};
 use af_base::{ClientCall, FastLog, Memory, TurnEntry};
 use std::alloc::Global;
 use std::marker::Model;
@@ -18,6 +20,14 @@ struct Round {
     turn: Option<TurnEntry>,
     first: usize,
     cycles: usize,
+}
+
+// The numbers of a round's calls and of its turn.
+fn know_round(round: &Round)
+    ensures { FitTurns (round_noted round.now).calls (round_noted round.now).turn }
+{
+    know_clients(round.calls.as_slice());
+    know_turns(round.turn.as_ref());
 }
 
 /// The rounds of a run so far. The entries of the fast mixer's cycles stand in its log, and only their numbers here.
@@ -89,11 +99,29 @@ impl Rounds {
         self.cycles += cycles;
         Ok(())
     }
+
+    // The numbers of all rounds' calls and turns.
+    fn know_rounds(&self)
+        ensures { All (λ r. FitTurns r.calls r.turn) self.now.rounds }
+    {
+        for i in 0..self.len() {
+            know_round(self.round(i));
+        }
+    }
+
+    /// The numbers of these rounds, and of the log of their cycles, lie in the ranges of their fields: they are read to know it.
+    pub fn know_numbers(&self, log: &FastLog)
+        ensures { HasRanges (journal_of self.now log.now) }
+    {
+        know_word(self.tracks);
+        self.know_rounds();
+        know_log(log);
+    }
 }
 
 /// What each party of a run saw and did, round by round, legal or not.
 ///
-/// The log's entries are those of the rounds in order. Each has the slots of a mix or none, and none tells of a full log. A turn has seen each track once, unless the mixer had ended; it takes of tracks in rising order, as many frames as each look shows.
+/// The log's entries are those of the rounds in order. Each has the slots of a mix or none, and none tells of a full log. A turn has seen each track once, unless the mixer had ended; it takes of tracks in rising order, as many frames as each look shows. All numbers lie in the ranges of their fields.
 #[derive(Drop)]
 pub struct Journal {
     noted: Rounds,

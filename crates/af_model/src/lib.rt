@@ -6,6 +6,7 @@ mod journal;
 mod merging;
 mod mixing;
 mod newest;
+mod numbers;
 mod pieces;
 mod plain_calls;
 mod plain_places;

@@ -1,0 +1,7 @@
+use Rattle.std.proofs.Common.{take}
+use Rattle.std.specs.Prelude.{All}
+use Rattle.af_model.proofs.NumbersDealt.{FitsNoted}
+use Rattle.af_model.proofs.journal.Rounds.know_rounds.Given as goal
+
+abbrev pub invariant-loop-i : goal.invariant-loop-i
+invariant-loop-i l = All FitsNoted (take l.i l.self.rounds)

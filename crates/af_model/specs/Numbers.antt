@@ -1,0 +1,105 @@
+-- The numbers of a journal lie in the ranges of their fields: words, counts and tracks have 32 bits, the numbers of cycles and states 64, and scales 16. The samples of frames are of their form (JournalForm), and no other number is free.
+use Rattle.std.specs.Prelude.{ℕ, ◌<◌, ◌^◌, List, [], ◌∷◌, All, Option, MatchOption, slice_index_or}
+use Rattle.std.specs.List.{AllByRecursion}
+use Rattle.af_base.specs.declared.event.ClientCall.{ClientCall}
+use Rattle.af_base.specs.declared.event.ClientCall.TheVariants as call
+use Rattle.af_base.specs.declared.log.CycleEntry.{CycleEntry}
+use Rattle.af_base.specs.declared.log.SlotEntry.{SlotEntry}
+use Rattle.af_base.specs.declared.seen.Seen.{Seen}
+use Rattle.af_base.specs.declared.seen.Seen.TheVariants as seen
+use Rattle.af_base.specs.declared.state.Push.{Push}
+use Rattle.af_base.specs.declared.state.Push.TheVariants as pushing
+use Rattle.af_base.specs.declared.turn.CommandLook.{CommandLook}
+use Rattle.af_base.specs.Log.{slots, entry_slot}
+use Rattle.af_base.specs.Turn.{TakeSeen, TrackSeen, Turn}
+use Rattle.af_model.specs.Journals.{EntrySeen, JournalData, RoundSeen}
+
+-- each number has 32 bits
+abbrev pub AreWords : List ℕ → Type 0
+AreWords ns = AllByRecursion (λ n. n < 2 ^ 32) ns
+
+-- ## Numbers of 32 bits
+
+-- those of a call
+abbrev pub call_words : ClientCall → List ℕ
+call_words (call.Put front count) = front ∷ count ∷ []
+call_words (call.Full front) = front ∷ []
+call_words (call.Dead flags) = flags ∷ []
+call_words (call.Corrupt front rear) = front ∷ rear ∷ []
+call_words (call.Cleared flags) = flags ∷ []
+call_words (call.Flush count) = count ∷ []
+call_words (call.Gain word) = word ∷ []
+call_words (call.Sent front code argument) = front ∷ code ∷ argument ∷ []
+call_words (call.SendFull front) = front ∷ []
+call_words (call.SendDead flags) = flags ∷ []
+call_words (call.SendCorrupt front rear) = front ∷ rear ∷ []
+call_words (call.Status word) = word ∷ []
+call_words (call.Poke command word value) = word ∷ value ∷ []
+
+-- those of what a look showed
+abbrev pub seen_words : Seen → List ℕ
+seen_words seen.Absent = []
+seen_words (seen.Frames count) = count ∷ []
+seen_words seen.Empty = []
+seen_words (seen.Flushed dropped) = dropped ∷ []
+seen_words (seen.Shut front rear) = front ∷ rear ∷ []
+
+-- those of a look at a command block
+abbrev pub look_words : CommandLook → List ℕ
+look_words l = l.flush ∷ l.rear ∷ l.code ∷ l.argument ∷ seen_words l.seen
+
+-- those of a slot
+abbrev pub slot_words : SlotEntry → List ℕ
+slot_words slot = slot.gains ∷ slot.flush ∷ slot.rear ∷ seen_words slot.seen
+
+-- those of a take
+abbrev pub take_words : TakeSeen → List ℕ
+take_words t = t.track ∷ slot_words t.slot
+
+-- ## All numbers
+
+-- what a push answered
+abbrev pub FitsPush : Push → Type 0
+FitsPush pushing.Clean = Unit {0}
+FitsPush (pushing.Pushed number) = number < 2 ^ 64
+FitsPush (pushing.Busy word expected) = AreWords (word ∷ expected ∷ [])
+
+-- what a turn saw and did of a track
+pub record FitsTrack (t : TrackSeen) : Type 0 where
+  pub looks : All (λ l. AreWords (look_words l)) t.looks
+  pub status : MatchOption t.status (Unit {0}) (λ word. word < 2 ^ 32)
+
+-- a turn
+pub record FitsTurn (e : Turn) : Type 0 where
+  pub room : e.room < 2 ^ 32
+  pub cycle : e.cycle < 2 ^ 64
+  pub tracks : All FitsTrack e.tracks
+  pub push : FitsPush e.push
+  pub takes : All (λ t. AreWords (take_words t)) e.mixes
+
+-- an entry
+pub record FitsEntry (entry : CycleEntry) : Type 0 where
+  pub state : entry.state < 2 ^ 64
+  pub looks : (i : ℕ) → i < slots → AreWords (slot_words (entry_slot entry i))
+  pub scales : (i : ℕ) → i < slots → slice_index_or entry.scales i 0 < 2 ^ 16
+
+-- some calls
+abbrev pub FitCalls : List ClientCall → Type 0
+FitCalls calls = All (λ c. AreWords (call_words c)) calls
+
+-- the calls of each client in a round, and its turn if there was one
+abbrev pub FitTurns : List (List ClientCall) → Option Turn → Type 0
+FitTurns calls turn = All FitCalls calls × MatchOption turn (Unit {0}) FitsTurn
+
+-- some entries
+abbrev pub FitEntries : List EntrySeen → Type 0
+FitEntries entries = All (λ e. FitsEntry e.entry) entries
+
+-- a round
+abbrev pub FitsRound : RoundSeen → Type 0
+FitsRound round = FitTurns round.calls round.turn × FitEntries round.entries
+
+-- a journal
+pub record HasRanges (j : JournalData) : Type 0 where
+  pub tracks : j.tracks < 2 ^ 32
+  pub rounds : All FitsRound j.rounds
