@@ -8,7 +8,8 @@ use Rattle.std.proofs.lemmas.Bool.Decides.{nat_tests}
 use Rattle.af_journal.specs.Lines.{Written, numbers, words, spelled, hex_byte, hex_digit, hex_word, line_text}
 use Rattle.af_journal.specs.declared.line.Line.{Line}
 use Rattle.af_journal.specs.LineReading.{◌>>=◌, byte_at, hex_at, call_at, marked_at, turn_line_at, packed_at, some_words, words_after_mark, words_at, written_at, line_at}
-use Rattle.af_journal.specs.Ranges.{AreWords, IsWritten}
+use Rattle.af_model.specs.Numbers.{AreWords}
+use Rattle.af_journal.specs.Ranges.{IsWritten}
 use Rattle.af_journal.proofs.Spelled.{bind_some, guard_some, same_byte}
 use Rattle.af_journal.proofs.LineLaws.{line-sound, line-again}
 

@@ -24,6 +24,7 @@ use Rattle.af_journal.specs.Readings.{AreInOrder, CanBeWritten, HasReading, IsIn
 use Rattle.af_journal.specs.Stages.{after_line, after_shown, after_written, is_submix, may_be_slot, shows_submix}
 use Rattle.af_journal.specs.Texts.{client_lines, each_from, entry_lines, fast_lines, lines_of, round_lines, slot_lines, slots_lines, turns_lines, words_after}
 use Rattle.af_journal.proofs.Entries.{taken-below}
+use Rattle.af_journal.proofs.Fitting.{is_seen, lines_fit, parted}
 use Rattle.af_journal.proofs.Texts.{range-more}
 use Rattle.af_journal.proofs.TurnsInOrder.{Leads, none, and_on, first, if_true, AtRound, AtFast, IsDue, AtClients, clients_fast, clients_lead, shown_words, turn_leads}
 
@@ -76,13 +77,6 @@ submix_is scale mono gains flush answer a b c d e =
 submix_shows : (count : ℕ) (b : Bool) → (shows_submix (cond b seen.Empty (seen.Frames count)) ≡ true) × (is_shown (cond b seen.Empty (seen.Frames count)) ≡ true)
 submix_shows count true = (refl, refl)
 submix_shows count false = (refl, refl)
-
-is_seen : (s : Seen) → IsSeen s → is_shown s ≡ true
-is_seen seen.Absent p = absurd p
-is_seen (seen.Frames count) p = refl
-is_seen seen.Empty p = refl
-is_seen (seen.Flushed dropped) p = refl
-is_seen (seen.Shut front rear) p = refl
 
 module _ (tracks place : ℕ) (e : EntrySeen) (whole : length e.frames ≡ taken_by e.entry) (m : IsMixed place e.entry) where
   abbrev slot_of : ℕ → Written
@@ -207,16 +201,6 @@ round_leads tracks place at r is are p =
     (λ next q. turns_lead tracks (0 + length r.calls) next r.turn is.turn q))
     (λ next q. fast_leads tracks place next r.entries are q))
 
--- the entries of a round and of those after it
-record Parted (place : ℕ) (xs ys : List EntrySeen) : Type 0 where
-  own : AreEntries place xs
-  later : ℕ
-  others : AreEntries later ys
-
-parted : (place : ℕ) (xs ys : List EntrySeen) → AreEntries place (xs ++ ys) → Parted place xs ys
-parted place [] ys are = record { own = tt; later = place; others = are }
-parted place (x ∷ xs) ys are = let p = parted (place + length x.frames) xs ys are.3 in record { own = (are.0, are.1, are.2, p.own); later = p.later; others = p.others }
-
 rounds_lead : (tracks place : ℕ) (at : Stage) (rounds : List RoundSeen) → All (IsRound tracks) rounds → AreEntries place (entries_of rounds) → AtRound tracks at → Leads tracks at (flat_map round_lines rounds) (AtRound tracks)
 rounds_lead tracks place at [] are entries p = none tracks at (AtRound tracks) p
 rounds_lead tracks place at (r ∷ rs) are entries p =
@@ -230,7 +214,7 @@ pub journal-in-order : (tracks : ℕ) (j : JournalData) → CanBeWritten tracks 
 journal-in-order tracks j can =
     let rounds : All (IsRound tracks) j.rounds = subst (λ n. All (IsRound n) j.rounds) can.tracks_are can.form.rounds in
     let l = rounds_lead tracks 0 stage.Nothing j.rounds rounds can.form.entries (refl, refl) in
-    record { numbers_fit = can.numbers_fit; last = l.next; follow = l.follow; ends = l.good.1 }
+    record { numbers_fit = lines_fit j can.form; last = l.next; follow = l.follow; ends = l.good.1 }
 
 -- a text that has a reading is one of lines in order
 pub reading-in-order : (tracks : ℕ) (text : List ℕ) → HasReading tracks text → IsInOrder tracks text

@@ -1,5 +1,5 @@
 -- Lines in order are those of a journal.
-use Rattle.std.proofs.Common.{◌≡◌, inl, inr, ℕ, zero, suc, ◌+◌, ◌<◌, ◌==◌, ◌&&◌, nat_lt, List, [], ◌∷◌, ◌++◌, length, map, Some, None, Bool, true, false, cond, refl, ap, ◌∙◌, sym, subst, arith}
+use Rattle.std.proofs.Common.{◌≡◌, inl, inr, ℕ, zero, suc, ◌+◌, ◌<◌, ◌^◌, ◌==◌, ◌&&◌, nat_lt, List, [], ◌∷◌, ◌++◌, length, map, Some, None, Bool, true, false, cond, refl, ap, ◌∙◌, sym, subst, arith}
 use Rattle.std.specs.List.{AllByRecursion}
 use Rattle.std.proofs.lemmas.List.Elements.{All-nil}
 use Rattle.std.proofs.lemmas.Option.{same_Some}
@@ -16,10 +16,12 @@ use Rattle.af_journal.specs.declared.line.Line.TheVariants as line
 use Rattle.af_journal.specs.declared.stage.Stage.{Stage}
 use Rattle.af_journal.specs.declared.stage.Stage.TheVariants as stage
 use Rattle.af_journal.specs.Lines.{Written, numbers, words}
-use Rattle.af_journal.specs.Ranges.{AreWords, IsLine, IsWritten}
+use Rattle.af_model.specs.Numbers.{AreWords}
+use Rattle.af_journal.specs.Ranges.{IsLine, IsWritten}
 use Rattle.af_journal.specs.Readings.{AreInOrder, CanBeWritten, HasReading, IsInOrder, after_all}
 use Rattle.af_journal.specs.Stages.{after_call, after_clients, after_entry, after_fast, after_line, after_look, after_part, after_shown, after_slot, after_take, after_taken, after_turn, after_words, comes, if_so, is_call, is_next, is_round, may_be_slot, may_end}
 use Rattle.af_journal.specs.Texts.{lines_of, text_of_lines, words_after}
+use Rattle.af_journal.proofs.Fitting.{is_journal}
 use Rattle.af_journal.proofs.Spelled.{bind_some, guard_some}
 use Rattle.af_journal.proofs.RoundsLeft.{both_true, frames_of_words, words_back, are_frames, count_frames, RoundsLeft, EntriesLeft, EntriesDue, FastLeft, TakesLeft, TakeLeft, TurnLeft, LookLeft, ClientsLeft, CallsLeft, CallDue, rounds_entries, rounds_fast, due_left, with_fast, with_round, clients_calls, with_call, first_call, with_client, fast_clients, with_ended}
 use Rattle.af_journal.proofs.LinesLeft.{with_turn, with_push, below, with_look, with_disabled, with_status, no_words, seen_is, with_take}
@@ -343,20 +345,16 @@ left tracks place at end (words us ∷ ws) fit e may =
     words_step tracks place ws at us x.0 fit.0 x.1 (left tracks (after_place at place (length us)) x.0 end ws fit.1 x.2 may)
 
 -- lines in order are those of a journal
-pub order-is-journal : (tracks : ℕ) (ws : List Written) → AreInOrder tracks ws → (j : JournalData) × CanBeWritten tracks j × (ws ≡ lines_of j)
-order-is-journal tracks ws o =
+pub order-is-journal : (tracks : ℕ) (ws : List Written) → tracks < 2 ^ 32 → AreInOrder tracks ws → (j : JournalData) × CanBeWritten tracks j × (ws ≡ lines_of j)
+order-is-journal tracks ws few o =
     let r = left tracks 0 stage.Nothing o.last ws o.numbers_fit o.follow o.ends in (
       record { tracks = tracks; rounds = r.rounds },
-      record {
-        tracks_are = refl;
-        form = record { rounds = r.form; entries = r.are };
-        numbers_fit = subst (AllByRecursion IsWritten) r.lines o.numbers_fit;
-      },
+      record { tracks_are = refl; form = is_journal tracks r.rounds few r.form r.are (subst (AllByRecursion IsWritten) r.lines o.numbers_fit) },
       r.lines,
     )
 
 -- a text of lines in order has a reading
-pub order-has-reading : (tracks : ℕ) (text : List ℕ) → IsInOrder tracks text → HasReading tracks text
-order-has-reading tracks text r =
-    let j = order-is-journal tracks r.0 r.1 in
+pub order-has-reading : (tracks : ℕ) (text : List ℕ) → tracks < 2 ^ 32 → IsInOrder tracks text → HasReading tracks text
+order-has-reading tracks text few r =
+    let j = order-is-journal tracks r.0 few r.1 in
     (j.0, (j.1, r.2 ∙ ap text_of_lines j.2))

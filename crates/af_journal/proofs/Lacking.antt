@@ -13,7 +13,8 @@ use Rattle.af_base.specs.declared.state.Push.TheVariants as pushing
 use Rattle.af_journal.specs.declared.line.Line.{Line}
 use Rattle.af_journal.specs.declared.line.Line.TheVariants as line
 use Rattle.af_journal.specs.Lines.{Written, numbers, words, call_line, digit, hex_byte, hex_digit, hex_word, line_text, push_line, seen_text, spelled}
-use Rattle.af_journal.specs.Ranges.{AreWords, IsLine, IsPushText, IsSeenText, IsWritten, numbers_of}
+use Rattle.af_model.specs.Numbers.{FitsCall, FitsPush}
+use Rattle.af_journal.specs.Ranges.{IsLine, IsSeenText, IsWritten}
 use Rattle.af_journal.proofs.Spelled.{Lacks, lacks-append, decimal_lacks, digit_small}
 
 wide : (n : ℕ) → n < 2 ^ 32 → n < 2 ^ 64
@@ -47,7 +48,7 @@ seen_lacks seen.Empty f = (refl, (refl, tt))
 seen_lacks (seen.Flushed n) f = (refl, (refl, one n f))
 seen_lacks (seen.Shut a b) f = (refl, (refl, two a b f.0 f.1.0))
 
-call_lacks : (c : ClientCall) → AreWords (numbers_of c) → Lacks 10 (call_line c)
+call_lacks : (c : ClientCall) → FitsCall c → Lacks 10 (call_line c)
 call_lacks (call.Put a b) f = (refl, two a b f.0 f.1.0)
 call_lacks (call.Full a) f = (refl, one a f.0)
 call_lacks (call.Dead a) f = (refl, one a f.0)
@@ -62,7 +63,7 @@ call_lacks (call.SendCorrupt a b) f = (refl, (refl, two a b f.0 f.1.0))
 call_lacks (call.Status a) f = (refl, one a f.0)
 call_lacks (call.Poke command word value) f = (refl, and_more (digit command) (32 ∷ (decimal word ++ 32 ∷ decimal value)) (yes_wide command) (two word value f.0 f.1.0))
 
-push_lacks : (p : Push) → IsPushText p → Lacks 10 (push_line p)
+push_lacks : (p : Push) → FitsPush p → Lacks 10 (push_line p)
 push_lacks pushing.Clean f = (refl, (refl, (refl, tt)))
 push_lacks (pushing.Pushed n) f = (refl, (refl, (refl, last n f)))
 push_lacks (pushing.Busy a b) f = (refl, (refl, (refl, two a b f.0 f.1.0)))

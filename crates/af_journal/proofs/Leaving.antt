@@ -10,7 +10,8 @@ use Rattle.af_journal.specs.declared.line.Line.{Line}
 use Rattle.af_journal.specs.declared.line.Line.TheVariants as line
 use Rattle.af_journal.specs.Lines.{Written, hex_word, numbers, words, spelled, with_lf}
 use Rattle.af_journal.specs.LineReading.{line_at, packed_at}
-use Rattle.af_journal.specs.Ranges.{AreWords, IsLine, IsWritten}
+use Rattle.af_model.specs.Numbers.{AreWords}
+use Rattle.af_journal.specs.Ranges.{IsLine, IsWritten}
 use Rattle.af_journal.specs.Readings.{cut}
 use Rattle.af_journal.specs.Taken.{Leaves}
 use Rattle.af_journal.specs.Texts.{command_words, each_from, look_lines, text_of_lines, words_after}

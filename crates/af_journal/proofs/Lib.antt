@@ -19,6 +19,7 @@ mod EntriesLeft
 mod JournalOf
 mod Readable
 mod Leaving
+pub mod Fitting
 mod Rising
 mod MixReading
 mod EntriesRead

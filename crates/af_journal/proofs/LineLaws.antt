@@ -14,7 +14,8 @@ use Rattle.af_journal.specs.declared.line.Line.{Line}
 use Rattle.af_journal.specs.declared.line.Line.TheVariants as line
 use Rattle.af_journal.specs.Lines.{call_line, digit, line_text, push_line, seen_text}
 use Rattle.af_journal.specs.LineReading.{◌>>=◌, call_at, entry_at, line_at, look_at, marked_at, next_number, next_word, one_at, push_at, pushed_at, busy_at, seen_at, slot_at, slot_from, status_at, take_at, turn_at, turn_line_at, two_at, whole}
-use Rattle.af_journal.specs.Ranges.{AreWords, IsLine, IsPushText, IsSeenText}
+use Rattle.af_model.specs.Numbers.{AreWords, FitsPush}
+use Rattle.af_journal.specs.Ranges.{IsLine, IsSeenText}
 use Rattle.af_journal.proofs.Spelled.{bind_some, either, whole_some, same_byte, number-sound, number-more, number-last, one-sound, one-again, two-sound, two-again, seen-sound, seen-again, yes_is, digit_small, digit_back, call-sound, call-again, first_of_line}
 
 pub record Spells (bytes : List ℕ) (l : Line) : Type 0 where
@@ -128,7 +129,7 @@ status-sound rest l e =
 
 record SpellsPush (bytes : List ℕ) (p : Push) : Type 0 where
   spelled : bytes ≡ push_line p
-  fits : IsPushText p
+  fits : FitsPush p
 
 -- the two bytes of a kind of push
 kind_is : (n : ℕ) (rest more : List ℕ) → n < 10 → rest ≡ after n more → 80 ∷ rest ≡ 80 ∷ 32 ∷ (48 + n) ∷ more
@@ -188,7 +189,7 @@ abbrev pushed_line_at : List ℕ → Option Push
 pushed_line_at [] = None
 pushed_line_at (mark ∷ rest) = push_at rest
 
-push-again : (p : Push) → IsPushText p → pushed_line_at (push_line p) ≡ Some p
+push-again : (p : Push) → FitsPush p → pushed_line_at (push_line p) ≡ Some p
 unfolding push_at pushed_at busy_at
 push-again pushing.Clean f = ap push_from (kind-last 0 (omega arith))
 push-again (pushing.Pushed n) f = ap push_from (kind-more 1 (decimal n) (omega arith)) ∙ ap (λ (o : Option (ℕ × List ℕ)). o >>= λ a. whole a.1 (pushing.Pushed a.0)) (number-last (2 ^ 64 - 1) n (omega arith) (lit< tt))

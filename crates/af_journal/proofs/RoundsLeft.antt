@@ -15,7 +15,7 @@ use Rattle.af_model.specs.Journals.{EntrySeen, RoundSeen, entries_of}
 use Rattle.af_model.specs.JournalForm.{AreEntries, IsCommandLook, IsRound, IsTake, IsTurn, TracksRise}
 use Rattle.af_journal.specs.declared.line.Line.TheVariants as line
 use Rattle.af_journal.specs.Lines.{Written, numbers, words}
-use Rattle.af_journal.specs.Ranges.{AreWords}
+use Rattle.af_model.specs.Numbers.{AreWords}
 use Rattle.af_journal.specs.Texts.{call_lines, client_lines, each_from, entry_lines, fast_lines, round_lines, take_lines, track_lines, turns_lines, words_after}
 
 -- ## Lists

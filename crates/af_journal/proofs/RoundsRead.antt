@@ -1,6 +1,6 @@
 -- Rounds are read one after the other, and are those of the journal that is put together of what was noted.
 use Rattle.std.proofs.Common.{◌≡◌, ℕ, ◌+◌, ◌*◌, ◌<◌, ◌≤◌, ◌^◌, List, [], ◌∷◌, ◌++◌, length, map, take, drop, refl, ap, ◌∙◌, sym, subst, arith, append-nil, length-append}
-use Rattle.std.specs.List.{flat_map}
+use Rattle.std.specs.List.{flat_map, AllByRecursion}
 use Rattle.std.proofs.lemmas.List.{drop_at, length-map, map-append, take_at}
 use Rattle.std.proofs.lemmas.List.Concat.{flat_map-append}
 use Rattle.std.proofs.lemmas.List.Elements.{All-nil}
@@ -17,6 +17,8 @@ use Rattle.af_journal.specs.Texts.{call_lines, client_lines, each_from, entry_li
 use Rattle.af_journal.proofs.EntriesRead.{entries-append}
 use Rattle.af_journal.proofs.Leaving.{all-more, leaves-as, leaves-then, map-more}
 use Rattle.af_journal.proofs.Texts.{text-append}
+use Rattle.af_journal.specs.Ranges.{IsWritten}
+use Rattle.af_journal.proofs.Fitting.{is_journal}
 
 -- ## Clients
 
@@ -144,8 +146,9 @@ module _ (tracks : ℕ) (rounds : List RoundSeen) (noted : RoundsNoted) (entries
     ap frames_of log-seen ∙ sym (frames_is ∙ t.frames_are),
   )
 
-  pub journal-form : IsJournal (journal_of noted log)
-  journal-form = subst IsJournal (sym journal-is) (record { rounds = t.form; entries = t.each })
+  -- where the numbers of its lines fit
+  pub journal-form : tracks < 2 ^ 32 → AllByRecursion IsWritten (flat_map round_lines rounds) → IsJournal (journal_of noted log)
+  journal-form few fit = subst IsJournal (sym journal-is) (is_journal tracks rounds few t.form t.each fit)
 
 -- nothing was taken yet
 pub taken-none : (tracks : ℕ) → AreTaken tracks [] (record { tracks = tracks; rounds = [] }) [] []

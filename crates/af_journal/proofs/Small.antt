@@ -10,6 +10,7 @@ use Rattle.af_base.specs.Turn.{ended_turn}
 use Rattle.af_model.specs.Cycles.{still_entry}
 use Rattle.af_model.specs.Journals.{RoundsNoted, RoundSeen, journal_of, taken_by}
 use Rattle.af_model.specs.JournalForm.{IsJournal, IsRound}
+use Rattle.af_model.specs.Numbers.{HasRanges}
 
 abbrev pub two_rounds : List ClientCall → RoundsNoted
 two_rounds calls = record { tracks = 2; rounds = record { calls = calls ∷ [] ∷ []; turn = None; cycles = 0 } ∷ record { calls = [] ∷ [] ∷ []; turn = Some ended_turn; cycles = 1 } ∷ [] }
@@ -23,9 +24,10 @@ first calls = record { calls = calls ∷ [] ∷ []; turn = None; entries = [] }
 abbrev second : RoundSeen
 second = record { calls = [] ∷ [] ∷ []; turn = Some ended_turn; entries = record { entry = still_entry 0 Idle; frames = [] } ∷ [] }
 
-pub small-form : (calls : List ClientCall) (log : Logged) → IsJournal (journal_of (two_rounds calls) (one_still log))
+pub small-form : (calls : List ClientCall) (log : Logged) → HasRanges (journal_of (two_rounds calls) (one_still log)) → IsJournal (journal_of (two_rounds calls) (one_still log))
 unfolding taken_by
-small-form calls log = record {
+small-form calls log numbers = record {
   rounds = All-cons (IsRound 2) (first calls) (second ∷ []) (record { calls = refl; turn = tt }) (All-cons (IsRound 2) second [] (record { calls = refl; turn = inl refl }) (All-nil (IsRound 2)));
   entries = (record { kept = refl; mixes = λ mixed. absurd (true≢false (sym mixed)); still = λ mixed. refl }, refl, All-nil IsFrame, tt);
+  numbers = numbers;
 }

@@ -11,7 +11,8 @@ use Rattle.af_base.specs.declared.seen.Seen.TheVariants as seen
 use Rattle.af_journal.specs.Digits.{number_at}
 use Rattle.af_journal.specs.Lines.{call_line, digit, seen_text}
 use Rattle.af_journal.specs.LineReading.{◌>>=◌, call_at, corrupt_at, frames_at, next_number, next_word, one_at, poke_at, put_at, seen_at, send_at, send_corrupt_at, sent_at, shown_at, three_at, two_at, up_to, whole, word_at}
-use Rattle.af_journal.specs.Ranges.{AreWords, IsSeenText, numbers_of}
+use Rattle.af_model.specs.Numbers.{AreWords, FitsCall}
+use Rattle.af_journal.specs.Ranges.{IsSeenText}
 use Rattle.af_journal.proofs.Decimal.{number_at-sound, number_at-decimal}
 
 -- ## Options
@@ -267,11 +268,11 @@ digit_back false = refl
 
 pub record SpellsCall (bytes : List ℕ) (c : ClientCall) : Type 0 where
   pub spelled : bytes ≡ call_line c
-  pub fits : AreWords (numbers_of c)
+  pub fits : FitsCall c
 
 -- a call of one number
 one_call : (mark code : ℕ) (rest : List ℕ) (f : ℕ → ClientCall) (c : ClientCall) → (mark == code) ≡ true → (one_at rest >>= λ n. Some (f n)) ≡ Some c
-    → ((n : ℕ) → code ∷ 32 ∷ decimal n ≡ call_line (f n)) → ((n : ℕ) → n < 2 ^ 32 → AreWords (numbers_of (f n))) → SpellsCall (mark ∷ rest) c
+    → ((n : ℕ) → code ∷ 32 ∷ decimal n ≡ call_line (f n)) → ((n : ℕ) → n < 2 ^ 32 → FitsCall (f n)) → SpellsCall (mark ∷ rest) c
 one_call mark code rest f c m e text fit =
     let n = bind_some (one_at rest) _ c e in
     let o = one-sound rest n.0 n.1 in
@@ -279,7 +280,7 @@ one_call mark code rest f c m e text fit =
 
 -- a call of two
 two_call : (mark code : ℕ) (rest : List ℕ) (f : ℕ → ℕ → ClientCall) (c : ClientCall) → (mark == code) ≡ true → (two_at rest >>= λ n. Some (f n.0 n.1)) ≡ Some c
-    → ((a b : ℕ) → code ∷ 32 ∷ (decimal a ++ 32 ∷ decimal b) ≡ call_line (f a b)) → ((a b : ℕ) → AreWords (a ∷ b ∷ []) → AreWords (numbers_of (f a b))) → SpellsCall (mark ∷ rest) c
+    → ((a b : ℕ) → code ∷ 32 ∷ (decimal a ++ 32 ∷ decimal b) ≡ call_line (f a b)) → ((a b : ℕ) → AreWords (a ∷ b ∷ []) → FitsCall (f a b)) → SpellsCall (mark ∷ rest) c
 two_call mark code rest f c m e text fit =
     let n = bind_some (two_at rest) _ c e in
     let o = two-sound rest n.0 n.1 in
@@ -295,7 +296,7 @@ sent-sound rest c e =
     let o = three-sound rest n.0 n.1 in
     subst (SpellsCall (115 ∷ rest)) (same_Some _ _ n.2) (record { spelled = ap (λ l. 115 ∷ l) o.0; fits = o.1 })
 
-behind_s : (mark : ℕ) (rest : List ℕ) (c : ClientCall) → (r : List ℕ) → mark ∷ rest ≡ r → 115 ∷ r ≡ call_line c → AreWords (numbers_of c) → SpellsCall (115 ∷ mark ∷ rest) c
+behind_s : (mark : ℕ) (rest : List ℕ) (c : ClientCall) → (r : List ℕ) → mark ∷ rest ≡ r → 115 ∷ r ≡ call_line c → FitsCall c → SpellsCall (115 ∷ mark ∷ rest) c
 behind_s mark rest c r e text fit = record { spelled = ap (λ l. 115 ∷ l) e ∙ text; fits = fit }
 
 send-sound : (rest : List ℕ) (c : ClientCall) → send_at rest ≡ Some c → SpellsCall (115 ∷ rest) c
@@ -359,7 +360,7 @@ abbrev pub first_of_line : List ℕ → Option ClientCall
 first_of_line [] = None
 first_of_line (mark ∷ rest) = call_at mark rest
 
-pub call-again : (c : ClientCall) → AreWords (numbers_of c) → first_of_line (call_line c) ≡ Some c
+pub call-again : (c : ClientCall) → FitsCall c → first_of_line (call_line c) ≡ Some c
 unfolding call_at put_at corrupt_at send_at send_corrupt_at sent_at
 call-again (call.Put a b) f = ap (of_two call.Put) (two-again a b f.0 f.1.0)
 call-again (call.Full a) f = ap (of_one call.Full) (one-again a f.0)

@@ -11,13 +11,12 @@ use Rattle.af_journal.specs.Lines.{Written, with_lf}
 use Rattle.af_journal.specs.LineReading.{◌>>=◌, written_at}
 use Rattle.af_journal.specs.Ranges.{IsWritten}
 use Rattle.af_journal.specs.Stages.{after_written, may_end}
-use Rattle.af_journal.specs.Texts.{lines_of, text_of, text_of_lines}
+use Rattle.af_journal.specs.Texts.{text_of, text_of_lines}
 
--- a journal of so many tracks whose numbers fit their types
+-- a journal of so many tracks; the numbers of its lines fit them (proofs/Fitting)
 pub record CanBeWritten (tracks : ℕ) (j : JournalData) : Type 0 where
   pub tracks_are : j.tracks ≡ tracks
   pub form : IsJournal j
-  pub numbers_fit : AllByRecursion IsWritten (lines_of j)
 
 -- the text has this reading
 abbrev pub Reads : ℕ → List ℕ → JournalData → Type 0

@@ -2,7 +2,8 @@
 ghost use Rattle.std.specs.Prelude.{◌≡◌, ◌++◌, ◌∷◌, [], ◌<◌, ◌≤◌, length, map, flat_map, All, IfOk, IfSome};
 ghost use Rattle.af_base.specs.Sample.{IsFrame, packed_word};
 ghost use Rattle.af_journal.specs.Lines.{hex_word, numbers, words};
-ghost use Rattle.af_journal.specs.Ranges.{AreWords, IsLine};
+ghost use Rattle.af_model.specs.Numbers.{AreWords};
+ghost use Rattle.af_journal.specs.Ranges.{IsLine};
 ghost use Rattle.af_journal.specs.Taken.{Leaves};
 ghost use Rattle.af_journal.specs.Texts.{words_after};
 

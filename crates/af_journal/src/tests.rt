@@ -180,6 +180,7 @@ fn small_journal(alloc: Global) -> Result<Journal, Memory> {
     noted.push(none, Some(TurnEntry::with_room(alloc, 0, 0)?), 1)?;
     let mut log = FastLog::with_room(alloc, 1, 1)?;
     log.push(STILL);
+    noted.know_numbers(&log);
     Ok(Journal::new(noted, log))
 }
 

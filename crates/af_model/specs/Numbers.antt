@@ -52,11 +52,23 @@ look_words l = l.flush ∷ l.rear ∷ l.code ∷ l.argument ∷ seen_words l.see
 abbrev pub slot_words : SlotEntry → List ℕ
 slot_words slot = slot.gains ∷ slot.flush ∷ slot.rear ∷ seen_words slot.seen
 
--- those of a take
-abbrev pub take_words : TakeSeen → List ℕ
-take_words t = t.track ∷ slot_words t.slot
-
 -- ## All numbers
+
+-- a call
+abbrev pub FitsCall : ClientCall → Type 0
+FitsCall c = AreWords (call_words c)
+
+-- a look at a command block
+abbrev pub FitsLook : CommandLook → Type 0
+FitsLook l = AreWords (look_words l)
+
+-- a slot
+abbrev pub FitsSlot : SlotEntry → Type 0
+FitsSlot slot = AreWords (slot_words slot)
+
+-- a take
+abbrev pub FitsTake : TakeSeen → Type 0
+FitsTake t = (t.track < 2 ^ 32) × FitsSlot t.slot
 
 -- what a push answered
 abbrev pub FitsPush : Push → Type 0
@@ -66,7 +78,7 @@ FitsPush (pushing.Busy word expected) = AreWords (word ∷ expected ∷ [])
 
 -- what a turn saw and did of a track
 pub record FitsTrack (t : TrackSeen) : Type 0 where
-  pub looks : All (λ l. AreWords (look_words l)) t.looks
+  pub looks : All FitsLook t.looks
   pub status : MatchOption t.status (Unit {0}) (λ word. word < 2 ^ 32)
 
 -- a turn
@@ -75,17 +87,17 @@ pub record FitsTurn (e : Turn) : Type 0 where
   pub cycle : e.cycle < 2 ^ 64
   pub tracks : All FitsTrack e.tracks
   pub push : FitsPush e.push
-  pub takes : All (λ t. AreWords (take_words t)) e.mixes
+  pub takes : All FitsTake e.mixes
 
 -- an entry
 pub record FitsEntry (entry : CycleEntry) : Type 0 where
   pub state : entry.state < 2 ^ 64
-  pub looks : (i : ℕ) → i < slots → AreWords (slot_words (entry_slot entry i))
+  pub looks : (i : ℕ) → i < slots → FitsSlot (entry_slot entry i)
   pub scales : (i : ℕ) → i < slots → slice_index_or entry.scales i 0 < 2 ^ 16
 
 -- some calls
 abbrev pub FitCalls : List ClientCall → Type 0
-FitCalls calls = All (λ c. AreWords (call_words c)) calls
+FitCalls calls = All FitsCall calls
 
 -- the calls of each client in a round, and its turn if there was one
 abbrev pub FitTurns : List (List ClientCall) → Option Turn → Type 0

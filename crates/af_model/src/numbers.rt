@@ -2,7 +2,7 @@
 ghost use Rattle.std.specs.Prelude.{◌<◌, ◌^◌, All, MatchOption};
 ghost use Rattle.std.specs.Option.{option_map};
 ghost use Rattle.af_base.specs.Turn.{take_seen, track_seen, turn_of};
-ghost use Rattle.af_model.specs.Numbers.{AreWords, FitCalls, FitsEntry, FitsPush, FitsTrack, FitsTurn, call_words, look_words, seen_words, slot_words, take_words};
+ghost use Rattle.af_model.specs.Numbers.{AreWords, FitCalls, FitsCall, FitsEntry, FitsLook, FitsPush, FitsSlot, FitsTake, FitsTrack, FitsTurn, seen_words};
 
 use af_base::{
     ClientCall, CommandLook, CycleEntry, FastLog, NormalTake, Push, SLOTS, Seen, SlotEntry,
@@ -40,7 +40,7 @@ fn know_seen(seen: Seen)
 
 // The words of a call.
 fn know_call(call: ClientCall)
-    ensures { AreWords (call_words call) }
+    ensures { FitsCall call }
 {
     match call {
         ClientCall::Full { front: word }
@@ -101,7 +101,7 @@ pub(crate) fn know_clients(clients: &[Vec<ClientCall>])
 
 // The words of a look at a command block.
 fn know_look(look: CommandLook)
-    ensures { AreWords (look_words look) }
+    ensures { FitsLook look }
 {
     know_word(look.flush);
     know_word(look.rear);
@@ -112,7 +112,7 @@ fn know_look(look: CommandLook)
 
 // Those of some looks.
 fn know_looks(looks: &[CommandLook])
-    ensures { All (λ l. AreWords (look_words l)) looks.now }
+    ensures { All FitsLook looks.now }
 {
     for i in 0..looks.len() {
         know_look(looks[i]);
@@ -162,7 +162,7 @@ fn know_push(push: Push)
 
 // The words of a slot.
 fn know_slot(slot: SlotEntry)
-    ensures { AreWords (slot_words slot) }
+    ensures { FitsSlot slot }
 {
     know_word(slot.gains);
     know_word(slot.flush);
@@ -172,7 +172,7 @@ fn know_slot(slot: SlotEntry)
 
 // Those of a take.
 fn know_take(take: &NormalTake)
-    ensures { AreWords (take_words (take_seen take.now)) }
+    ensures { FitsTake (take_seen take.now) }
 {
     know_word(take.track);
     know_slot(take.slot);
@@ -180,7 +180,7 @@ fn know_take(take: &NormalTake)
 
 // Those of each take.
 fn know_takes(takes: &[NormalTake])
-    ensures { All (λ t. AreWords (take_words (take_seen t))) takes.now }
+    ensures { All (λ t. FitsTake (take_seen t)) takes.now }
 {
     for i in 0..takes.len() {
         know_take(&takes[i]);

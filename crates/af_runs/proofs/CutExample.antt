@@ -1,7 +1,7 @@
 -- A cut run at work: one track, of whose three frames two fit its block, and one cycle, which idles. The normal mixer looks before the client's OPEN is there.
 use Rattle.std.specs.Prelude.{◌≡◌, ℕ, zero, suc, ◌<◌, true, false, None, Some, pos, refl, List, [], ◌∷◌, All, length}
-use Rattle.std.proofs.Common.{arith, subst, sym, true≢false, inl, inr}
-use Rattle.std.proofs.lemmas.List.Elements.{All-nil, All-cons}
+use Rattle.std.proofs.Common.{arith, lit<, subst, sym, true≢false, inl, inr}
+use Rattle.std.proofs.lemmas.List.Elements.{All-nil, All-cons, All-from_recursion}
 use Rattle.af_base.specs.declared.event.ClientCall.TheVariants as call
 use Rattle.af_base.specs.declared.event.ClientEvent.TheVariants as client
 use Rattle.af_base.specs.declared.event.ServerEvent.TheVariants as server
@@ -12,7 +12,7 @@ use Rattle.af_base.specs.declared.seen.Seen.TheVariants as seen
 use Rattle.af_base.specs.declared.state.Push.TheVariants as pushing
 use Rattle.af_base.specs.declared.turn.CommandLook.{CommandLook}
 use Rattle.af_base.specs.Sample.{IsFrame}
-use Rattle.af_base.specs.Turn.{Turn, TrackSeen}
+use Rattle.af_base.specs.Turn.{TrackSeen, Turn}
 use Rattle.af_life.specs.Edits.{edited, mutated, next_command, ordered, welcomed}
 use Rattle.af_life.specs.Heard.{heard_by, noted, settled_at}
 use Rattle.af_life.specs.Kept.{Outside}
@@ -24,6 +24,8 @@ use Rattle.af_model.specs.Cycles.{still_entry}
 use Rattle.af_model.specs.History.{Moment, by_client, by_server, by_hand}
 use Rattle.af_model.specs.Journals.{EntrySeen, RoundSeen, JournalData, taken_by}
 use Rattle.af_model.specs.JournalForm.{IsJournal, IsRound, IsCommandLook, IsTake}
+use Rattle.af_model.specs.Numbers.{FitCalls, FitsCall, FitsEntry, FitsLook, FitsRound, FitsTake, FitsTrack, FitsTurn, HasRanges}
+use Rattle.af_model.proofs.NumbersFit.{still_fits}
 use Rattle.af_model.specs.Order.{one, two}
 use Rattle.af_model.specs.declared.states.MutatorEvent.TheVariants as mutator
 use Rattle.af_model.specs.declared.states.ObserverEvent.TheVariants as observer
@@ -83,6 +85,30 @@ only P p i h = let e : 0 ≡ i = omega (arith, h) in subst P e p
 abbrev HasCommandLooks : TrackSeen → Type 0
 HasCommandLooks t = All IsCommandLook t.looks
 
+-- the numbers of the calls
+calls_fit : FitCalls (call.Sent 0 1 0 ∷ call.Put 0 2 ∷ call.Full 0 ∷ [])
+calls_fit = All-from_recursion FitsCall (call.Sent 0 1 0 ∷ call.Put 0 2 ∷ call.Full 0 ∷ []) ((lit< tt, (lit< tt, (lit< tt, tt))), ((lit< tt, (lit< tt, tt)), ((lit< tt, tt), tt)))
+
+-- those of the turn
+turn_fits : FitsTurn turn
+turn_fits = record {
+  room = lit< tt;
+  cycle = lit< tt;
+  tracks = All-cons FitsTrack seen_of_track [] (record { looks = All-cons FitsLook look [] (lit< tt, (lit< tt, (lit< tt, (lit< tt, tt)))) (All-nil FitsLook); status = tt }) (All-nil FitsTrack);
+  push = tt;
+  takes = All-nil FitsTake;
+}
+
+-- all of them
+numbers : HasRanges journal
+numbers = record {
+  tracks = lit< tt;
+  rounds = All-cons FitsRound round [] (
+    (All-cons FitCalls (call.Sent 0 1 0 ∷ call.Put 0 2 ∷ call.Full 0 ∷ []) [] calls_fit (All-nil FitCalls), turn_fits),
+    All-cons (λ (e : EntrySeen). FitsEntry e.entry) entry [] (still_fits 0 cycle.Idle (lit< tt)) (All-nil (λ (e : EntrySeen). FitsEntry e.entry)),
+  ) (All-nil FitsRound);
+}
+
 form : IsJournal journal
 unfolding taken_by
 form = record {
@@ -97,6 +123,7 @@ form = record {
     });
   }) (All-nil (IsRound 1));
   entries = (record { kept = refl; mixes = λ mixed. absurd (true≢false (sym mixed)); still = λ mixed. refl }, refl, All-nil IsFrame, tt);
+  numbers = numbers;
 }
 
 -- ## The turns

@@ -1,7 +1,7 @@
-use Rattle.std.proofs.Common.{◌≡◌, subst, sym, rules, ap, ◌∙◌}
-use Rattle.af_base.specs.Log.{Logged}
-use Rattle.af_model.specs.Journals.{RoundsNoted, journal_of}
+use Rattle.std.proofs.Common.{◌≡◌, subst, sym, rules, ◌∙◌}
+use Rattle.af_model.specs.Journals.{journal_of}
 use Rattle.af_model.specs.JournalForm.{IsJournal}
+use Rattle.af_model.specs.Numbers.{HasRanges}
 use Rattle.af_journal.proofs.Small.{one_still, small-form, two_rounds}
 use Rattle.af_journal.proofs.tests.small_journal.Goals as goal
 
@@ -9,5 +9,5 @@ pub new-requires-4-clause-form : goal.new-requires-4-clause-form
 new-requires-4-clause-form c = let first = c.push-2.new.self.items in
     let noted : c.push-4.new.self ≡ two_rounds first = search rules in
     let log : c.push-5.new.self ≡ one_still c.push-5.new.self = search rules in
-    subst (λ (n : RoundsNoted). IsJournal (journal_of n c.push-5.new.self)) (sym noted)
-    (subst (λ (l : Logged). IsJournal (journal_of (two_rounds first) l)) (sym log) (small-form first c.push-5.new.self))
+    let both : journal_of c.push-4.new.self c.push-5.new.self ≡ journal_of (two_rounds first) (one_still c.push-5.new.self) = (λ k. journal_of (noted k) (log k)) in
+    subst IsJournal (sym both) (small-form first c.push-5.new.self (subst HasRanges both c.know_numbers.ensures))

@@ -4,11 +4,11 @@ use Rattle.std.proofs.lemmas.List.{take_all}
 use Rattle.std.proofs.lemmas.List.Elements.{All-more}
 use Rattle.af_base.specs.declared.turn.NormalTake.{NormalTake}
 use Rattle.af_base.specs.Turn.{take_seen}
-use Rattle.af_model.specs.Numbers.{AreWords, take_words}
+use Rattle.af_model.specs.Numbers.{FitsTake}
 use Rattle.af_model.proofs.numbers.know_takes.Goals as goal
 
 pub loop-i-preserved : goal.loop-i-preserved
-loop-i-preserved c = All-more (λ (t : NormalTake). AreWords (take_words (take_seen t))) c.args.takes.now c.loop-i.i _ (omega (arith, c.loop-i-test.true, c.loop-i.auto.i-end)) c.loop-i.invariant c.know_take.ensures
+loop-i-preserved c = All-more (λ (t : NormalTake). FitsTake (take_seen t)) c.args.takes.now c.loop-i.i _ (omega (arith, c.loop-i-test.true, c.loop-i.auto.i-end)) c.loop-i.invariant c.know_take.ensures
 
 pub returns : goal.returns
-returns c = subst (All (λ (t : NormalTake). AreWords (take_words (take_seen t)))) (take_all c.loop-i.i c.args.takes.now (omega (arith, c.loop-i-test.false, c.loop-i.auto.i-end))) c.loop-i.invariant
+returns c = subst (All (λ (t : NormalTake). FitsTake (take_seen t))) (take_all c.loop-i.i c.args.takes.now (omega (arith, c.loop-i-test.false, c.loop-i.auto.i-end))) c.loop-i.invariant

@@ -1,6 +1,6 @@
 use Rattle.std.proofs.lemmas.List.Elements.{All-map}
-use Rattle.af_base.specs.Turn.{TakeSeen, take_seen, track_seen}
-use Rattle.af_model.specs.Numbers.{AreWords, FitsTrack, take_words}
+use Rattle.af_base.specs.Turn.{take_seen, track_seen}
+use Rattle.af_model.specs.Numbers.{FitsTake, FitsTrack}
 use Rattle.af_model.proofs.numbers.know_turn.Goals as goal
 
 pub returns : goal.returns
@@ -9,5 +9,5 @@ returns c = record {
   cycle = c.know_number.ensures;
   tracks = All-map FitsTrack track_seen c.args.turn.now.tracks.items c.know_tracks.ensures;
   push = c.know_push.ensures;
-  takes = All-map (λ (t : TakeSeen). AreWords (take_words t)) take_seen c.args.turn.now.mixes.items c.know_takes.ensures;
+  takes = All-map FitsTake take_seen c.args.turn.now.mixes.items c.know_takes.ensures;
 }

@@ -1,6 +1,6 @@
 use Rattle.std.proofs.Common.{◌<◌, ◌^◌, ℕ, ap, subst}
 use Rattle.af_model.specs.Journals.{RoundsNoted}
-use Rattle.af_model.proofs.NumbersDealt.{ranges_dealt}
+use Rattle.af_model.proofs.NumbersFit.{ranges_dealt}
 use Rattle.af_model.proofs.journal.Rounds.know_numbers.Goals as goal
 
 pub returns : goal.returns

@@ -4,7 +4,7 @@ use Rattle.std.proofs.lemmas.List.{take_all}
 use Rattle.std.proofs.lemmas.List.Elements.{All-more}
 use Rattle.af_model.specs.Journals.{RoundNoted}
 use Rattle.af_model.specs.Noting.{none_noted}
-use Rattle.af_model.proofs.NumbersDealt.{FitsNoted}
+use Rattle.af_model.proofs.NumbersFit.{FitsNoted}
 use Rattle.af_model.proofs.journal.Rounds.know_rounds.Goals as goal
 
 pub loop-i-preserved : goal.loop-i-preserved

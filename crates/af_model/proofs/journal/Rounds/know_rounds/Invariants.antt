@@ -1,6 +1,6 @@
 use Rattle.std.proofs.Common.{take}
 use Rattle.std.specs.Prelude.{All}
-use Rattle.af_model.proofs.NumbersDealt.{FitsNoted}
+use Rattle.af_model.proofs.NumbersFit.{FitsNoted}
 use Rattle.af_model.proofs.journal.Rounds.know_rounds.Given as goal
 
 abbrev pub invariant-loop-i : goal.invariant-loop-i

@@ -1,11 +1,14 @@
 -- The numbers of the rounds that were noted, and of the log of their cycles, are those of the journal.
-use Rattle.std.proofs.Common.{ℕ, ◌<◌, ◌^◌, List, [], ◌∷◌, All, take, drop}
+use Rattle.std.proofs.Common.{ℕ, ◌<◌, ◌^◌, List, [], ◌∷◌, All, take, drop, lit<, subst, sym}
+use Rattle.std.proofs.lemmas.List.{get_or-replicate}
 use Rattle.std.proofs.lemmas.List.Elements.{All-cons, All-drop, All-head, All-nil, All-tail, All-take}
 use Rattle.af_base.specs.declared.frame.Frame.{Frame}
+use Rattle.af_base.specs.declared.log.Cycle.{Cycle}
 use Rattle.af_base.specs.declared.log.CycleEntry.{CycleEntry}
-use Rattle.af_base.specs.Log.{Logged}
+use Rattle.af_base.specs.Log.{Logged, absent, slots}
+use Rattle.af_model.specs.Cycles.{still_entry}
 use Rattle.af_model.specs.Journals.{EntrySeen, RoundNoted, RoundsNoted, entries_seen, journal_of, rounds_seen, taken_by}
-use Rattle.af_model.specs.Numbers.{FitEntries, FitTurns, FitsEntry, FitsRound, HasRanges}
+use Rattle.af_model.specs.Numbers.{FitEntries, FitTurns, FitsEntry, FitsRound, FitsSlot, HasRanges}
 
 -- the entries with their frames
 entries_fit : (frames : List Frame) (entries : List CycleEntry) → All FitsEntry entries → FitEntries (entries_seen frames entries)
@@ -29,3 +32,17 @@ rounds_fit entries (r ∷ rs) fit all =
 -- the whole journal
 pub ranges_dealt : (noted : RoundsNoted) (log : Logged) → noted.tracks < 2 ^ 32 → All FitsNoted noted.rounds → All FitsEntry log.entries → HasRanges (journal_of noted log)
 ranges_dealt noted log few rounds entries = record { tracks = few; rounds = rounds_fit (entries_seen log.frames log.entries) noted.rounds (entries_fit log.frames log.entries entries) rounds }
+
+-- ## A slot that shows nothing
+
+-- no number is above 0
+pub absent_fits : FitsSlot absent
+absent_fits = (lit< tt, (lit< tt, (lit< tt, tt)))
+
+-- so of an entry in which every slot is absent
+pub still_fits : (state : ℕ) (cy : Cycle) → state < 2 ^ 64 → FitsEntry (still_entry state cy)
+still_fits state cy few = record {
+  state = few;
+  looks = (λ i lt. subst FitsSlot (sym (get_or-replicate slots i absent absent lt)) absent_fits);
+  scales = (λ i lt. subst (λ (n : ℕ). n < 2 ^ 16) (sym (get_or-replicate slots i 0 0 lt)) (lit< tt));
+}
