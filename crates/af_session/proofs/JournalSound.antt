@@ -8,6 +8,7 @@ use Rattle.af_base.specs.Log.{Logged}
 use Rattle.af_base.specs.Sample.{IsFrame}
 use Rattle.af_model.specs.Journals.{EntrySeen, RoundNoted, RoundsNoted, cycles_of, entries_of, entries_seen, frames_of, journal_of, rounds_seen, taken_by}
 use Rattle.af_model.specs.JournalForm.{AreEntries, IsJournal, IsRound, IsWhole}
+use Rattle.af_model.specs.Numbers.{HasRanges}
 use Rattle.af_tally.specs.Sound.{pcm_of}
 use Rattle.af_runs.specs.Pcm.{entries_pcm, journal_pcm}
 use Rattle.af_session.proofs.RoundForms.{AreNoted, IsNoted}
@@ -46,10 +47,11 @@ module _ (tracks : ℕ) (noted : RoundsNoted) (log : Logged) (are : AreNoted tra
   pub journal_whole : IsWhole noted log
   journal_whole = (are.count, (are.form samples).frames_are)
 
-  pub journal_form : IsJournal (journal_of noted log)
-  journal_form = record {
+  pub journal_form : HasRanges (journal_of noted log) → IsJournal (journal_of noted log)
+  journal_form ranges = record {
     rounds = subst (λ (n : ℕ). All (IsRound n) (journal_of noted log).rounds) (sym are.tracks_are) (rounds_form tracks (entries_seen log.frames log.entries) noted.rounds are.each);
     entries = subst (AreEntries 0) (sym (dealt noted log are.count)) (are.form samples).form;
+    numbers = ranges;
   }
 
 -- ## Sound

@@ -203,7 +203,9 @@ impl Parties {
                 alloc, links, turns[i], tracks, files, store, name, buffer, bytes, rounds, tally,
             )?;
         }
-        know_frames(self.fast.log().frames());
+        let log = self.fast.log();
+        know_frames(log.frames());
+        rounds.know_numbers(log);
         Ok(())
     }
 }

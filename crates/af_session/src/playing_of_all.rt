@@ -230,7 +230,9 @@ impl Parties {
                 logging, gate,
             )?;
         }
-        know_frames(self.fast.log().frames());
+        let log = self.fast.log();
+        know_frames(log.frames());
+        rounds.know_numbers(log);
         Ok(())
     }
 }

@@ -5,7 +5,8 @@ use Rattle.std.proofs.lemmas.Result.{IfOk-from_err}
 use Rattle.af_base.specs.Log.{Logged}
 use Rattle.af_base.specs.Sample.{IsFrame}
 use Rattle.af_io.specs.Files.{SetsFile, LeavesFront}
-use Rattle.af_model.specs.Journals.{RoundsNoted}
+use Rattle.af_model.specs.Journals.{RoundsNoted, journal_of}
+use Rattle.af_model.specs.Numbers.{HasRanges}
 use Rattle.af_script.specs.declared.op.TurnSpec.{TurnSpec}
 use Rattle.af_session.specs.Hostile.{SparesSoFar}
 use Rattle.af_session.specs.Rendered.{Runs}
@@ -136,10 +137,11 @@ returns g c = record {
   all = (let given : Given = record { tracks = c.args.tracks.now; files = c.args.files.now } in
       subst (λ (xs : List TurnSpec). Runs given xs c.args.self.now c.loop-i.rounds.rounds c.loop-i.self) (take_all c.loop-i.i c.args.turns.now (omega (arith, c.loop-i-test.false, c.loop-i.auto.i-end))) c.loop-i.invariant.run);
   tracks = c.loop-i.invariant.noted.tracks_are;
-  whole = (let samples : All IsFrame c.loop-i.self.fast.log.frames = subst (All IsFrame) (c.frames.ensures ∙ ap (λ (l : Logged). l.frames) c.log.ensures ∙ ap (λ (s : SessionState). s.fast.log.frames) c.self.view_is) c.know_frames.ensures in
+  whole = (let samples : All IsFrame c.loop-i.self.fast.log.frames = subst (All IsFrame) (c.frames.ensures ∙ ap (λ (l : Logged). l.frames) c.log-log.ensures ∙ ap (λ (s : SessionState). s.fast.log.frames) c.self.view_is) c.know_frames.ensures in
       journal_whole (length c.args.tracks.now) c.loop-i.rounds c.loop-i.self.fast.log c.loop-i.invariant.noted samples);
-  form = (let samples : All IsFrame c.loop-i.self.fast.log.frames = subst (All IsFrame) (c.frames.ensures ∙ ap (λ (l : Logged). l.frames) c.log.ensures ∙ ap (λ (s : SessionState). s.fast.log.frames) c.self.view_is) c.know_frames.ensures in
-      journal_form (length c.args.tracks.now) c.loop-i.rounds c.loop-i.self.fast.log c.loop-i.invariant.noted samples);
+  form = (let samples : All IsFrame c.loop-i.self.fast.log.frames = subst (All IsFrame) (c.frames.ensures ∙ ap (λ (l : Logged). l.frames) c.log-log.ensures ∙ ap (λ (s : SessionState). s.fast.log.frames) c.self.view_is) c.know_frames.ensures in
+      let numbers : HasRanges (journal_of c.loop-i.rounds c.loop-i.self.fast.log) = subst (λ (log : Logged). HasRanges (journal_of c.loop-i.rounds log)) (c.log-log.ensures ∙ ap (λ (s : SessionState). s.fast.log) c.self.view_is) c.know_numbers.ensures in
+      journal_form (length c.args.tracks.now) c.loop-i.rounds c.loop-i.self.fast.log c.loop-i.invariant.noted samples numbers);
   tally = c.loop-i.invariant.tally;
   frames = c.loop-i.invariant.sizes.0;
   spares = (λ new. c.loop-i.invariant.spares new);

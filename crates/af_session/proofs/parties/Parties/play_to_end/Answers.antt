@@ -6,7 +6,8 @@ use Rattle.af_base.specs.Log.{Logged}
 use Rattle.af_base.specs.Sample.{IsFrame}
 use Rattle.af_base.specs.declared.state.FastState.{FastState}
 use Rattle.af_io.specs.Files.{SetsFile, LeavesFront}
-use Rattle.af_model.specs.Journals.{RoundsNoted}
+use Rattle.af_model.specs.Journals.{RoundsNoted, journal_of}
+use Rattle.af_model.specs.Numbers.{HasRanges}
 use Rattle.af_session.specs.Hostile.{SparesSoFar}
 use Rattle.af_session.specs.Logging.{LogsPlay}
 use Rattle.af_session.specs.PlayedRuns.{GoesOn, RunsOfAll}
@@ -192,10 +193,11 @@ returns g c = record {
   over = c.goes_on.ensures.no c.loop-alloc-test.false;
   few = c.loop-alloc.invariant.few;
   tracks = c.loop-alloc.invariant.noted.tracks_are;
-  whole = (let samples : All IsFrame c.loop-alloc.self.fast.log.frames = subst (All IsFrame) (c.frames.ensures ∙ ap (λ (l : Logged). l.frames) c.log.ensures ∙ ap (λ (s : SessionState). s.fast.log.frames) c.self.view_is) c.know_frames.ensures in
+  whole = (let samples : All IsFrame c.loop-alloc.self.fast.log.frames = subst (All IsFrame) (c.frames.ensures ∙ ap (λ (l : Logged). l.frames) c.log-log.ensures ∙ ap (λ (s : SessionState). s.fast.log.frames) c.self.view_is) c.know_frames.ensures in
       journal_whole (length c.args.tracks.now) c.loop-alloc.rounds c.loop-alloc.self.fast.log c.loop-alloc.invariant.noted samples);
-  form = (let samples : All IsFrame c.loop-alloc.self.fast.log.frames = subst (All IsFrame) (c.frames.ensures ∙ ap (λ (l : Logged). l.frames) c.log.ensures ∙ ap (λ (s : SessionState). s.fast.log.frames) c.self.view_is) c.know_frames.ensures in
-      journal_form (length c.args.tracks.now) c.loop-alloc.rounds c.loop-alloc.self.fast.log c.loop-alloc.invariant.noted samples);
+  form = (let samples : All IsFrame c.loop-alloc.self.fast.log.frames = subst (All IsFrame) (c.frames.ensures ∙ ap (λ (l : Logged). l.frames) c.log-log.ensures ∙ ap (λ (s : SessionState). s.fast.log.frames) c.self.view_is) c.know_frames.ensures in
+      let numbers : HasRanges (journal_of c.loop-alloc.rounds c.loop-alloc.self.fast.log) = subst (λ (log : Logged). HasRanges (journal_of c.loop-alloc.rounds log)) (c.log-log.ensures ∙ ap (λ (s : SessionState). s.fast.log) c.self.view_is) c.know_numbers.ensures in
+      journal_form (length c.args.tracks.now) c.loop-alloc.rounds c.loop-alloc.self.fast.log c.loop-alloc.invariant.noted samples numbers);
   tally = c.loop-alloc.invariant.tally;
   frames = c.loop-alloc.invariant.sizes.0;
   spares = (λ new. c.loop-alloc.invariant.spares new);
