@@ -27,4 +27,4 @@ mod RoundsRead
 mod OneText
 mod OneTurn
 mod OneEntry
-mod OneJournal
+pub mod OneJournal

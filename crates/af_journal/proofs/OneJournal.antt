@@ -5,11 +5,11 @@ use Rattle.std.proofs.lemmas.List.Elements.{All-head, All-nil, All-cons, All-tai
 use Rattle.af_base.specs.declared.event.ClientCall.{ClientCall}
 use Rattle.af_base.specs.Turn.{Turn}
 use Rattle.af_model.specs.Journals.{EntrySeen, JournalData, RoundSeen, entries_of, frames_of}
-use Rattle.af_model.specs.JournalForm.{AreEntries, IsRound, IsTurn}
+use Rattle.af_model.specs.JournalForm.{AreEntries, IsJournal, IsRound, IsTurn}
 use Rattle.af_journal.specs.declared.line.Line.TheVariants as line
 use Rattle.af_journal.specs.Lines.{Written, numbers}
 use Rattle.af_journal.specs.Readings.{Reads}
-use Rattle.af_journal.specs.Texts.{client_lines, each_from, entry_lines, fast_lines, lines_of, round_lines, take_lines, track_lines, turn_lines, turns_lines}
+use Rattle.af_journal.specs.Texts.{client_lines, each_from, entry_lines, fast_lines, lines_of, round_lines, take_lines, text_of, track_lines, turn_lines, turns_lines}
 use Rattle.af_journal.proofs.Fitting.{lines_fit}
 use Rattle.af_journal.proofs.OneEntry.{AtRound, entries-one, round-from}
 use Rattle.af_journal.proofs.OneText.{FromOn, clients-numbered, each-one, others-same, same-lines}
@@ -149,3 +149,13 @@ one-reading tracks text j k p q =
     let rounds = rounds-one tracks 0 j.rounds k.rounds jf kf p.0.form.entries q.0.form.entries lines in
     let tracks_same : j.tracks ≡ k.tracks = p.0.tracks_are ∙ sym q.0.tracks_are in
     λ i. record { tracks = tracks_same i; rounds = rounds i }
+
+-- ## The text of a journal
+
+-- has a reading
+pub own-reading : (j : JournalData) → IsJournal j → Reads j.tracks (text_of j) j
+own-reading j is = (record { tracks_are = refl; form = is }, refl)
+
+-- and no other
+pub only-reading : (j other : JournalData) → IsJournal j → Reads j.tracks (text_of j) other → other ≡ j
+only-reading j other is reads = one-reading j.tracks (text_of j) other j reads (own-reading j is)
