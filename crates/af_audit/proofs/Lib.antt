@@ -1,10 +1,10 @@
 pub mod Booleans
 mod FirstFound
-mod JudgedExactly
+pub mod JudgedExactly
 mod JournalJudged
 mod RunEnds
 mod RunMayEnd
-mod OneVerdict
+pub mod OneVerdict
 mod RoundParts
 mod LeastOnes
 mod CallsJudged

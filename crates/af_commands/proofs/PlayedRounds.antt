@@ -3,7 +3,9 @@ use Rattle.std.proofs.Common.{◌≡◌, ◌∙◌, ℕ, Bool, true, false, List
 use Rattle.std.specs.declared.alloc.Global.{Global}
 use Rattle.af_io.specs.Files.{Files, SameFiles, SetsFile, LeavesFront}
 use Rattle.af_io.specs.Outputs.{with_file}
+use Rattle.af_journal.specs.Readings.{IsOneReading}
 use Rattle.af_journal.specs.Texts.{text_of}
+use Rattle.af_journal.proofs.OneJournal.{read-back}
 use Rattle.af_model.specs.Journals.{JournalData}
 use Rattle.af_tally.specs.declared.summary.Summary.{Summary}
 use Rattle.af_session.specs.declared.answering.PlayFault.{PlayFault}
@@ -24,6 +26,7 @@ use Rattle.af_commands.specs.Line.{limit_text}
 use Rattle.af_commands.specs.Plays.{IsPlay, IsPlayed, IsSomePlayLine, LeavesText, run_line}
 use Rattle.af_commands.specs.Sessions.{summary_line}
 use Rattle.af_commands.specs.Told.{Tells, TellsText}
+use Rattle.af_commands.specs.Verified.{IsTextFor}
 use Rattle.af_commands.proofs.Made.{files_are}
 
 -- the promises of a journal
@@ -38,8 +41,12 @@ module _ (ended : Bool) (l : Loaded) (journal : JournalData) (ends : EndsState) 
   abbrev bytes : List ℕ
   bytes = journal_pcm l.script.frames journal
 
-  is_play : (line : List ℕ) → line ≡ run_line ended l.script journal ends → IsPlay ended l.script l.files bytes (text_of journal) line
-  is_play line is = record { journal = journal; ends = ends; run = back; legal = legal; bytes_are = refl; text_is = refl; line_is = is }
+  -- the text of the journal is read as this journal alone
+  read : IsTextFor l.script (text_of journal) journal
+  read = subst (λ (tracks : ℕ). IsOneReading tracks (text_of journal) journal) (ap (λ (j : JournalData). j.tracks) back.journal_is) (read-back journal back.form)
+
+  pub is_play : (line : List ℕ) → line ≡ run_line ended l.script journal ends → IsPlay ended l.script l.files bytes (text_of journal) line
+  is_play line is = record { journal = journal; ends = ends; run = back; legal = legal; bytes_are = refl; text_is = refl; read = read; line_is = is }
 
   module _ (target name : List ℕ) (old mid : Files) (set : SetsFile old target (Some bytes) mid) where
     made : with_file old (record { name = target; bytes = bytes }) ≡ mid

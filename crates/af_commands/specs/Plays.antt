@@ -12,6 +12,7 @@ use Rattle.af_session.specs.Shown.{summary_told}
 use Rattle.af_runs.specs.Pcm.{journal_pcm}
 use Rattle.af_commands.specs.Line.{limit_text}
 use Rattle.af_commands.specs.Sessions.{summary_line}
+use Rattle.af_commands.specs.Verified.{IsTextFor}
 
 -- ## One run
 
@@ -20,7 +21,7 @@ abbrev pub run_line : Bool → ScriptData → JournalData → EndsState → List
 run_line true script journal ends = summary_line (summary_told script.frames journal ends)
 run_line false script journal ends = limit_text script.cycles
 
--- These bytes, this text and this line are of one run of all parties, in which all have ended, or which was cut off where the log was full: the sound of its journal, the text of the same journal, and its line. By itself that journal is a legal run in which each frame of a lawful client has one fate and each lawful track is spared, or else a cut run
+-- These bytes, this text and this line are of one run of all parties, in which all have ended, or which was cut off where the log was full: the sound of its journal, the text of the same journal, which is its one reading, and its line. By itself that journal is a legal run in which each frame of a lawful client has one fate and each lawful track is spared, or else a cut run
 pub record IsPlay (ended : Bool) (script : ScriptData) (files : List (List Frame)) (bytes text line : List ℕ) : Type 0 where
   pub journal : JournalData
   pub ends : EndsState
@@ -28,6 +29,7 @@ pub record IsPlay (ended : Bool) (script : ScriptData) (files : List (List Frame
   pub legal : IsLegalJournal ended script files journal
   pub bytes_are : bytes ≡ journal_pcm script.frames journal
   pub text_is : text ≡ text_of journal
+  pub read : IsTextFor script text journal
   pub line_is : line ≡ run_line ended script journal ends
 
 -- this is the line of a run of some script with some files, in which all parties have ended

@@ -2,7 +2,7 @@
 use Rattle.std.specs.Prelude.{◌≡◌, ℕ, List, length, String, string_bytes, Result, Ok, Err}
 use Rattle.std.specs.declared.alloc.Global.{Global}
 use Rattle.af_base.specs.declared.frame.Frame.{Frame}
-use Rattle.af_journal.specs.Readings.{HasReading, IsFirstBad, Reads}
+use Rattle.af_journal.specs.Readings.{HasReading, IsFirstBad, IsOneReading}
 use Rattle.af_audit.specs.Verdicts.{IsVerdict}
 use Rattle.af_audit.specs.declared.verdict.Refusal.TheVariants as refused
 use Rattle.af_audit.specs.declared.verdict.Verdict.{Verdict}
@@ -18,10 +18,9 @@ use Rattle.af_commands.specs.declared.status.Ending.TheVariants as ending
 use Rattle.af_commands.specs.declared.status.Stop.{Stop}
 use Rattle.af_commands.specs.declared.status.Stop.TheVariants.{Over, Memory}
 
--- this journal is the one reading of the text, for as many tracks as the script has: it has the form of a journal, its numbers fit, and the text is that of its lines; and no other is
-pub record IsTextFor (script : ScriptData) (text : List ℕ) (journal : JournalData) : Type 0 where
-  pub reads : Reads (length script.tracks) text journal
-  pub only : (other : JournalData) → Reads (length script.tracks) text other → other ≡ journal
+-- this journal is the one reading of the text, for as many tracks as the script has
+abbrev pub IsTextFor : ScriptData → List ℕ → JournalData → Type 0
+IsTextFor script text journal = IsOneReading (length script.tracks) text journal
 
 -- the text has one reading, and this is what is found of that journal and the sound
 abbrev pub IsOfJournal : ScriptData → List (List Frame) → List ℕ → List ℕ → Verdict → Type 0

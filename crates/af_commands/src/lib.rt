@@ -4,6 +4,7 @@
 mod capture;
 mod deliver;
 mod generating;
+mod laws;
 mod lines;
 mod load;
 mod looping;
@@ -14,5 +15,6 @@ mod status;
 mod tracing;
 mod verifying;
 
+pub use laws::a_play_is_never_refused;
 pub use running::run;
 pub use status::{FileFault, Role, Status, Why};

@@ -5,10 +5,10 @@ use Rattle.std.proofs.lemmas.List.Elements.{All-head, All-nil, All-cons, All-tai
 use Rattle.af_base.specs.declared.event.ClientCall.{ClientCall}
 use Rattle.af_base.specs.Turn.{Turn}
 use Rattle.af_model.specs.Journals.{EntrySeen, JournalData, RoundSeen, entries_of, frames_of}
-use Rattle.af_model.specs.JournalForm.{AreEntries, IsJournal, IsRound, IsTurn}
+use Rattle.af_model.specs.JournalForm.{AreEntries, IsRound, IsTurn}
 use Rattle.af_journal.specs.declared.line.Line.TheVariants as line
 use Rattle.af_journal.specs.Lines.{Written, numbers}
-use Rattle.af_journal.specs.Readings.{Reads}
+use Rattle.af_journal.specs.Readings.{IsReadBack, Reads}
 use Rattle.af_journal.specs.Texts.{client_lines, each_from, entry_lines, fast_lines, lines_of, round_lines, take_lines, text_of, track_lines, turn_lines, turns_lines}
 use Rattle.af_journal.proofs.Fitting.{lines_fit}
 use Rattle.af_journal.proofs.OneEntry.{AtRound, entries-one, round-from}
@@ -152,10 +152,8 @@ one-reading tracks text j k p q =
 
 -- ## The text of a journal
 
--- has a reading
-pub own-reading : (j : JournalData) → IsJournal j → Reads j.tracks (text_of j) j
-own-reading j is = (record { tracks_are = refl; form = is }, refl)
-
--- and no other
-pub only-reading : (j other : JournalData) → IsJournal j → Reads j.tracks (text_of j) other → other ≡ j
-only-reading j other is reads = one-reading j.tracks (text_of j) other j reads (own-reading j is)
+-- has one reading
+pub read-back : (j : JournalData) → IsReadBack j
+read-back j is =
+    let own : Reads j.tracks (text_of j) j = (record { tracks_are = refl; form = is }, refl) in
+    record { reads = own; only = (λ other reads. one-reading j.tracks (text_of j) other j reads own) }

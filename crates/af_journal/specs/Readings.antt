@@ -26,6 +26,15 @@ Reads tracks text j = CanBeWritten tracks j × (text ≡ text_of j)
 abbrev pub HasReading : ℕ → List ℕ → Type 0
 HasReading tracks text = (j : JournalData) × Reads tracks text j
 
+-- the text is read as this journal, and as no other
+pub record IsOneReading (tracks : ℕ) (text : List ℕ) (j : JournalData) : Type 0 where
+  pub reads : Reads tracks text j
+  pub only : (other : JournalData) → Reads tracks text other → other ≡ j
+
+-- the text of a journal is read back
+abbrev pub IsReadBack : JournalData → Type 0
+IsReadBack j = IsJournal j → IsOneReading j.tracks (text_of j) j
+
 -- ## The lines of a text
 
 -- the stage after some lines, one after the other

@@ -5,6 +5,7 @@ mod building;
 mod digits;
 mod fast;
 mod fast_reading;
+mod laws;
 mod left;
 mod line;
 mod line_reading;
@@ -15,6 +16,7 @@ mod turn_reading;
 mod writing;
 
 pub use building::{JournalFault, read};
+pub use laws::what_is_written_is_read_back;
 pub use line::Line;
 pub use reading::first_bad_line;
 pub use writing::write;
