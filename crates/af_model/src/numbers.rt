@@ -64,7 +64,9 @@ fn know_call(call: ClientCall)
             rear: other,
         }
         | ClientCall::Poke {
-            word, value: other, ..
+            word,
+            value: other,
+            ..
         } => {
             know_word(word);
             know_word(other);
@@ -200,7 +202,7 @@ fn know_turn(turn: &TurnEntry)
 
 /// Those of a turn that may have been made.
 pub(crate) fn know_turns(turn: Option<&TurnEntry>)
-    ensures { MatchOption (option_map (λ e. turn_of e.now) turn) (Unit {0}) FitsTurn }
+    ensures { MatchOption (option_map (λ e. turn_of e.now) turn.entry) (Unit {0}) FitsTurn }
 {
     match turn {
         Some(entry) => know_turn(entry),

@@ -13,4 +13,4 @@ loop-i-preserved c =
     All-more FitsEntry c.args.log.now.entries c.loop-i.i no_entry inside c.loop-i.invariant (subst FitsEntry is c.know_entry.ensures)
 
 pub returns : goal.returns
-returns c = subst (All FitsEntry) (take_all c.loop-i.i c.args.log.now.entries (omega (arith, c.len.ensures, c.loop-i-test.false, c.loop-i.auto.i-end))) c.loop-i.invariant
+returns c = subst (All FitsEntry) (take_all c.loop-i.i c.args.log.now.entries (omega (arith, c.len-i-end.ensures, c.loop-i-test.false, c.loop-i.auto.i-end))) c.loop-i.invariant

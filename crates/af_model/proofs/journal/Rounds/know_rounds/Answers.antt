@@ -13,4 +13,4 @@ loop-i-preserved c =
     All-more FitsNoted c.args.self.now.rounds c.loop-i.i none_noted inside c.loop-i.invariant (subst FitsNoted c.round.ensures.noted c.know_round.ensures)
 
 pub returns : goal.returns
-returns c = subst (All FitsNoted) (take_all c.loop-i.i c.args.self.now.rounds (omega (arith, c.len.ensures, c.loop-i-test.false, c.loop-i.auto.i-end))) c.loop-i.invariant
+returns c = subst (All FitsNoted) (take_all c.loop-i.i c.args.self.now.rounds (omega (arith, c.len-i-end.ensures, c.loop-i-test.false, c.loop-i.auto.i-end))) c.loop-i.invariant
