@@ -3,7 +3,7 @@ use Rattle.std.proofs.Common.{rules, ◌≤◌, length}
 use Rattle.std.proofs.Math.ListN.{replicate}
 use Rattle.std.proofs.lemmas.List.Elements.{All-append, All-replicate}
 use Rattle.af_base.specs.declared.plain.Part.{Part}
-use Rattle.af_gain.proofs.tests.many_full_takes.Goals as goal
+use Rattle.af_gain_tests.proofs.tests.many_full_takes.Goals as goal
 
 pub mix-requires-3-clause-fits : goal.mix-requires-3-clause-fits
 mix-requires-3-clause-fits g c =
