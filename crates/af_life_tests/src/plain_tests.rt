@@ -2,17 +2,28 @@
 ghost use Rattle.std.specs.Prelude.{◌≡◌, IfOk};
 ghost use Rattle.af_life.specs.Small.{IsSmall};
 
-use crate::LifeState::{Absent, Active, Idle, Stopped, Stopping1, Stopping2};
-use crate::plain::NOTHING_HEARD;
-use crate::{Holder, LifeState, PlainMixer, Setting, TrackKept, turn_weight};
 use Holder::{Home, Lent, Returning};
+use LifeState::{Absent, Active, Idle, Stopped, Stopping1, Stopping2};
 use Push::{Busy, Clean, Pushed};
 use af_base::{
     CommandLook, CommandLooks, Memory, Push, Report, SLOTS, Seen, SlotReport, TrackTurn, TurnEntry,
 };
+use af_life::{Heard, Holder, Known, LifeState, PlainMixer, Setting, TrackKept, turn_weight};
 use std::alloc::Global;
 
 const ROOM: u32 = 4;
+
+// What is known of a proxy that has done nothing.
+const NOTHING_HEARD: Heard = Heard {
+    known: Known {
+        consumed: 0,
+        fulls: 0,
+        partials: 0,
+        empties: 0,
+        shut: false,
+    },
+    flush_seen: 0,
+};
 
 // What a turn saw of the first slot, of the push, and at the commands of two tracks. A report says nothing where it has another generation.
 #[derive(Clone, Copy)]

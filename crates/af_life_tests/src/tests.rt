@@ -1,7 +1,7 @@
-use crate::{Known, Life, LifeState, fresh};
 use LifeState::{
     Absent, Active, Flushed, Idle, Paused, Pausing, Resuming, Stopped, Stopping1, Stopping2,
 };
+use af_life::{Known, Life, LifeState, fresh};
 use std::process::Abort;
 
 // The states in the order in which the rows below give what each becomes.
