@@ -1,4 +1,4 @@
-use crate::{Op, ReadError, Script, TurnSpec, print, read};
+use af_script::{Op, ReadError, Script, TurnSpec, print, read};
 use std::alloc::Global;
 use std::test::Fail;
 

@@ -1,4 +1,4 @@
-use crate::{Op, Script, TurnSpec, generated_script, print, read};
+use af_script::{Op, Script, TurnSpec, generated_script, print, read};
 use std::alloc::Global;
 use std::test::Fail;
 
