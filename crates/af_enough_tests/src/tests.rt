@@ -1,5 +1,5 @@
 //! The cycles that are enough for some scripts.
-use crate::enough_cycles;
+use af_enough::enough_cycles;
 use af_script::read;
 use std::alloc::Global;
 use std::test::Fail;
