@@ -1,6 +1,6 @@
 //! The bytes of frames.
-use super::sound::push_pcm;
 use af_base::{Frame, Items};
+use af_tally::push_pcm;
 use std::test::Fail;
 
 #[test]

@@ -1,11 +1,11 @@
 //! The printed summaries of some small runs.
 ghost use Rattle.std.specs.Prelude.{◌≤◌, length};
 
-use crate::{Summary, Tally};
 use af_base::{
     ClientCall, Command, Cycle, CycleEntry, FastState, FastTrack, Frame, FrameList, NormalTake,
     SLOTS, Seen, SlotEntry, TurnEntry,
 };
+use af_tally::{Summary, Tally};
 use std::test::Fail;
 
 // What a slot showed.
