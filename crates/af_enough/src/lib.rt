@@ -2,7 +2,5 @@
 #![tactic(auto)]
 
 mod enough;
-#[cfg(test)]
-mod tests;
 
 pub use enough::{MOST_GAINS, enough_cycles};

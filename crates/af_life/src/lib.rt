@@ -25,8 +25,3 @@ pub use plain::{PlainMixer, new_track, turn_weight};
 pub use serves::{is_found_shut, stored_over};
 pub use state::LifeState;
 pub use track::{Known, Life, RETRIES, fresh};
-
-#[cfg(test)]
-mod plain_tests;
-#[cfg(test)]
-mod tests;

@@ -10,16 +10,3 @@ mod putting;
 pub use capture::Supplied;
 pub use ends::{Capture, Listener, make, meet_record};
 pub use in_hand::InHand;
-
-#[cfg(test)]
-mod latest_tests;
-#[cfg(test)]
-mod link_tests;
-#[cfg(test)]
-mod queue_hand_tests;
-#[cfg(test)]
-mod queue_tests;
-#[cfg(test)]
-mod queue_threads;
-#[cfg(test)]
-mod tests;

@@ -1,6 +1,5 @@
 pub mod Kept
 pub mod Looked
 pub mod Took
-pub mod Relayed
 pub mod SomeShown
 pub mod SlotPlayed

@@ -1,4 +1,3 @@
 pub mod Order
 pub mod Looks
-pub mod Relay
 pub mod Slot

@@ -12,28 +12,3 @@ pub use look::Look;
 pub use server::Server;
 pub use slot::place_of;
 pub use take::load_frames;
-
-#[cfg(test)]
-mod block_tests;
-#[cfg(test)]
-mod calls;
-#[cfg(test)]
-mod causes;
-#[cfg(test)]
-mod hostile_tests;
-#[cfg(test)]
-mod merge_plain;
-#[cfg(test)]
-mod merge_random;
-#[cfg(test)]
-mod merge_tests;
-#[cfg(test)]
-mod mixing_tests;
-#[cfg(test)]
-mod plain_queue_tests;
-#[cfg(test)]
-mod relay;
-#[cfg(test)]
-mod sides;
-#[cfg(test)]
-mod tests;

@@ -2,12 +2,8 @@
 #![tactic(auto)]
 
 mod sound;
-#[cfg(test)]
-mod sound_tests;
 mod summary;
 mod tally;
-#[cfg(test)]
-mod tally_tests;
 
 pub use sound::push_pcm;
 pub use summary::Summary;

@@ -1,0 +1,357 @@
+//! A client and a server on two threads, on a stream block and a command block, that meet between their rounds. In each tenth run the client pokes.
+ghost use Rattle.std.specs.Prelude.{◌≡◌, ◌<◌, ◌≤◌, ◌^◌, IfOk};
+ghost use Rattle.af_model.specs.Merges.{IsStart};
+ghost use Rattle.af_cblk.specs.Rule.{new_client, new_server};
+ghost use Rattle.af_cblk.specs.Sides.{client_made, server_made};
+ghost use Rattle.af_client.specs.Order.{IsClientOf};
+ghost use Rattle.af_server.specs.Order.{IsServerOf};
+
+use crate::calls::Call;
+use crate::causes::note;
+use crate::sides::{Recorded, Side, meet};
+use af_base::{ClientEvent, Memory, ServerEvent, Steps};
+use af_cblk::{Block, ClientPass, ServerPass};
+use af_client::Client;
+use af_model::{TrackPoint, merge_check};
+use af_server::Server;
+use std::alloc::Global;
+use std::marker::Brand;
+use std::sync::atomic::{AtomicU32, Ordering};
+use std::sync::ledger::{Blank, Ledger};
+use std::test::*;
+use std::thread::{Threads, join, yield_now};
+
+const ROUNDS: u32 = 3;
+
+// How many turns a round of a client that pokes has: in all rounds it pokes each of 135 words with each of six values.
+const POKED_TURNS: u32 = 270;
+
+// The same of a stream block and of a command block.
+#[derive(Drop)]
+struct Both<T> {
+    stream: T,
+    command: T,
+}
+
+// What the client does, turn by turn, on the stream block and on the command block.
+const CLIENT_TURNS: [(Call, Call); 8] = [
+    (Call::Write(1, 3), Call::Send(1, 0)),
+    (Call::Write(4, 2), Call::Status),
+    (Call::Flush, Call::Send(2, 70)),
+    (Call::Write(6, 4), Call::Send(3, 0)),
+    (Call::Gains(0x0800_0400), Call::Status),
+    (Call::Write(10, 1), Call::Send(4, 5)),
+    (Call::Clear, Call::Send(5, 0)),
+    (Call::Write(11, 4), Call::Status),
+];
+
+// The same of the server.
+const SERVER_TURNS: [(Call, Call); 8] = [
+    (Call::Take(3), Call::Take(2)),
+    (Call::Tally(2), Call::SetStatus(257)),
+    (Call::Take(1), Call::Take(2)),
+    (Call::SeeGains, Call::Look(2)),
+    (Call::Take(2), Call::SetStatus(514)),
+    (Call::SetFlags(8), Call::Take(2)),
+    (Call::Take(3), Call::Take(2)),
+    (Call::Look(2), Call::Take(2)),
+];
+
+// Waits for the other thread, but not forever.
+fn start_together(here: &AtomicU32) {
+    here.fetch_add(1, Ordering::SeqCst);
+    for _ in 0..100_000u32 {
+        if here.load(Ordering::SeqCst) >= 2 {
+            return;
+        }
+        yield_now();
+    }
+}
+
+// Makes the calls in order, each on its block.
+fn play_all<S: Side, L: Ledger>(
+    blank: Blank,
+    blocks: &Both<Block>,
+    mut sides: Both<S>,
+    calls: &[(Call, Call)],
+) -> Result<Both<S>, Memory>
+    requires ledger { (blank.name ≡ L.name) × (blank.parts ≡ L.parts) × (0 < blank.parts) }
+    requires stream { S.is_ready blocks.now.stream sides.stream }
+    requires command { S.is_ready blocks.now.command sides.command }
+    ensures stream { IfOk result (λ s. S.is_ready blocks.now.stream s.stream) }
+    ensures command { IfOk result (λ s. S.is_ready blocks.now.command s.command) }
+{
+    let mut steps = Steps::<L>::start(blank);
+    for (on_stream, on_command) in calls {
+        sides.stream.play(&blocks.stream, on_stream, &mut steps)?;
+        sides.command.play(&blocks.command, on_command, &mut steps)?;
+    }
+    Ok(sides)
+}
+
+// One thread of a round.
+fn play_round<S: Side>(
+    here: &AtomicU32,
+    blocks: &Both<Block>,
+    sides: Both<S>,
+    calls: &[(Call, Call)],
+) -> Result<Both<S>, Memory>
+    requires stream { S.is_ready blocks.now.stream sides.stream }
+    requires command { S.is_ready blocks.now.command sides.command }
+    ensures stream { IfOk result (λ s. S.is_ready blocks.now.stream s.stream) }
+    ensures command { IfOk result (λ s. S.is_ready blocks.now.command s.command) }
+{
+    start_together(here);
+    play_all::<S, Brand>(Blank::new(1), blocks, sides, calls)
+}
+
+type Clients = Both<Recorded<Client, ClientEvent>>;
+
+type Servers = Both<Recorded<Server, ServerEvent>>;
+
+// Both threads of a round.
+fn round<R: Threads + Sync>(
+    rt: &R,
+    blocks: &Both<Block>,
+    clients: Clients,
+    servers: Servers,
+    client_calls: &[(Call, Call)],
+    server_calls: &[(Call, Call)],
+) -> Result<(Clients, Servers), Memory>
+    requires clients { IsClientOf blocks.now.stream clients.stream.proxy × IsClientOf blocks.now.command clients.command.proxy }
+    requires servers { IsServerOf blocks.now.stream servers.stream.proxy × IsServerOf blocks.now.command servers.command.proxy }
+    ensures clients { IfOk result (λ r. IsClientOf blocks.now.stream r.0.stream.proxy × IsClientOf blocks.now.command r.0.command.proxy) }
+    ensures servers { IfOk result (λ r. IsServerOf blocks.now.stream r.1.stream.proxy × IsServerOf blocks.now.command r.1.command.proxy) }
+{
+    let here = AtomicU32::new(0);
+    let at = &here;
+    let (clients, servers) = join(
+        rt,
+        move || -> Result<Clients, Memory>
+            requires { IsClientOf blocks.now.stream clients.stream.proxy × IsClientOf blocks.now.command clients.command.proxy }
+            ensures { IfOk result (λ c. IsClientOf blocks.entry.now.stream c.stream.proxy × IsClientOf blocks.entry.now.command c.command.proxy) }
+        { play_round(at, blocks, clients, client_calls) },
+        move || -> Result<Servers, Memory>
+            requires { IsServerOf blocks.now.stream servers.stream.proxy × IsServerOf blocks.now.command servers.command.proxy }
+            ensures { IfOk result (λ s. IsServerOf blocks.entry.now.stream s.stream.proxy × IsServerOf blocks.entry.now.command s.command.proxy) }
+        { play_round(at, blocks, servers, server_calls) },
+    );
+    Ok((clients?, servers?))
+}
+
+// A block at its base.
+fn fresh(base: u64, wrap: u32) -> TrackPoint
+    requires { base < 2 ^ 32 }
+    ensures { IsStart result }
+{
+    TrackPoint {
+        released: base,
+        consumed: base,
+        flushes: 0,
+        flush_seen: 0,
+        rear_seen: base,
+        gains: 0x1000_1000,
+        flags: 0,
+        status: 0,
+        underruns: 0,
+        flush_at: 0,
+        drop_to: 0,
+        wrap,
+    }
+}
+
+// Whether each answer had its cause, and, where the client does not poke, the lists have a legal order. Each list has at most 10,000 events.
+fn has_causes_and_order(
+    alloc: Global,
+    block: &Block,
+    client: &Recorded<Client, ClientEvent>,
+    server: &Recorded<Server, ServerEvent>,
+) -> Result<bool, Memory> {
+    let sound = client.sound && server.sound;
+    if client.poked || !sound {
+        return Ok(sound);
+    }
+    if client.list.len() > 10_000 || server.list.len() > 10_000 {
+        return Ok(false);
+    }
+    let from = fresh(u64::from(block.base()), block.wrap());
+    merge_check(
+        alloc,
+        client.list.as_slice(),
+        server.list.as_slice(),
+        &[],
+        &from,
+    )
+}
+
+// The meetings after a round, and whether on each block the answers have their causes, and the lists an order.
+fn meet_both(
+    alloc: Global,
+    blocks: &Both<Block>,
+    clients: &mut Clients,
+    servers: &mut Servers,
+) -> Result<bool, Memory>
+    requires clients { IsClientOf blocks.now.stream clients.old.stream.proxy × IsClientOf blocks.now.command clients.old.command.proxy }
+    requires servers { IsServerOf blocks.now.stream servers.old.stream.proxy × IsServerOf blocks.now.command servers.old.command.proxy }
+    ensures clients { IsClientOf blocks.now.stream clients.new.stream.proxy × IsClientOf blocks.now.command clients.new.command.proxy }
+    ensures servers { IsServerOf blocks.now.stream servers.new.stream.proxy × IsServerOf blocks.now.command servers.new.command.proxy }
+{
+    let Both { stream, command } = blocks;
+    meet(stream, &mut clients.stream, &mut servers.stream)?;
+    meet(command, &mut clients.command, &mut servers.command)?;
+    let first = has_causes_and_order(alloc, stream, &clients.stream, &servers.stream)?;
+    let second = has_causes_and_order(alloc, command, &clients.command, &servers.command)?;
+    Ok(first && second)
+}
+
+// A run: the frames and the base of its stream block, whether its flushes carry their position, and from which word on its client pokes, if it does.
+#[derive(Clone, Copy, Drop)]
+struct Plan {
+    frames: u32,
+    base: u32,
+    positional: bool,
+    poked: Option<u32>,
+}
+
+// The poke of a number, from a word on: each word and cell with each of six values.
+fn poke(block: &Block, first: u32, number: u32) -> Call {
+    let size = block.frames();
+    let values = [0, 1, size, size.wrapping_add(1), 0x8000_0000, 0xffff_ffff];
+    let words = 7 + block.cells();
+    let word = first.wrapping_add(number / 6) % words;
+    Call::Poke(word, values[(number % 6) as usize])
+}
+
+// The calls of a client's round: those of the table, and after each a poke.
+fn client_calls(
+    alloc: Global,
+    blocks: &Both<Block>,
+    plan: &Plan,
+    round: u32,
+) -> Result<Vec<(Call, Call)>, Memory> {
+    let mut calls = Vec::new(alloc);
+    let Some(first) = plan.poked else {
+        note(&mut calls, &CLIENT_TURNS)?;
+        return Ok(calls);
+    };
+    for turn in 0..POKED_TURNS {
+        let number = round.wrapping_mul(POKED_TURNS).wrapping_add(turn);
+        let pokes = (
+            poke(&blocks.stream, first, number),
+            poke(&blocks.command, first, number),
+        );
+        note(&mut calls, &[CLIENT_TURNS[(turn % 8) as usize], pokes])?;
+    }
+    Ok(calls)
+}
+
+// The calls of a server's round. Beside a client that pokes it has fewer turns, so that the command block is full at times.
+fn server_calls(alloc: Global, plan: &Plan) -> Result<Vec<(Call, Call)>, Memory> {
+    let mut calls = Vec::new(alloc);
+    let times = match plan.poked {
+        None => 1,
+        Some(_) => POKED_TURNS / 16,
+    };
+    for _ in 0..times {
+        note(&mut calls, &SERVER_TURNS)?;
+    }
+    Ok(calls)
+}
+
+// All rounds of a run, with a meeting after each: whether the same holds after each.
+fn rounds<R: Threads + Sync>(
+    rt: &R,
+    alloc: Global,
+    plan: &Plan,
+    blocks: &Both<Block>,
+    mut clients: Clients,
+    mut servers: Servers,
+) -> Result<bool, Memory>
+    requires clients { IsClientOf blocks.now.stream clients.stream.proxy × IsClientOf blocks.now.command clients.command.proxy }
+    requires servers { IsServerOf blocks.now.stream servers.stream.proxy × IsServerOf blocks.now.command servers.command.proxy }
+{
+    let theirs = server_calls(alloc, plan)?;
+    let mut all = true;
+    for number in 0..ROUNDS {
+        let ours = client_calls(alloc, blocks, plan, number)?;
+        (clients, servers) = round(
+            rt,
+            blocks,
+            clients,
+            servers,
+            ours.as_slice(),
+            theirs.as_slice(),
+        )?;
+        let holds = meet_both(alloc, blocks, &mut clients, &mut servers)?;
+        all = all && holds;
+    }
+    Ok(all)
+}
+
+// A new stream block.
+fn stream_block(alloc: Global, plan: &Plan) -> Result<(Block, ClientPass, ServerPass), Memory>
+    requires { (1 ≤ plan.now.frames) × (plan.now.frames ≤ 8192) }
+    ensures made { IfOk result (λ r. (client_made r.1 ≡ r.0) × (server_made r.2 ≡ r.0)) }
+    ensures new { IfOk result (λ r. (r.1.part ≡ new_client r.0.shape) × (r.2.part ≡ new_server r.0.shape)) }
+{
+    if plan.positional {
+        return Block::make_positional(alloc, plan.frames, plan.base);
+    }
+    Block::make(alloc, plan.frames, plan.base)
+}
+
+// A run on two new blocks.
+fn run<R: Threads + Sync>(rt: &R, alloc: Global, plan: &Plan) -> Result<bool, Memory>
+    requires { (1 ≤ plan.now.frames) × (plan.now.frames ≤ 8192) }
+{
+    let poked = plan.poked.is_some();
+    let (stream, stream_client, stream_server) = stream_block(alloc, plan)?;
+    let (command, client, server) = Block::make(alloc, 128, 0)?;
+    let clients = Both {
+        stream: Recorded::new(alloc, Client::with(stream_client, &stream), poked),
+        command: Recorded::new(alloc, Client::with(client, &command), poked),
+    };
+    let servers = Both {
+        stream: Recorded::new(alloc, Server::with(stream_server, &stream), poked),
+        command: Recorded::new(alloc, Server::with(server, &command), poked),
+    };
+    rounds(rt, alloc, plan, &Both { stream, command }, clients, servers)
+}
+
+// The plan of the run of a number. Each tenth pokes, and half of the runs have flushes that carry their position.
+fn plan_of(number: u32) -> Plan
+    ensures { (1 ≤ result.frames) × (result.frames ≤ 8192) }
+{
+    let (frames, base) = match number % 3 {
+        0 => (3, 0xffff_fffe),
+        1 => (5, 0xffff_fffa),
+        _ => (4, 7),
+    };
+    let poked = match number {
+        9 => Some(7),
+        19 => Some(2),
+        29 => Some(0),
+        _ => None,
+    };
+    Plan {
+        frames,
+        base,
+        positional: number % 2 == 0,
+        poked,
+    }
+}
+
+fn all_runs<R: Threads + Sync>(rt: &R, alloc: Global) -> Result<bool, Memory> {
+    let mut all = true;
+    for number in 0..30 {
+        let holds = run(rt, alloc, &plan_of(number))?;
+        all = all && holds;
+    }
+    Ok(all)
+}
+
+#[test]
+fn each_answer_has_its_cause_and_the_lists_an_order(rt: HostRuntime) {
+    let found = all_runs(&rt, rt.alloc());
+    assert!(rt; found == Ok(true));
+}

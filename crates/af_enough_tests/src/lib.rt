@@ -1,0 +1,5 @@
+//! Tests of the cycles that are enough for a script.
+#![tactic(auto)]
+
+#[cfg(test)]
+mod tests;

@@ -1,0 +1,5 @@
+use Rattle.std.proofs.Common.{◌≡◌, ◌≤◌, false}
+use Rattle.af_queue_tests.proofs.queue_threads.push_by.Given as goal
+
+abbrev pub invariant-loop-i : goal.invariant-loop-i
+invariant-loop-i g l = (l.mutator.past.queue ≡ l.line) × (l.mutator.editing ≡ false) × (l.mutator.past.number ≤ l._i)

@@ -1,4 +1,0 @@
-use Rattle.af_record.proofs.latest_tests.a_load_shows_the_last_store.Given as goal
-
-abbrev pub ghosts-loads_in_turn : goal.ghosts-loads_in_turn
-ghosts-loads_in_turn g a = record { name = a.blank.name; parts = a.blank.parts }

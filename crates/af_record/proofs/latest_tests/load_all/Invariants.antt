@@ -1,4 +1,0 @@
-use Rattle.af_record.proofs.latest_tests.load_all.Given as goal
-
-abbrev pub ghosts-load_by : goal.ghosts-load_by
-ghosts-load_by a = record { name = a.blank.name; parts = a.blank.parts }

@@ -1,4 +1,0 @@
-use Rattle.af_record.proofs.link_tests.a_load_shows_the_newest_report.Given as goal
-
-abbrev pub ghosts-loads_reports : goal.ghosts-loads_reports
-ghosts-loads_reports g a = record { name = a.blank.name; parts = a.blank.parts }

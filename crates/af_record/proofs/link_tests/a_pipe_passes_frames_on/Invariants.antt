@@ -1,4 +1,0 @@
-use Rattle.af_record.proofs.link_tests.a_pipe_passes_frames_on.Given as goal
-
-abbrev pub ghosts-passes_frames : goal.ghosts-passes_frames
-ghosts-passes_frames g a = record { name = a.blank.name; parts = a.blank.parts }

@@ -1,4 +1,0 @@
-use Rattle.af_record.proofs.link_tests.proxies_meet.Given as goal
-
-abbrev pub ghosts-meets : goal.ghosts-meets
-ghosts-meets g a = record { name = a.blank.name; parts = a.blank.parts }

@@ -1,5 +1,0 @@
-use Rattle.std.proofs.Common.{◌≡◌, ◌≤◌, false}
-use Rattle.af_record.proofs.queue_threads.push_by.Given as goal
-
-abbrev pub invariant-loop-i : goal.invariant-loop-i
-invariant-loop-i g l = (l.mutator.past.queue ≡ l.line) × (l.mutator.editing ≡ false) × (l.mutator.past.number ≤ l._i)

@@ -1,0 +1,89 @@
+use af_script::{Op, Script, TurnSpec, generated_script, print, read};
+use std::alloc::Global;
+use std::test::Fail;
+
+/// A script with each op and each turn.
+const FULL: &str = "version = 2\nframes = 1024\nnormal = 16\ncycles = 2048\n\
+turns = ['c 1', 'n', 'f 16', 'c 0', 'f 1']\n\
+[[track]]\nkind = 'normal'\nframes = 8192\nchannels = 1\nfile = 'a_B-9.wav'\nbase = 4294967295\nscale = 0\n\
+ops = ['open', 'start', 'pause', 'stop', 'flush', 'drain', 'yield', 'gain 0 65535', 'write 4194304', 'poke stream 8198 4294967295', 'poke command 134 0', 'remove']\n\
+[[track]]\nkind = 'fast'\nframes = 1\nchannels = 2\nfile = 'b'\nops = ['open']\n";
+
+/// The same as it is printed.
+const PRINTED: &str = "cycles = 2048\nframes = 1024\nnormal = 16\n\
+turns = [\"c 1\", \"n\", \"f 16\", \"c 0\", \"f 1\"]\nversion = 2\n\
+\n[[track]]\nbase = 4294967295\nchannels = 1\nfile = \"a_B-9.wav\"\nframes = 8192\nkind = \"normal\"\n\
+ops = [\"open\", \"start\", \"pause\", \"stop\", \"flush\", \"drain\", \"yield\", \"gain 0 65535\", \"write 4194304\", \"poke stream 8198 4294967295\", \"poke command 134 0\", \"remove\"]\nscale = 0\n\
+\n[[track]]\nbase = 0\nchannels = 2\nfile = \"b\"\nframes = 1\nkind = \"fast\"\nops = [\"open\", \"remove\"]\nscale = 4096\n";
+
+/// The script that a text is.
+fn script_of(alloc: Global, text: &str) -> Result<Script, Fail> {
+    Ok(read(alloc, text.as_bytes()).ok().ok_or("not read")?)
+}
+
+/// The text of a script.
+fn printed(alloc: Global, script: &Script) -> Result<String, Fail> {
+    let mut bytes = Vec::new(alloc);
+    print(alloc, script, &mut bytes).ok().ok_or("not printed")?;
+    Ok(String::from_utf8(bytes).ok().ok_or("no text")?)
+}
+
+#[test]
+fn the_text_of_a_script(rt: HostRuntime) -> Result<(), Fail> {
+    let alloc = rt.alloc();
+    let text = printed(alloc, &script_of(alloc, FULL)?)?;
+    assert_eq!(rt; text.as_str(), PRINTED);
+    let again = printed(alloc, &script_of(alloc, PRINTED)?)?;
+    assert_eq!(rt; again.as_str(), PRINTED);
+    Ok(())
+}
+
+/// A track with so many ops that wait, and maybe a last `remove`.
+fn long_track(alloc: Global, waits: usize, end: &str) -> Result<Script, Fail> {
+    let mut text = String::from_str(
+        alloc,
+        "version = 1\nframes = 1\nnormal = 1\ncycles = 1\n[[track]]\nkind = 'fast'\nframes = 1\nchannels = 1\nfile = 'a'\nops = ['open'",
+    )?;
+    for _ in 0..waits {
+        text.push_str(", 'yield'")?;
+    }
+    text.push_str(end)?;
+    script_of(alloc, text.as_str())
+}
+
+#[test]
+fn the_limit_of_ops(rt: HostRuntime) -> Result<(), Fail> {
+    let alloc = rt.alloc();
+    for (waits, end, count, ends) in [
+        (4095, "]", 4097, "\"yield\"]\nscale = 4096\n"),
+        (4094, "]", 4096, "\"remove\"]\nscale = 4096\n"),
+        (4094, ", 'remove']", 4096, "\"remove\"]\nscale = 4096\n"),
+    ] {
+        let script = long_track(alloc, waits, end)?;
+        let text = printed(alloc, &script)?;
+        assert!(rt; text.as_str().ends_with(ends), "{waits} {end}");
+        let again = script_of(alloc, text.as_str())?;
+        let track = again.tracks().first().ok_or("no track")?;
+        assert_eq!(rt; track.ops.as_slice().len(), count);
+        assert_eq!(rt; track.ops.as_slice().last(), Some(&Op::Remove));
+        assert_eq!(rt; printed(alloc, &again)?.as_str(), text.as_str());
+    }
+    Ok(())
+}
+
+#[test]
+fn the_generated_script(rt: HostRuntime) -> Result<(), Fail> {
+    let alloc = rt.alloc();
+    let script = generated_script(alloc).ok().ok_or("no script")?;
+    assert_eq!(rt; script.turns().len(), 4200);
+    assert_eq!(rt;
+        script.turns().first(),
+        Some(&TurnSpec::Client { track: 0 })
+    );
+    assert_eq!(rt; script.turns().last(), Some(&TurnSpec::Fast { cycles: 4 }));
+    assert_eq!(rt; script.tracks().len(), 8);
+    let text = printed(alloc, &script)?;
+    let again = printed(alloc, &script_of(alloc, text.as_str())?)?;
+    assert_eq!(rt; again.as_str(), text.as_str());
+    Ok(())
+}

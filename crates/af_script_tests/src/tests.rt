@@ -1,0 +1,267 @@
+use af_script::{Op, ReadError, Script, TurnSpec, print, read};
+use std::alloc::Global;
+use std::test::Fail;
+
+const HEAD: &str = "version = 1\nframes = 2\nnormal = 1\ncycles = 4\nturns = ['c 0', 'n', 'f 1']\n";
+
+const TRACK: &str =
+    "[[track]]\nkind = 'fast'\nframes = 8\nchannels = 2\nfile = 'tone.pcm'\nops = ['open', 'start', 'write 2']\n";
+
+const LONG_RUN: &str = "frames = 1024\nnormal = 1\ncycles = 2049";
+
+/// A change of a script, and what is read then.
+const CHANGES: [(&str, &str, &str); 45] = [
+    ("version = 1", "= 1", "toml"),
+    ("version = 1", "speed = 1\nversion = 1", "unknown 0"),
+    ("version = 1\n", "", "key 0 version"),
+    ("version = 1", "version = 3", "range 0 version 3"),
+    ("frames = 2", "frames = 2.0", "key 0 frames"),
+    ("frames = 2", "frames = 0", "range 0 frames 0"),
+    ("frames = 2", "frames = 1025", "range 0 frames 1025"),
+    ("normal = 1", "normal = true", "key 0 normal"),
+    ("normal = 1", "normal = 17", "range 0 normal 17"),
+    ("cycles = 4", "cycles = '4'", "key 0 cycles"),
+    ("cycles = 4", "cycles = 100001", "range 0 cycles 100001"),
+    ("[[track]]", "[track]", "key 0 track"),
+    ("turns = ['c 0', 'n', 'f 1']", "turns = 3", "key 0 turns"),
+    ("'n'", "1979-05-27", "key 0 turns"),
+    ("turns = ['c 0', 'n', 'f 1']\n", "", "accepted"),
+    ("kind", "sort", "unknown 1"),
+    ("kind = 'fast'\n", "", "key 1 kind"),
+    ("'fast'", "'slow'", "key 1 kind"),
+    ("frames = 8\n", "", "key 1 frames"),
+    ("frames = 8", "frames = 8193", "range 1 frames 8193"),
+    ("channels = 2", "channels = []", "key 1 channels"),
+    ("channels = 2", "channels = 3", "range 1 channels 3"),
+    ("tone.pcm", ".pcm", "key 1 file"),
+    ("ops = [", "ops = [1, ", "key 1 ops"),
+    ("channels = 2", "channels = 2\nbase = '0'", "key 1 base"),
+    ("channels = 2", "channels = 2\nbase = -1", "range 1 base -1"),
+    ("channels = 2", "channels = 2\nscale = 1.5", "key 1 scale"),
+    (
+        "channels = 2",
+        "channels = 2\nscale = 4097",
+        "range 1 scale 4097",
+    ),
+    ("'open', 'start', 'write 2'", "", "op 0 0"),
+    ("'open', ", "", "op 0 0"),
+    ("'start'", "'open'", "op 0 1"),
+    ("'start'", "'remove'", "op 0 1"),
+    ("'write 2'", "'write  2'", "op 0 2"),
+    ("'write 2'", "'write 02'", "op 0 2"),
+    ("'write 2'", "'gain 1 65536'", "op 0 2"),
+    ("'write 2'", "'poke stream 15 0'", "op 0 2"),
+    ("'write 2'", "'poke command 135 0'", "op 0 2"),
+    ("'write 2'", "'poke stream 14 4294967295'", "accepted"),
+    ("'write 2'", "'write 4194304', 'remove'", "accepted"),
+    ("'n'", "'c 1'", "turn 1"),
+    ("'f 1'", "'f 17'", "turn 2"),
+    ("'f 1'", "'f 0'", "turn 2"),
+    ("'f 1'", "'f 3', 'f 2'", "limit asked 5"),
+    (
+        "frames = 2\nnormal = 1\ncycles = 4",
+        LONG_RUN,
+        "limit product 2098176",
+    ),
+    ("file = 'tone.pcm'", "file = 7", "key 1 file"),
+];
+
+/// Two changes of a script that each leave a fault, and the fault that is found.
+const PAIRS: [(&str, &str, &str, &str, &str); 13] = [
+    (
+        "version = 1",
+        "speed = 1",
+        "frames = 2",
+        "frames = 0",
+        "unknown 0",
+    ),
+    (
+        "version = 1",
+        "version = 3",
+        "frames = 2",
+        "frames = 0",
+        "range 0 version 3",
+    ),
+    (
+        "cycles = 4",
+        "cycles = 0",
+        "[[track]]",
+        "[track]",
+        "range 0 cycles 0",
+    ),
+    ("'n'", "3", "[[track]]", "[track]", "key 0 track"),
+    (
+        "'n'",
+        "3",
+        "frames = 2\nnormal = 1\ncycles = 4",
+        LONG_RUN,
+        "key 0 turns",
+    ),
+    (
+        "kind",
+        "sort",
+        "frames = 2\nnormal = 1\ncycles = 4",
+        LONG_RUN,
+        "limit product 2098176",
+    ),
+    ("kind", "sort", "frames = 8", "frames = 0", "unknown 1"),
+    ("'fast'", "'slow'", "frames = 8", "frames = 0", "key 1 kind"),
+    (
+        "channels = 2",
+        "channels = 0",
+        "tone.pcm",
+        "-pcm",
+        "range 1 channels 0",
+    ),
+    (
+        "channels = 2",
+        "channels = 2\nbase = -1",
+        "ops = [",
+        "ops = [1, ",
+        "key 1 ops",
+    ),
+    (
+        "channels = 2",
+        "channels = 2\nscale = -1",
+        "'open'",
+        "'begin'",
+        "range 1 scale -1",
+    ),
+    ("'f 1'", "'f 0'", "'start'", "'begin'", "op 0 1"),
+    ("'n'", "'f 5'", "'f 1'", "'f 0'", "turn 2"),
+];
+
+/// What the bytes of a script are read as, in words.
+fn told(alloc: Global, text: &str) -> Result<String, Fail> {
+    match read(alloc, text.as_bytes()) {
+        Ok(script) => told_again(alloc, &script),
+        Err(ReadError::Fault(fault)) => Ok(format!(in alloc; "{fault}")?),
+        Err(ReadError::Memory) => Ok(String::from_str(alloc, "memory")?),
+    }
+}
+
+/// What a script is read as once it is printed, in words.
+fn told_again(alloc: Global, script: &Script) -> Result<String, Fail> {
+    let mut bytes = Vec::new(alloc);
+    print(alloc, script, &mut bytes).ok().ok_or("not printed")?;
+    let line = match read(alloc, bytes.as_slice()) {
+        Ok(_) => "accepted",
+        Err(_) => "not read again",
+    };
+    Ok(String::from_str(alloc, line)?)
+}
+
+/// A text with one part changed.
+fn changed(alloc: Global, text: &str, from: &str, to: &str) -> Result<String, Fail> {
+    let (front, back) = text.split_once(from).ok_or("no such part")?;
+    Ok(format!(in alloc; "{front}{to}{back}")?)
+}
+
+/// A part a number of times.
+fn repeated(alloc: Global, part: &str, times: usize) -> Result<String, Fail> {
+    let mut text = String::new(alloc);
+    for _ in 0..times {
+        text.push_str(part)?;
+    }
+    Ok(text)
+}
+
+/// What the script with one part changed is read as.
+fn told_with(alloc: Global, from: &str, to: &str) -> Result<String, Fail> {
+    let script = format!(in alloc; "{HEAD}{TRACK}")?;
+    let text = changed(alloc, script.as_str(), from, to)?;
+    told(alloc, text.as_str())
+}
+
+#[test]
+fn each_fault(rt: HostRuntime) -> Result<(), Fail> {
+    let alloc = rt.alloc();
+    for (from, to, line) in CHANGES {
+        assert_eq!(rt;
+            told_with(alloc, from, to)?.as_str(),
+            line,
+            "{from} to {to}"
+        );
+    }
+    Ok(())
+}
+
+#[test]
+fn tracks_that_are_no_tables(rt: HostRuntime) -> Result<(), Fail> {
+    let alloc = rt.alloc();
+    for (track, line) in [
+        ("", "key 0 track"),
+        ("track = []", "range 0 track 0"),
+        ("track = [1]", "key 0 track"),
+    ] {
+        let text = format!(in alloc; "{HEAD}{track}")?;
+        assert_eq!(rt; told(alloc, text.as_str())?.as_str(), line, "{track}");
+    }
+    Ok(())
+}
+
+#[test]
+fn the_first_of_two_faults(rt: HostRuntime) -> Result<(), Fail> {
+    let alloc = rt.alloc();
+    let script = format!(in alloc; "{HEAD}{TRACK}")?;
+    for (from, to, other, other_to, line) in PAIRS {
+        let once = changed(alloc, script.as_str(), from, to)?;
+        let twice = changed(alloc, once.as_str(), other, other_to)?;
+        assert_eq!(rt;
+            told(alloc, twice.as_str())?.as_str(),
+            line,
+            "{to} and {other_to}"
+        );
+    }
+    Ok(())
+}
+
+#[test]
+fn the_limits_of_lists(rt: HostRuntime) -> Result<(), Fail> {
+    let alloc = rt.alloc();
+    let ops = repeated(alloc, "'yield', ", 4094)?;
+    let list = format!(in alloc; "{ops}'remove'")?;
+    let found = told_with(alloc, "'write 2'", list.as_str())?;
+    assert_eq!(rt; found.as_str(), "limit ops 4097");
+    let turns = repeated(alloc, "'n', ", 99999)?;
+    let found = told_with(alloc, "'n', ", turns.as_str())?;
+    assert_eq!(rt; found.as_str(), "limit turns 100001");
+    Ok(())
+}
+
+#[test]
+fn the_parts_of_a_script(rt: HostRuntime) -> Result<(), Fail> {
+    let alloc = rt.alloc();
+    let text = format!(in alloc; "{HEAD}{TRACK}")?;
+    let script = read(alloc, text.as_bytes()).ok().ok_or("not read")?;
+    assert_eq!(rt;
+        (
+            script.version(),
+            script.frames(),
+            script.normal(),
+            script.cycles()
+        ),
+        (1, 2, 1, 4)
+    );
+    let turns = [
+        TurnSpec::Client { track: 0 },
+        TurnSpec::Normal,
+        TurnSpec::Fast { cycles: 1 },
+    ];
+    assert_eq!(rt; script.turns(), turns.as_slice());
+    let track = script.tracks().first().ok_or("no track")?;
+    assert_eq!(rt;
+        (
+            track.fast,
+            track.frames,
+            track.mono,
+            track.base,
+            track.scale
+        ),
+        (true, 8, false, 0, 4096)
+    );
+    assert_eq!(rt; track.file.as_str(), "tone.pcm");
+    let ops = [Op::OpenTrack, Op::Start, Op::Write { count: 2 }, Op::Remove];
+    assert_eq!(rt; track.ops.as_slice(), ops.as_slice());
+    Ok(())
+}

@@ -1,4 +1,0 @@
-use Rattle.af_server.proofs.relay.receive.Given as goal
-
-abbrev pub ghosts-receive_in : goal.ghosts-receive_in
-ghosts-receive_in a = record { name = a.blank.name; parts = a.blank.parts }
