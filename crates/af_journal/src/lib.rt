@@ -18,12 +18,3 @@ pub use building::{JournalFault, read};
 pub use line::Line;
 pub use reading::first_bad_line;
 pub use writing::write;
-
-#[cfg(test)]
-mod building_tests;
-#[cfg(test)]
-mod client_tests;
-#[cfg(test)]
-mod reading_tests;
-#[cfg(test)]
-mod tests;

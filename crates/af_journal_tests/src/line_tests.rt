@@ -1,8 +1,8 @@
 //! Lines of each kind, and a small journal with its text.
-use crate::{Line, write};
 use af_base::{
     ClientCall, Cycle, CycleEntry, FastLog, Memory, Push, SLOTS, Seen, SlotEntry, TurnEntry,
 };
+use af_journal::{Line, write};
 use af_model::{Journal, Rounds};
 use std::alloc::Global;
 use std::test::Fail;

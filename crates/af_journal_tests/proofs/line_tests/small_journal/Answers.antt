@@ -2,8 +2,8 @@ use Rattle.std.proofs.Common.{◌≡◌, subst, sym, rules, ap, ◌∙◌}
 use Rattle.af_base.specs.Log.{Logged}
 use Rattle.af_model.specs.Journals.{RoundsNoted, journal_of}
 use Rattle.af_model.specs.JournalForm.{IsJournal}
-use Rattle.af_journal.proofs.Small.{one_still, small-form, two_rounds}
-use Rattle.af_journal.proofs.tests.small_journal.Goals as goal
+use Rattle.af_journal_tests.proofs.Small.{one_still, small-form, two_rounds}
+use Rattle.af_journal_tests.proofs.line_tests.small_journal.Goals as goal
 
 pub new-requires-4-clause-form : goal.new-requires-4-clause-form
 new-requires-4-clause-form c = let first = c.push-2.new.self.items in

@@ -1,8 +1,13 @@
 //! Texts with a line damaged, and cut off, each with the number of its first bad line.
-use crate::reading::first_refused;
 use af_base::Memory;
+use af_journal::first_bad_line;
+use af_script::{Script, read};
 use std::alloc::Global;
 use std::test::Fail;
+
+// A script of two tracks.
+const SCRIPT: &str =
+    "version = 1\nframes = 2\nnormal = 1\ncycles = 4\nturns = []\n[[track]]\nkind = 'fast'\nframes = 8\nchannels = 2\nfile = 'tone.pcm'\nops = ['open']\n[[track]]\nkind = 'normal'\nframes = 8\nchannels = 1\nfile = 'tone.pcm'\nops = ['open']\n";
 
 // A text for two tracks with each kind of line.
 const LINES: [&str; 30] = [
@@ -112,6 +117,14 @@ const OTHERS: [(&[u8], u64); 6] = [
     (b"R\n\xff\n", 2),
 ];
 
+// That script, as it is read.
+pub(crate) fn script(alloc: Global) -> Result<Script, Memory> {
+    match read(alloc, SCRIPT.as_bytes()) {
+        Ok(script) => Ok(script),
+        Err(_) => Err(Memory),
+    }
+}
+
 // The first lines of the text, with another line in one place.
 pub(crate) fn text_with(
     alloc: Global,
@@ -130,9 +143,10 @@ pub(crate) fn text_with(
 }
 
 fn all_damages_found(alloc: Global) -> Result<bool, Memory> {
+    let script = script(alloc)?;
     for (place, line, number) in DAMAGES {
         let text = text_with(alloc, 30, place, line)?;
-        if first_refused(text.as_bytes(), 2) != Some(number) {
+        if first_bad_line(text.as_bytes(), &script) != Some(number) {
             return Ok(false);
         }
     }
@@ -140,9 +154,10 @@ fn all_damages_found(alloc: Global) -> Result<bool, Memory> {
 }
 
 fn all_fronts_read(alloc: Global) -> Result<bool, Memory> {
+    let script = script(alloc)?;
     for (count, number) in FRONTS {
         let text = text_with(alloc, count, 30, "")?;
-        if first_refused(text.as_bytes(), 2) != number {
+        if first_bad_line(text.as_bytes(), &script) != number {
             return Ok(false);
         }
     }
@@ -163,8 +178,9 @@ fn each_front_is_read(rt: HostRuntime) -> Result<(), Fail> {
 
 #[test]
 fn ends_and_other_bytes_are_refused(rt: HostRuntime) -> Result<(), Fail> {
+    let script = script(rt.alloc())?;
     for (text, number) in OTHERS {
-        assert_eq!(rt; first_refused(text, 2), Some(number));
+        assert_eq!(rt; first_bad_line(text, &script), Some(number));
     }
     Ok(())
 }
