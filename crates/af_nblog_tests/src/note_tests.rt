@@ -2,8 +2,8 @@
 ghost use Rattle.std.specs.Prelude.{◌≡◌, ◌<◌, false};
 ghost use Rattle.af_model.specs.JournalForm.{is_spent};
 
-use crate::{Note, Noted, meet_notes, note_of, ring, write};
 use af_base::{Cycle, CycleEntry, Memory, SLOTS, Seen, SlotEntry, Steps};
+use af_nblog::{Note, Noted, meet_notes, note_of, ring, write};
 use std::alloc::Global;
 use std::marker::Brand;
 use std::sync::ledger::{Blank, Ledger};
