@@ -1,6 +1,5 @@
 mod Texts
 mod Entries
-mod Small
 mod Decimal
 mod Spelled
 mod LineLaws

@@ -31,6 +31,10 @@ hex_word word = flat_map hex_byte (to_be_bytes w32 word)
 
 -- ## The shape of a line
 
+-- numbers, with one space between them
+abbrev pub spaced : List ℕ → List ℕ
+spaced numbers = join_with_byte 32 (map decimal numbers)
+
 -- a mark and numbers
 abbrev pub marked : List ℕ → List ℕ → List ℕ
 marked mark numbers = join_with_byte 32 (mark ∷ map decimal numbers)

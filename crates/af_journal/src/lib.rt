@@ -20,12 +20,3 @@ pub use laws::what_is_written_is_read_back;
 pub use line::Line;
 pub use reading::first_bad_line;
 pub use writing::write;
-
-#[cfg(test)]
-mod building_tests;
-#[cfg(test)]
-mod client_tests;
-#[cfg(test)]
-mod reading_tests;
-#[cfg(test)]
-mod tests;

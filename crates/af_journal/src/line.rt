@@ -1,6 +1,6 @@
 //! One line of a journal's text.
-ghost use Rattle.std.specs.Prelude.{Some};
-ghost use Rattle.af_journal.specs.Lines.{call_line, line_text, push_line, seen_text};
+ghost use Rattle.std.specs.Prelude.{◌∷◌, [], Some};
+ghost use Rattle.af_journal.specs.Lines.{call_line, line_text, push_line, seen_text, spaced};
 
 use af_base::{ClientCall, Push, Seen};
 use std::fmt;
@@ -91,6 +91,30 @@ impl fmt::Display for SeenText {
     }
 }
 
+// Two numbers.
+#[derive(Clone, Copy)]
+struct Two(u32, u32);
+
+impl fmt::Display for Two {
+    ghost output = { λ n. Some (spaced (n.0 ∷ n.1 ∷ [])) };
+
+    fn fmt<W: fmt::Write>(&self, f: &mut fmt::Formatter<W>) -> fmt::Result {
+        write!(f, "{} {}", self.0, self.1)
+    }
+}
+
+// Three numbers.
+#[derive(Clone, Copy)]
+struct Three(u32, u32, u32);
+
+impl fmt::Display for Three {
+    ghost output = { λ n. Some (spaced (n.0 ∷ n.1 ∷ n.2 ∷ [])) };
+
+    fn fmt<W: fmt::Write>(&self, f: &mut fmt::Formatter<W>) -> fmt::Result {
+        write!(f, "{} {} {}", self.0, self.1, self.2)
+    }
+}
+
 // A call of a client, by what it answered.
 #[derive(Clone, Copy)]
 struct CallText(ClientCall);
@@ -100,10 +124,10 @@ impl fmt::Display for CallText {
 
     fn fmt<W: fmt::Write>(&self, f: &mut fmt::Formatter<W>) -> fmt::Result {
         match self.0 {
-            ClientCall::Put { front, count } => write!(f, "p {front} {count}"),
+            ClientCall::Put { front, count } => write!(f, "p {}", Two(front, count)),
             ClientCall::Full { front } => write!(f, "u {front}"),
             ClientCall::Dead { flags } => write!(f, "d {flags}"),
-            ClientCall::Corrupt { front, rear } => write!(f, "x {front} {rear}"),
+            ClientCall::Corrupt { front, rear } => write!(f, "x {}", Two(front, rear)),
             ClientCall::Cleared { flags } => write!(f, "k {flags}"),
             ClientCall::Flush { count } => write!(f, "l {count}"),
             ClientCall::Gain { word } => write!(f, "g {word}"),
@@ -111,16 +135,16 @@ impl fmt::Display for CallText {
                 front,
                 code,
                 argument,
-            } => write!(f, "s {front} {code} {argument}"),
+            } => write!(f, "s {}", Three(front, code, argument)),
             ClientCall::SendFull { front } => write!(f, "su {front}"),
             ClientCall::SendDead { flags } => write!(f, "sd {flags}"),
-            ClientCall::SendCorrupt { front, rear } => write!(f, "sx {front} {rear}"),
+            ClientCall::SendCorrupt { front, rear } => write!(f, "sx {}", Two(front, rear)),
             ClientCall::Status { word } => write!(f, "t {word}"),
             ClientCall::Poke {
                 command,
                 word,
                 value,
-            } => write!(f, "o {} {word} {value}", u32::from(command)),
+            } => write!(f, "o {}", Three(u32::from(command), word, value)),
         }
     }
 }
@@ -156,7 +180,7 @@ impl fmt::Display for Line {
                 flush,
                 rear,
                 seen,
-            } => write!(f, "q {track} {flush} {rear} {}", SeenText(seen)),
+            } => write!(f, "q {} {}", Three(track, flush, rear), SeenText(seen)),
             Line::Disabled { track } => write!(f, "b {track}"),
             Line::Status { track, word } => write!(f, "a {track} {word}"),
             Line::Pushed { push } => write!(f, "{}", PushText(push)),
@@ -166,7 +190,12 @@ impl fmt::Display for Line {
                 flush,
                 rear,
                 seen,
-            } => write!(f, "m {track} {gains} {flush} {rear} {}", SeenText(seen)),
+            } => write!(
+                f,
+                "m {track} {} {}",
+                Three(gains, flush, rear),
+                SeenText(seen)
+            ),
             Line::Fast => f.write_str("F"),
             Line::Entry { state, kind } => write!(f, "y {state} {kind}"),
             Line::Slot {
@@ -179,8 +208,9 @@ impl fmt::Display for Line {
                 seen,
             } => write!(
                 f,
-                "z {slot} {scale} {} {gains} {flush} {rear} {}",
-                u32::from(mono),
+                "z {} {} {}",
+                Three(slot, u32::from(scale), u32::from(mono)),
+                Three(gains, flush, rear),
                 SeenText(seen)
             ),
         }

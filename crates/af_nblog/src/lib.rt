@@ -12,6 +12,3 @@ pub use ends::{NoteReader, NoteWriter, meet_notes, ring};
 pub use entries::{Note, note_of};
 pub use text::write;
 pub use writing::Noted;
-
-#[cfg(test)]
-mod tests;

@@ -14,6 +14,5 @@ pub mod Ready
 pub mod Serving
 pub mod State
 pub mod Sums
-pub mod Testing
 pub mod TurnMade
 pub mod Turning

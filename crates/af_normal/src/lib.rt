@@ -19,22 +19,3 @@ mod turn;
 pub use make::{TrackSetup, Tracks};
 pub use mixer::{NormalMixer, TrackHand};
 pub use turn::Turn;
-
-#[cfg(test)]
-mod call_tests;
-#[cfg(test)]
-mod choice_tests;
-#[cfg(test)]
-mod end_tests;
-#[cfg(test)]
-mod held_tests;
-#[cfg(test)]
-mod meeting_tests;
-#[cfg(test)]
-mod random_tests;
-#[cfg(test)]
-mod stream_tests;
-#[cfg(test)]
-mod table_tests;
-#[cfg(test)]
-mod tests;

@@ -1,6 +1,8 @@
 //! How a normal mixer is made.
 ghost use Rattle.std.specs.Prelude.{◌≡◌, false, ◌+◌, ◌*◌, ◌<◌, ◌≤◌, ◌++◌, ◌∷◌, [], length, map, replicate, All, IfOk, IfErr, Some};
-ghost use Rattle.af_base.specs.Turn.{take_seen, track_seen};
+ghost use Rattle.std.specs.Vec.{vec_capacity};
+ghost use Rattle.af_base.specs.Turn.{ended_turn, take_seen, track_seen, turn_of};
+ghost use Rattle.af_life.specs.Kept.{new_track};
 ghost use Rattle.af_life.specs.Edits.{is_exit};
 ghost use Rattle.af_normal.specs.AllMixed.{HasFrames};
 ghost use Rattle.af_link.specs.declared.links.Links.{Links};
@@ -9,13 +11,13 @@ ghost use Rattle.af_normal.specs.Order.{IsInOrder};
 ghost use Rattle.af_normal.specs.Ready.{HaveRoom};
 
 use crate::commands::MOST_LOOKS;
-use crate::mixer::NormalMixer;
+use crate::mixer::{NormalMixer, TrackHand};
 use af_base::{
     CommandLooks, Frame, FrameList, Memory, NormalTake, NormalTakes, Seen, SlotEntry, TrackTurn,
     TrackTurns, TurnEntry,
 };
 use af_gain::Sum;
-use af_life::{Setting, new_track};
+use af_life::{Setting, TrackKept, new_track};
 use af_link::{PipeIn, ReportReader, StreamNames};
 use af_server::Server;
 use af_stateq::Mutator;
@@ -140,6 +142,41 @@ fn silence(alloc: Global, asked: usize) -> Result<Vec<Frame>, Memory>
     Ok(buffer)
 }
 
+// What a mixer reserves: what is kept of its tracks, their hands, the greatest entry of a turn, and the sums and frames of one normal buffer.
+#[derive(Drop)]
+struct Reserved {
+    tracks: Vec<TrackKept>,
+    hands: Vec<TrackHand>,
+    entry: TurnEntry,
+    spare_turns: TrackTurns,
+    spare_takes: NormalTakes,
+    sums: Vec<Sum>,
+    buffer: Vec<Frame>,
+}
+
+// What is reserved for so many tracks, and for a buffer of so many frames.
+fn reserve(alloc: Global, count: usize, asked: usize) -> Result<Reserved, Memory>
+    ensures tracks { IfOk result (λ r. r.tracks.items ≡ replicate count new_track) }
+    ensures hands { IfOk result (λ r. r.hands.items ≡ []) }
+    ensures enough { IfOk result (λ r. length r.tracks.items ≤ vec_capacity r.hands) }
+    ensures entry { IfOk result (λ r. turn_of r.entry ≡ ended_turn) }
+    ensures room { IfOk result (λ r. (r.entry.tracks.room ≡ count) × (r.entry.mixes.room ≡ count)) }
+    ensures turns { IfOk result (λ r. (length r.spare_turns.items ≡ count) × (r.spare_turns.room ≡ count) × HaveRoom r.spare_turns.items) }
+    ensures takes { IfOk result (λ r. (length r.spare_takes.items ≡ count) × (r.spare_takes.room ≡ count) × All (HasFrames asked) r.spare_takes.items) }
+    ensures sums { IfOk result (λ r. length r.sums.items ≡ asked) }
+    ensures buffer { IfOk result (λ r. length r.buffer.items ≡ asked) }
+{
+    Ok(Reserved {
+        tracks: vec![in alloc; new_track(); count]?,
+        hands: Vec::with_capacity(alloc, count)?,
+        entry: TurnEntry::with_room(alloc, count, count)?,
+        spare_turns: spare_turns(alloc, count)?,
+        spare_takes: spare_takes(alloc, count, asked)?,
+        sums: no_sums(alloc, asked)?,
+        buffer: silence(alloc, asked)?,
+    })
+}
+
 impl NormalMixer {
     /// A mixer of these tracks over its three ends, for `frames` frames a fast cycle, from 1 to 1,024, and `normal` cycles a normal buffer, from 1 to 16. No state was pushed yet.
     ///
@@ -167,24 +204,34 @@ impl NormalMixer {
         } = tracks;
         let count = settings.len();
         let asked = (normal * frames) as usize;
+        let reserved = reserve(alloc, count, asked)?;
+        let Reserved {
+            tracks,
+            hands,
+            entry,
+            spare_turns,
+            spare_takes,
+            sums,
+            buffer,
+        } = reserved;
         Ok(NormalMixer {
             frames,
             normal,
             settings,
-            tracks: vec![in alloc; new_track(); count]?,
+            tracks,
             streams,
             commands,
-            hands: Vec::with_capacity(alloc, count)?,
+            hands,
             mutator,
             ends: (reader, pipe),
-            entry: TurnEntry::with_room(alloc, count, count)?,
-            spare_turns: spare_turns(alloc, count)?,
-            spare_takes: spare_takes(alloc, count, asked)?,
+            entry,
+            spare_turns,
+            spare_takes,
             ended: false,
             exits: false,
             turns: 0,
-            sums: no_sums(alloc, asked)?,
-            buffer: silence(alloc, asked)?,
+            sums,
+            buffer,
         })
     }
 }

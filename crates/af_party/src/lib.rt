@@ -2,8 +2,6 @@
 #![tactic(auto)]
 
 mod asking;
-#[cfg(test)]
-mod client_tests;
 mod client_turn;
 mod party;
 

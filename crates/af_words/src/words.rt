@@ -2,6 +2,7 @@
 ghost use Rattle.std.specs.Prelude.{◌≡◌, ◌∷◌, ◌<◌, ◌≤◌, ◌^◌, [], false, map, option_map, IfOk, IfSome, string_bytes};
 ghost use Rattle.std.specs.List.{list_any};
 ghost use Rattle.clap.specs.Words.{app_of, first_of, found_of, rows_of, rule_of, shape_of, subcommand_rows_of, with_subcommand};
+ghost use Rattle.clap.specs.Simple.{Shape};
 ghost use Rattle.clap.specs.declared.builder.command.Command.TheViews.{out-Command};
 ghost use Rattle.af_words.specs.Asking.{request_view, IsSound};
 ghost use Rattle.af_words.specs.Asking.{AreSizes};
@@ -15,6 +16,7 @@ use af_script::{GENERATED_TRACKS, generated_name, is_name, number_within};
 use clap::error::ErrorKind;
 use clap::{Arg, ArgMatches, Command};
 use std::alloc::{AllocError, Global};
+use std::mem::drop;
 
 /// Whether a word begins with `-`.
 fn begins_dash(word: &str) -> bool
@@ -137,25 +139,34 @@ fn bare_command<'a>(alloc: Global) -> Command<'a>
         .subcommand_required(true)
 }
 
-/// A command with one more subcommand.
-fn with_sub<'a>(command: Command<'a>, sub: Command<'a>) -> Result<Command<'a>, AllocError>
-    requires { (out-Command sub).has_globals ≡ false }
-    ensures { IfOk result (λ more. app_of more ≡ with_subcommand (app_of command.entry) (shape_of sub.entry)) }
+/// A command with one more subcommand, where that could be made.
+fn with_sub<'a>(
+    command: Command<'a>,
+    sub: Result<Command<'a>, AllocError>,
+) -> Result<Command<'a>, AllocError>
+    requires { IfOk sub (λ sub. (out-Command sub).has_globals ≡ false) }
+    ensures { (shape : Shape) → IfOk sub.entry (λ sub. shape_of sub ≡ shape) → IfOk result (λ more. app_of more ≡ with_subcommand (app_of command.entry) shape) }
 {
-    command.subcommand(sub)
+    match sub {
+        Ok(sub) => command.subcommand(sub),
+        Err(error) => {
+            drop(command);
+            Err(error)
+        }
+    }
 }
 
 /// The command with its subcommands, without help.
 fn player_command<'a>(alloc: Global) -> Result<Command<'a>, AllocError>
     ensures { IfOk result (λ command. app_of command ≡ player_words) }
 {
-    let command = with_sub(bare_command(alloc), render_command(alloc)?)?;
-    let command = with_sub(command, record_command(alloc)?)?;
-    let command = with_sub(command, loop_command(alloc)?)?;
-    let command = with_sub(command, generate_command(alloc)?)?;
-    let command = with_sub(command, play_command(alloc)?)?;
-    let command = with_sub(command, verify_command(alloc)?)?;
-    with_sub(command, trace_command(alloc)?)
+    let command = with_sub(bare_command(alloc), render_command(alloc))?;
+    let command = with_sub(command, record_command(alloc))?;
+    let command = with_sub(command, loop_command(alloc))?;
+    let command = with_sub(command, generate_command(alloc))?;
+    let command = with_sub(command, play_command(alloc))?;
+    let command = with_sub(command, verify_command(alloc))?;
+    with_sub(command, trace_command(alloc))
 }
 
 /// Two names of files that differ.

@@ -1,6 +1,6 @@
-use Rattle.std.proofs.Common.{◌≡◌, ℕ, true, is_some, length, replicate, All, Option, ap, subst, ◌∙◌, arith}
+use Rattle.std.proofs.Common.{◌≡◌, ℕ, true, is_some, length, replicate, All, Option, refl, ap, subst, ◌∙◌, arith}
 use Rattle.af_server.specs.Order.{ServerState}
-use Rattle.af_life.specs.declared.kept.TrackKept.{TrackKept}
+use Rattle.af_life.specs.Kept.{new_track}
 use Rattle.af_normal.specs.Making.{TrackList}
 use Rattle.af_normal.proofs.Made.{made_is, made_order}
 use Rattle.af_normal.proofs.mixer.NormalMixer.make.Goals as goal
@@ -10,15 +10,11 @@ returns-clause-made c =
     let v = c.tracks.view_is in
     let inside : c.len-count.result ≡ length c.tracks.inside.settings.items = (let l = c.len-count.ensures in omega arith) in
     let many : c.len-count.result ≡ length c.args.tracks.settings = inside ∙ ap (λ (t : TrackList). length t.settings) v in
-    let count = ap (λ (n : ℕ). replicate n c.new_track.result) many in
-    let each = ap (λ (t : TrackKept). replicate (length c.args.tracks.settings) t) c.new_track.ensures in
-    let turns = c.in_ok-spare_turns.ensures in
-    let takes = c.in_ok-spare_takes.ensures in
-    let rooms = c.in_ok-with_room.ensures.room in
+    let r = c.in_ok-reserved.ensures in
     made_is c.args.frames c.args.normal c.args.tracks c.args.mutator c.args.reader c.args.pipe _ _ _ _ _ _ _ _ _
     (ap (λ (t : TrackList). t.settings) v) (ap (λ (t : TrackList). t.streams) v) (ap (λ (t : TrackList). t.commands) v)
-    (c.in_ok-vec.ensures.items_if_clones_equal (λ y e. e) ∙ count ∙ each) c.in_ok-with_capacity.ensures.items c.mutator.view_is
-    c.in_ok-with_room.ensures.turn (rooms.0 ∙ many, rooms.1 ∙ many) (turns.0 ∙ many, turns.1 ∙ many, turns.2) (takes.0 ∙ many, takes.1 ∙ many, takes.2)
+    (r.tracks ∙ ap (λ (n : ℕ). replicate n new_track) many) r.hands refl
+    r.entry (r.room.0 ∙ many, r.room.1 ∙ many) (r.turns.0 ∙ many, r.turns.1 ∙ many, r.turns.2) (r.takes.0 ∙ many, r.takes.1 ∙ many, r.takes.2)
 
 pub returns-clause-order : goal.returns-clause-order
 returns-clause-order c = λ links new.

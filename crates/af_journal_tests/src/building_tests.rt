@@ -1,0 +1,123 @@
+//! Texts that are read and written again, what a journal says that was read, and texts that aren't read.
+use crate::reading_tests::{script, text_with};
+use af_base::{Cycle, Frame, Memory, Seen};
+use af_journal::{JournalFault, read, write};
+use af_model::Journal;
+use std::alloc::Global;
+use std::mem::drop;
+use std::test::Fail;
+
+// How many lines of the text of all kinds of line are a text.
+const WHOLE: [usize; 13] = [0, 1, 3, 11, 18, 20, 21, 25, 26, 27, 28, 29, 30];
+
+// Texts, with the number of rounds, or with that of the first bad line.
+const TEXTS: [(&str, usize, u64); 8] = [
+    ("", 0, 0),
+    ("R\n", 1, 0),
+    ("R\nR\n", 2, 0),
+    ("R\nR", 0, 2),
+    ("R\nC 2\n", 0, 2),
+    ("R\nN 8 1 0\nP 0\nm 0 268439552 0 4 f 1\n", 0, 5),
+    ("R\nN 8 1 0\nP 0\nm 0 268439552 0 4 f 1\nR\n", 0, 5),
+    ("R\nF\ny 1 0\nR\n", 0, 4),
+];
+
+// Whether a text is read for two tracks, and written as it was.
+fn comes_back(alloc: Global, text: &[u8]) -> Result<bool, Memory> {
+    let Ok(journal) = read(alloc, text, &script(alloc)?) else {
+        return Ok(false);
+    };
+    let mut out = Vec::new(alloc);
+    write(alloc, &journal, &mut out)?;
+    Ok(journal.tracks() == 2 && out.as_slice() == text)
+}
+
+fn all_come_back(alloc: Global) -> Result<bool, Memory> {
+    for count in WHOLE {
+        let text = text_with(alloc, count, 30, "")?;
+        if !comes_back(alloc, text.as_bytes())? {
+            return Ok(false);
+        }
+    }
+    Ok(true)
+}
+
+// How many rounds a text has for the script, or else the number of its first bad line.
+fn outcome(alloc: Global, text: &str) -> Result<(usize, u64), Memory> {
+    match read(alloc, text.as_bytes(), &script(alloc)?) {
+        Ok(journal) => Ok((journal.rounds(), 0)),
+        Err(JournalFault::Line { number }) => Ok((0, number)),
+        Err(JournalFault::Memory) => Err(Memory),
+    }
+}
+
+#[test]
+fn each_kind_of_line_comes_back(rt: HostRuntime) -> Result<(), Fail> {
+    assert!(rt; all_come_back(rt.alloc())?);
+    Ok(())
+}
+
+#[test]
+fn texts_have_rounds_or_a_bad_line(rt: HostRuntime) -> Result<(), Fail> {
+    for (text, rounds, number) in TEXTS {
+        assert_eq!(rt; outcome(rt.alloc(), text)?, (rounds, number));
+    }
+    Ok(())
+}
+
+// Whether a journal has the rounds of the whole text, with as many calls and entries.
+fn tells_rounds(journal: &Journal) -> bool {
+    if journal.rounds() != 3 || journal.tracks() != 2 {
+        return false;
+    }
+    journal.client(0, 0).len() == 7
+        && journal.client(0, 1).len() == 1
+        && journal.cycles(0) == (0, 2)
+        && journal.cycles(1) == (2, 0)
+}
+
+// Whether it has the first entry of that text, and its frame.
+fn tells_entry(journal: &Journal) -> bool {
+    let log = journal.log();
+    let Some(entry) = log.entry(0) else {
+        return false;
+    };
+    log.frames() == [Frame { left: 0, right: 0 }].as_slice()
+        && (entry.state, entry.cycle, entry.mono) == (1, Cycle::Mixed, 2)
+        && entry.slots[1].seen == Seen::Shut { front: 9, rear: 4 }
+        && entry.slots[2].seen == Seen::Absent
+}
+
+// Whether it has the turn of its first round: a status, and a take with its frame.
+fn tells_turn(journal: &Journal) -> bool {
+    if journal.rounds() == 0 {
+        return false;
+    }
+    let Some(turn) = journal.turn(0) else {
+        return false;
+    };
+    let Some(track) = turn.tracks.as_slice().first() else {
+        return false;
+    };
+    let Some(take) = turn.mixes.as_slice().first() else {
+        return false;
+    };
+    track.status == Some(258) && take.frames.as_slice() == [Frame { left: -1, right: 1 }].as_slice()
+}
+
+// Whether the whole text says so.
+fn text_is_told(alloc: Global) -> Result<bool, Memory> {
+    let text = text_with(alloc, 30, 30, "")?;
+    let Ok(journal) = read(alloc, text.as_bytes(), &script(alloc)?) else {
+        return Ok(false);
+    };
+    let told = tells_rounds(&journal) && tells_entry(&journal) && tells_turn(&journal);
+    drop(journal);
+    Ok(told)
+}
+
+#[test]
+fn a_journal_says_what_its_text_said(rt: HostRuntime) -> Result<(), Fail> {
+    assert!(rt; text_is_told(rt.alloc())?);
+    Ok(())
+}

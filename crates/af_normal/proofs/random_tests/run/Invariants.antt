@@ -1,9 +1,0 @@
-use Rattle.af_life.specs.Small.{IsSmall}
-use Rattle.af_normal.specs.Testing.{IsWorld}
-use Rattle.af_normal.proofs.random_tests.run.Given as goal
-
-abbrev pub invariant-loop-turn : goal.invariant-loop-turn
-invariant-loop-turn g l = record {
-  world : IsWorld l.links l.world.mixer l.world.others.observer l.world.others.writer l.world.others.pipe l.world.others.report l.world.others.streams.items l.world.others.commands.items;
-  plain : IsSmall l.beside.plain.turns l.beside.plain.setup l.beside.plain.kept;
-}

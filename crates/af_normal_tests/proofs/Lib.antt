@@ -1,0 +1,6 @@
+mod Zips
+mod Lines
+mod HeldFacts
+mod Clients
+mod AfterEnd
+mod OthersMet

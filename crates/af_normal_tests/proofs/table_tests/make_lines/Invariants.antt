@@ -1,0 +1,5 @@
+use Rattle.af_normal_tests.specs.Testing.{AreLines}
+use Rattle.af_normal_tests.proofs.table_tests.make_lines.Given as goal
+
+abbrev pub invariant-loop-kind : goal.invariant-loop-kind
+invariant-loop-kind l = AreLines l.kind-index l.streams.items l.commands.items l.clients.items l.senders.items l.tracks

@@ -1,0 +1,356 @@
+//! A client alone, against servers of its two blocks that the test moves.
+ghost use Rattle.std.specs.Prelude.{◌≡◌, ℕ, ◌<◌, ◌≤◌, All, length};
+ghost use Rattle.af_server.specs.Order.{IsServerOf};
+ghost use Rattle.af_party.specs.Asking.{HasBlocks};
+ghost use Rattle.af_party.specs.Works.{CanWork, IsFittingOp, flushes_to_come, frames_to_come};
+
+use af_base::{ClientCall, DISABLED, Frame, INVALID, Items, Memory, Seen, Steps};
+use af_cblk::Block;
+use af_client::Client as Proxy;
+use af_life::{OPEN, REMOVE, START, STOP};
+use af_party::Party;
+use af_runs::Client;
+use af_script::Op;
+use af_server::Server;
+use std::alloc::Global;
+use std::marker::Brand;
+use std::sync::ledger::{Blank, Ledger};
+use std::test::*;
+
+// What is done next.
+#[derive(Clone, Copy)]
+enum Step {
+    // A turn makes these calls.
+    Turn(&'static [ClientCall]),
+    // A turn makes so many calls.
+    Makes(usize),
+    // The stream's server sets these flags.
+    Flags(u32),
+    // The stream's server takes up to so many frames.
+    Takes(u32),
+    // The other server takes up to so many commands.
+    Obeys(u32),
+    // It stores this status.
+    Tells(u32),
+    // The client has ended.
+    Ended,
+}
+
+const SILENCE: Frame = Frame { left: 0, right: 0 };
+
+// Takes up to four frames.
+fn takes<L: Ledger>(block: &Block, server: &mut Server, ask: u32, steps: &mut Steps<L>)
+    requires ready { IsServerOf block.now server.old }
+    requires ask { (1 ≤ ask) × (ask ≤ 4) }
+    ensures ready { IsServerOf block.now server.new }
+{
+    let mut into = [SILENCE; 4];
+    let look = server.look(block, ask, steps);
+    if let Seen::Frames { count } = look.seen {
+        server.take(block, &mut into[..count as usize], steps);
+    }
+}
+
+// A turn; false where too much was sent before it.
+fn turns<L: Ledger>(
+    party: &mut Party,
+    stream: &Block,
+    command: &Block,
+    ops: &[Op],
+    file: &[Frame],
+    steps: &mut Steps<L>,
+) -> bool
+    requires blocks { HasBlocks stream.now command.now party.old }
+    requires work { CanWork ops.now (length file.now) party.old }
+    ensures blocks { HasBlocks stream.now command.now party.new }
+    ensures work { CanWork ops.now (length file.now) party.new }
+{
+    if party.command.released() > 10_000 {
+        return false;
+    }
+    party.calls.clear();
+    party.call_on(stream, command, ops, file, steps);
+    true
+}
+
+// Whether a step does what it says.
+fn does<L: Ledger>(
+    party: &mut Party,
+    servers: &mut (Server, Server),
+    stream: &Block,
+    command: &Block,
+    ops: &[Op],
+    file: &[Frame],
+    step: &Step,
+    steps: &mut Steps<L>,
+) -> bool
+    requires blocks { HasBlocks stream.now command.now party.old }
+    requires work { CanWork ops.now (length file.now) party.old }
+    requires servers { IsServerOf stream.now servers.old.0 × IsServerOf command.now servers.old.1 }
+    ensures blocks { HasBlocks stream.now command.now party.new }
+    ensures work { CanWork ops.now (length file.now) party.new }
+    ensures servers { IsServerOf stream.now servers.new.0 × IsServerOf command.now servers.new.1 }
+{
+    match *step {
+        Step::Turn(calls) => {
+            turns(party, stream, command, ops, file, steps) && party.calls.as_slice() == calls
+        }
+        Step::Makes(count) => {
+            turns(party, stream, command, ops, file, steps) && party.calls.as_slice().len() == count
+        }
+        Step::Flags(bits) => {
+            servers.0.set_flags(stream, bits, steps);
+            true
+        }
+        Step::Takes(count) if count > 0 && count <= 4 => {
+            takes(stream, &mut servers.0, count, steps);
+            true
+        }
+        Step::Obeys(count) if count > 0 && count <= 2 => {
+            takes(command, &mut servers.1, 2 * count, steps);
+            true
+        }
+        Step::Tells(word) => {
+            servers.1.set_status(command, word, steps);
+            true
+        }
+        Step::Ended => party.has_ended(),
+        _ => false,
+    }
+}
+
+// Whether each step of a table does what it says.
+fn all_do<L: Ledger>(
+    mut party: Party,
+    mut servers: (Server, Server),
+    stream: &Block,
+    command: &Block,
+    ops: &[Op],
+    file: &[Frame],
+    table: &[Step],
+    steps: &mut Steps<L>,
+) -> bool
+    requires blocks { HasBlocks stream.now command.now party }
+    requires work { CanWork ops.now (length file.now) party }
+    requires servers { IsServerOf stream.now servers.0 × IsServerOf command.now servers.1 }
+{
+    for step in table {
+        if !does(
+            &mut party,
+            &mut servers,
+            stream,
+            command,
+            ops,
+            file,
+            step,
+            steps,
+        ) {
+            return false;
+        }
+    }
+    true
+}
+
+// The same of a new client on new blocks, with so many frames in the stream's.
+fn plays_in<L: Ledger>(
+    blank: Blank,
+    alloc: Global,
+    frames: u32,
+    ops: &[Op],
+    file: &[Frame],
+    table: &[Step],
+) -> Result<bool, Memory>
+    requires ledger { (blank.name ≡ L.name) × (blank.parts ≡ L.parts) × (0 < blank.parts) }
+    requires frames { (1 ≤ frames) × (frames ≤ 65536) }
+    requires file { (frames_to_come ops.now ≤ length file.now) × (length file.now ≤ 4194304) × (flushes_to_come ops.now ≤ 4294967294) }
+    requires fits { (stream command : ℕ) → All (IsFittingOp stream command) ops.now }
+{
+    let mut steps = Steps::<L>::start(blank);
+    let (stream, client, server) = Block::make(alloc, frames, 0)?;
+    let (command, sender, obeyer) = Block::make(alloc, 128, 0)?;
+    let party = Party {
+        track: 0,
+        client: Client::new(),
+        stream: Proxy::with(client, &stream),
+        command: Proxy::with(sender, &command),
+        calls: Items::with_room(alloc, 64)?,
+    };
+    let servers = (
+        Server::with(server, &stream),
+        Server::with(obeyer, &command),
+    );
+    Ok(all_do(
+        party, servers, &stream, &command, ops, file, table, &mut steps,
+    ))
+}
+
+fn plays(
+    alloc: Global,
+    frames: u32,
+    ops: &[Op],
+    file: &[Frame],
+    table: &[Step],
+) -> Result<bool, Memory>
+    requires frames { (1 ≤ frames) × (frames ≤ 65536) }
+    requires file { (frames_to_come ops.now ≤ length file.now) × (length file.now ≤ 4194304) × (flushes_to_come ops.now ≤ 4294967294) }
+    requires fits { (stream command : ℕ) → All (IsFittingOp stream command) ops.now }
+{
+    plays_in::<Brand>(Blank::new(1), alloc, frames, ops, file, table)
+}
+
+// A life on a block of two frames. The START is settled in the second turn; the write of three frames finds it full after two, and goes on in the third turn, where a START is owed first, and the yield ends the turn. The drain waits for the stop.
+const LIFE: [Op; 8] = [
+    Op::OpenTrack,
+    Op::Start,
+    Op::Write { count: 3 },
+    Op::Yield,
+    Op::Gain { left: 3, right: 2 },
+    Op::Stop,
+    Op::Drain,
+    Op::Remove,
+];
+
+const LIVES: [Step; 13] = [
+    Step::Turn(&[
+        ClientCall::Sent {
+            front: 0,
+            code: OPEN,
+            argument: 0,
+        },
+        ClientCall::Sent {
+            front: 0,
+            code: START,
+            argument: 0,
+        },
+        ClientCall::Status { word: 0 },
+    ]),
+    Step::Obeys(2),
+    Step::Tells(0x202),
+    Step::Turn(&[
+        ClientCall::Status { word: 0x202 },
+        ClientCall::Put { front: 0, count: 2 },
+        ClientCall::Cleared { flags: 0 },
+        ClientCall::Full { front: 0 },
+    ]),
+    Step::Takes(1),
+    Step::Flags(DISABLED),
+    Step::Turn(&[
+        ClientCall::Put { front: 1, count: 1 },
+        ClientCall::Cleared { flags: 8 },
+        ClientCall::Sent {
+            front: 4,
+            code: START,
+            argument: 0,
+        },
+    ]),
+    Step::Turn(&[
+        ClientCall::Gain { word: 0x20003 },
+        ClientCall::Sent {
+            front: 4,
+            code: STOP,
+            argument: 3,
+        },
+        ClientCall::Status { word: 0x202 },
+    ]),
+    Step::Obeys(2),
+    Step::Tells(0x408),
+    Step::Turn(&[
+        ClientCall::Status { word: 0x408 },
+        ClientCall::Sent {
+            front: 8,
+            code: REMOVE,
+            argument: 0,
+        },
+    ]),
+    Step::Ended,
+    Step::Turn(&[]),
+];
+
+// A write that finds INVALID leaves one REMOVE to send, and nothing after it.
+const DYING: [Op; 3] = [Op::OpenTrack, Op::Write { count: 1 }, Op::Yield];
+
+const DIES: [Step; 4] = [
+    Step::Flags(INVALID),
+    Step::Turn(&[
+        ClientCall::Sent {
+            front: 0,
+            code: OPEN,
+            argument: 0,
+        },
+        ClientCall::Dead { flags: 4 },
+        ClientCall::Sent {
+            front: 0,
+            code: REMOVE,
+            argument: 0,
+        },
+    ]),
+    Step::Ended,
+    Step::Turn(&[]),
+];
+
+// The client pokes rear of the command block, which it keeps itself, and then front of the stream's, which shuts its proxy.
+const HOSTILE: [Op; 4] = [
+    Op::OpenTrack,
+    Op::Poke {
+        command: true,
+        word: 1,
+        value: 5,
+    },
+    Op::Poke {
+        command: false,
+        word: 0,
+        value: 9,
+    },
+    Op::Write { count: 1 },
+];
+
+const POKES: [Step; 2] = [
+    Step::Turn(&[
+        ClientCall::Sent {
+            front: 0,
+            code: OPEN,
+            argument: 0,
+        },
+        ClientCall::Poke {
+            command: true,
+            word: 1,
+            value: 5,
+        },
+        ClientCall::Poke {
+            command: false,
+            word: 0,
+            value: 9,
+        },
+        ClientCall::Corrupt { front: 9, rear: 0 },
+        ClientCall::Sent {
+            front: 0,
+            code: REMOVE,
+            argument: 0,
+        },
+    ]),
+    Step::Ended,
+];
+
+// Seventy gains take two turns.
+const BUSY: [Op; 70] = [Op::Gain { left: 1, right: 1 }; 70];
+
+const GAINS: [Step; 3] = [Step::Makes(64), Step::Makes(6), Step::Makes(0)];
+
+#[test]
+fn a_client_lives_and_drains(rt: HostRuntime) -> Result<(), Fail> {
+    assert!(rt; plays(rt.alloc(), 2, &LIFE, &[SILENCE; 3], &LIVES)?);
+    Ok(())
+}
+
+#[test]
+fn a_client_ends_with_its_block(rt: HostRuntime) -> Result<(), Fail> {
+    assert!(rt; plays(rt.alloc(), 2, &DYING, &[SILENCE; 1], &DIES)?);
+    assert!(rt; plays(rt.alloc(), 2, &HOSTILE, &[SILENCE; 1], &POKES)?);
+    Ok(())
+}
+
+#[test]
+fn a_turn_is_cut_after_64_calls(rt: HostRuntime) -> Result<(), Fail> {
+    assert!(rt; plays(rt.alloc(), 2, &BUSY, &[], &GAINS)?);
+    Ok(())
+}

@@ -1,0 +1,23 @@
+//! Tests of the normal mixer and of the parties of its clients: tables of cases, random runs, meetings and ends.
+#![tactic(auto)]
+
+#[cfg(test)]
+mod call_tests;
+#[cfg(test)]
+mod choice_tests;
+#[cfg(test)]
+mod client_tests;
+#[cfg(test)]
+mod end_tests;
+#[cfg(test)]
+mod held_tests;
+#[cfg(test)]
+mod meeting_tests;
+#[cfg(test)]
+mod random_tests;
+#[cfg(test)]
+mod stream_tests;
+#[cfg(test)]
+mod table_tests;
+#[cfg(test)]
+mod tests;

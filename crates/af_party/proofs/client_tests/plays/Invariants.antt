@@ -1,4 +1,0 @@
-use Rattle.af_party.proofs.client_tests.plays.Given as goal
-
-abbrev pub ghosts-plays_in : goal.ghosts-plays_in
-ghosts-plays_in a = record { name = a.blank.name; parts = a.blank.parts }
