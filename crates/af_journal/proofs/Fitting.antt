@@ -219,18 +219,18 @@ turn_fits tracks e few (inr went) fits =
     subst AreWritten (sym (open_is e went.open_is)) (
       (fits.room, fits.cycle),
       fits-append (each_from track_lines 0 e.tracks) (numbers (line.Pushed e.push) ∷ flat_map take_lines e.mixes)
-      (tracks_fit 0 e.tracks (let h = went.each in omega arith) went.looks fits.tracks)
-      (fits.push, takes_fit tracks e.mixes went.takes fits.takes),
+          (tracks_fit 0 e.tracks (let h = went.each in omega arith) went.looks fits.tracks)
+          (fits.push, takes_fit tracks e.mixes went.takes fits.takes),
     )
 
 turn_told : (tracks : ℕ) (e : Turn) → IsTurn tracks e → AreWritten (turn_lines e) → FitsTurn e
 turn_told tracks e (inl ended) fit = subst FitsTurn (sym ended) ended_fits
 turn_told tracks e (inr went) fit =
-    let open : AreWritten (numbers (line.Turn e.room e.ack e.cycle) ∷ open_lines e) = subst AreWritten (open_is e went.open_is) fit in
-    let parts = fits-split (each_from track_lines 0 e.tracks) (numbers (line.Pushed e.push) ∷ flat_map take_lines e.mixes) open.1 in
+    let going : AreWritten (numbers (line.Turn e.room e.ack e.cycle) ∷ open_lines e) = subst AreWritten (open_is e went.open_is) fit in
+    let parts = fits-split (each_from track_lines 0 e.tracks) (numbers (line.Pushed e.push) ∷ flat_map take_lines e.mixes) going.1 in
     record {
-      room = open.0.0;
-      cycle = open.0.1;
+      room = going.0.0;
+      cycle = going.0.1;
       tracks = tracks_told 0 e.tracks went.looks parts.0;
       push = parts.1.0;
       takes = takes_told e.mixes parts.1.1;
@@ -265,17 +265,18 @@ module _ (place : ℕ) (e : EntrySeen) (m : IsMixed place e.entry) where
   slot_is zero lt = inr (subst IsSeen (sym m.submix.0.2) (shown_is (count_seen (seen_at 0)) (count_seen (seen_at 0) == 0) refl))
   slot_is (suc i) lt = m.others (suc i) (omega arith) lt
 
+  -- the lines of a slot, as it shows something or not
+  abbrev lines_if : ℕ → Bool → List Written
+  lines_if i b = cond b (line_of i ∷ words_after (map packed_word (slot_frames e i))) []
+
   slot_fits : (i : ℕ) → i < slots → FitsEntry e.entry → AreWritten (slot_lines e i)
   slot_fits i lt fits = by (slot_is i lt)
     where
-      -- the lines of the slot, as it shows something or not
-      abbrev lines : Bool → List Written
-      lines b = cond b (line_of i ∷ words_after (map packed_word (slot_frames e i))) []
       by : IsAbsent e.entry i ⊎ IsSeen (seen_at i) → AreWritten (slot_lines e i)
-      by (inl gone) = subst (λ (b : Bool). AreWritten (lines b)) (sym (ap (λ (s : SlotEntry). is_shown s.seen) gone.0)) tt
+      by (inl gone) = subst (λ (b : Bool). AreWritten (lines_if i b)) (sym (ap (λ (s : SlotEntry). is_shown s.seen) gone.0)) tt
       by (inr is) =
           let own = fits.looks i lt in
-          subst (λ (b : Bool). AreWritten (lines b)) (sym (is_seen (seen_at i) is)) (
+          subst (λ (b : Bool). AreWritten (lines_if i b)) (sym (is_seen (seen_at i) is)) (
             (lt, fits.scales i lt, (own.0, (own.1.0, (own.1.1.0, tt))), seen_fits (seen_at i) is own.1.1.1),
             words_fit (map packed_word (slot_frames e i)) (frames_fit (slot_frames e i)),
           )
@@ -308,8 +309,10 @@ module _ (place : ℕ) (e : EntrySeen) (m : IsMixed place e.entry) where
     where
       more : flat_map (slot_lines e) (range_with_len 0 (suc n)) ≡ flat_map (slot_lines e) (range_with_len 0 n) ++ slot_lines e n
       more = ap (λ (k : ℕ). flat_map (slot_lines e) (range_with_len 0 k)) (let one : suc n ≡ n + 1 = omega arith in one) ∙ range-more (slot_lines e) n
+
       parts : AreWritten (flat_map (slot_lines e) (range_with_len 0 n)) × AreWritten (slot_lines e n)
       parts = fits-split (flat_map (slot_lines e) (range_with_len 0 n)) (slot_lines e n) (subst AreWritten more fit)
+
       by : (i ≡ n) ⊎ (i ≡ n → ⊥) → Tells i
       by (inl same) = subst Tells (sym same) (slot_told n (slot_is n (omega arith)) parts.1)
       by (inr other) = slots_told n (omega arith) parts.0 i (omega (arith, lt, other))
@@ -384,8 +387,8 @@ round_fits : (tracks place : ℕ) (r : RoundSeen) → tracks ≤ 2 ^ 32 → IsRo
 round_fits tracks place r few is are fits = (
   tt,
   fits-append (parties r) (fast_lines r.entries)
-  (fits-append (each_from client_lines 0 r.calls) (turns_lines r.turn) (clients_fit 0 r.calls (let h = is.calls in omega arith) fits.0.0) (turns_fit tracks r.turn few is.turn fits.0.1))
-  (fast_fits place r.entries are fits.1),
+      (fits-append (each_from client_lines 0 r.calls) (turns_lines r.turn) (clients_fit 0 r.calls (let h = is.calls in omega arith) fits.0.0) (turns_fit tracks r.turn few is.turn fits.0.1))
+      (fast_fits place r.entries are fits.1),
 )
 
 round_told : (tracks place : ℕ) (r : RoundSeen) → IsRound tracks r → AreEntries place r.entries → AreWritten (round_lines r) → FitsRound r
