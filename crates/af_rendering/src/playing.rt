@@ -101,7 +101,7 @@ fn play_out<S: Store>(
     bytes.clear();
     round_in::<Brand>(
         Blank::new(1),
-        parties: Parties,
+        parties,
         links,
         turn,
         tracks,
@@ -149,7 +149,8 @@ fn play_noted<S: Store>(
 {
     let had_ended = parties.normal.has_ended();
     let entries = parties.fast.log().len();
-    play_out(parties, links, turn, tracks, files, store, name, buffer, bytes, tally,
+    play_out(
+        parties, links, turn, tracks, files, store, name, buffer, bytes, tally,
     )?;
     parties.note_round(alloc, turn, had_ended, entries, rounds)?;
     Ok(())
@@ -196,7 +197,9 @@ pub fn play_all<S: Store>(
     ensures cause { HasCause (S.faults store.old) (S.faults store.new) result }
 {
     for i in 0..turns.len() {
-        play_noted(parties, alloc, links, turns[i], tracks, files, store, name, buffer, bytes, rounds, tally,
+        play_noted(
+            parties, alloc, links, turns[i], tracks, files, store, name, buffer, bytes, rounds,
+            tally,
         )?;
     }
     know_frames(parties.fast.log().frames());
