@@ -1,5 +1,5 @@
 //! A script's rounds from first to last, in which each party is on its own.
-ghost use Rattle.std.specs.Prelude.{◌≡◌, ◌*◌, ◌≤◌, ◌++◌, ℕ, List, [], Option, Some, true, false, Err, IfErr, IfOk, OnErr, OnOk};
+ghost use Rattle.std.specs.Prelude.{◌≡◌, ◌≤◌, ◌++◌, ℕ, List, [], Option, Some, true, false, Err, IfErr, IfOk, OnErr, OnOk};
 ghost use Rattle.af_io.specs.Causes.{HasCause};
 ghost use Rattle.af_io.specs.Files.{Files, LeavesFront, SetsFile};
 ghost use Rattle.af_model.specs.Journals.{RoundNoted};
@@ -7,7 +7,7 @@ ghost use Rattle.af_nblog.specs.LogText.{log_text};
 ghost use Rattle.af_nblog.specs.declared.entries.Note.{Note as SomeNote};
 ghost use Rattle.af_playing.specs.declared.answering.PlayFault.TheVariants.{Memory as MemoryFault};
 ghost use Rattle.af_rendering.specs.Hostile.{PokesSpareOthers};
-ghost use Rattle.af_side_by_side.specs.Logging.{BeginsLog, IsLogOf, LogsPlay, TellsLog};
+ghost use Rattle.af_side_by_side.specs.Logging.{BeginsLog, HasLogOf, IsLogOf, LogsPlay, TellsLog};
 ghost use Rattle.af_enough.specs.Enough.{HasEnoughCycles};
 ghost use Rattle.af_audit.specs.Drained.{EachDrainedTrackReachedItsStop};
 ghost use Rattle.af_audit.specs.Emptied.{PipeIsEmptied};

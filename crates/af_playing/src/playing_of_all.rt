@@ -1,5 +1,5 @@
 //! The rounds of all parties from first to last, and the file of what they mixed.
-ghost use Rattle.std.specs.Prelude.{◌≡◌, ◌+◌, ◌*◌, ◌<◌, ◌≤◌, ◌^◌, ◌++◌, ◌∷◌, ℕ, true, false, List, [], Option, Some, length, map, All, IfOk, OnOk, OnErr};
+ghost use Rattle.std.specs.Prelude.{◌≡◌, ◌+◌, ◌*◌, ◌<◌, ◌≤◌, ◌^◌, ◌++◌, ◌∷◌, ℕ, true, false, List, [], Option, Some, length, map, IfOk, OnOk, OnErr};
 ghost use Rattle.std.specs.List.{list_all};
 ghost use Rattle.af_base.specs.declared.state.FastState.{FastState as State};
 ghost use Rattle.af_io.specs.Causes.{HasCause};

@@ -1,12 +1,11 @@
 //! The log of a play, where one is kept: the end with which the fast mixer's party notes its entries, and the party that reads it.
-ghost use Rattle.std.specs.Prelude.{◌≡◌, ◌+◌, ◌-◌, ◌++◌, ◌<◌, ◌≤◌, ℕ, false, List, Some, None, IfErr, IfOk, MatchOption, OnErr, OnOk, length};
+ghost use Rattle.std.specs.Prelude.{◌≡◌, ◌+◌, ◌-◌, ◌++◌, ◌<◌, ◌≤◌, ℕ, false, Some, None, IfOk, MatchOption, OnErr, length};
 ghost use Rattle.af_base.specs.Log.{entry_at};
 ghost use Rattle.af_model.specs.JournalForm.{is_spent};
 ghost use Rattle.af_model.specs.Journals.{JournalData};
 ghost use Rattle.af_nblog.specs.LogText.{log_text};
-ghost use Rattle.af_nblog.specs.declared.entries.Note.{Note as SomeNote};
 ghost use Rattle.af_nblog.specs.NoteEnds.{WriterState, accepted};
-ghost use Rattle.af_side_by_side.specs.Logging.{AreEnds, BeginsLog, HasAudited, HasLogged, HasLogOf, HasMetLog, IsAuditor, IsLogOf, IsScribe};
+ghost use Rattle.af_side_by_side.specs.Logging.{AreEnds, BeginsLog, HasAudited, HasLogged, HasLogOf, HasMetLog, IsAuditor, IsScribe};
 
 use af_base::{Items, Memory, Steps};
 use af_cblk::Block;

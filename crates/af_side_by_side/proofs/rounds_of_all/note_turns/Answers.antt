@@ -18,7 +18,7 @@ loop-i-preserved c =
     let lt : i < length clients = (let n = ap length same in omega (arith, n, c.loop-i-test.true, c.loop-i.auto.i-end, c.len-i-end.ensures)) in
     let there : p ≡ get_or clients i p = c.index.ensures ∙ ap (λ (ps : List PartyState). get_or ps i p) same in
     let calls : slice_index_or (map (λ (q : PartyState). q.calls.items) clients) i [] ≡ c.as_slice.result.now =
-    calls_at clients i p lt there ∙ sym (ap (λ (q : PartyState). q.calls.items) c.behind-self.view_is) ∙ sym c.as_slice.ensures in
+    calls_at clients i p lt there ∙ sym (ap (λ (q : PartyState). q.calls.items) c.behind-parties.view_is) ∙ sym c.as_slice.ensures in
     record {
       tally = (λ run is. subst (λ (x : Shown). IsTally x c.note_calls.new.self) (sym (calls_next clients i run c.as_slice.result.now calls))
           (c.note_calls.ensures.tally (with_all_calls (map (λ (q : PartyState). q.calls.items) clients) i run) (inv.tally run is)));
