@@ -2,8 +2,9 @@
 use crate::ending_tests::{sink, words_of};
 use af_commands::run;
 use af_io::{Gate, MemStore, Pcm, frames_of};
+use af_playing::play;
+use af_rendering::have_files;
 use af_script::{Script, read};
-use af_session::{have_files, play};
 use std::alloc::Global;
 use std::mem::drop;
 use std::process::Abort;

@@ -8,7 +8,7 @@ use Rattle.af_io.specs.Pcm.{frame_width}
 use Rattle.af_script.specs.declared.op.Op.{Op}
 use Rattle.af_script.specs.declared.op.Op.TheVariants as op
 use Rattle.af_script.specs.declared.track.TrackSpec.{TrackSpec}
-use Rattle.af_session.specs.Rendered.{HaveFiles, IsFileFor}
+use Rattle.af_rendering.specs.Rendered.{HaveFiles, IsFileFor}
 use Rattle.af_session.specs.Rounds.{file_at, ops_at}
 use Rattle.af_party.specs.Works.{frames_to_come}
 use Rattle.af_commands.specs.declared.status.Refusal.{Refusal}

@@ -8,9 +8,9 @@ use Rattle.af_tally.specs.declared.summary.Summary.{Summary}
 use Rattle.af_one_turn_run.proofs.OneTurnRun.{one_turn_run}
 use Rattle.af_render_law.proofs.RendersTold.{render_told}
 use Rattle.af_script.specs.Form.{IsScript}
-use Rattle.af_session.specs.declared.rendering.Played.{Played}
+use Rattle.af_rendering.specs.declared.rendering.Played.{Played}
 use Rattle.af_session.specs.Ends.{EndsState}
-use Rattle.af_session.specs.Rendered.{HandsBack, LeavesSound}
+use Rattle.af_rendering.specs.Rendered.{HandsBack, LeavesSound}
 use Rattle.af_session.specs.Shown.{summary_told}
 use Rattle.af_runs.specs.Pcm.{journal_pcm}
 use Rattle.af_commands.specs.declared.status.Stop.{Stop}

@@ -5,11 +5,11 @@ use Rattle.af_io.specs.Causes.{HasCause}
 use Rattle.af_io.specs.declared.store.StoreError.{StoreError}
 use Rattle.af_io.specs.declared.store.StoreError.TheVariants as outside
 use Rattle.af_model.specs.Journals.{JournalData}
-use Rattle.af_session.specs.declared.answering.PlayFault.{PlayFault}
-use Rattle.af_session.specs.declared.answering.PlayFault.TheVariants as fault
-use Rattle.af_session.specs.declared.rendering.Played.{Played}
+use Rattle.af_playing.specs.declared.answering.PlayFault.{PlayFault}
+use Rattle.af_playing.specs.declared.answering.PlayFault.TheVariants as fault
+use Rattle.af_rendering.specs.declared.rendering.Played.{Played}
 use Rattle.af_session.specs.Ends.{EndsState}
-use Rattle.af_session.specs.PlayedRuns.{HasStoreCause}
+use Rattle.af_playing.specs.PlayedRuns.{HasStoreCause}
 use Rattle.af_commands.specs.declared.status.Ending.{Ending}
 use Rattle.af_commands.specs.declared.status.Stop.{Stop}
 use Rattle.af_commands.specs.declared.status.Stop.TheVariants.{Refused, Over, Store, Memory}

@@ -8,12 +8,12 @@ use Rattle.af_journal.specs.Texts.{text_of}
 use Rattle.af_journal.proofs.OneJournal.{read-back}
 use Rattle.af_model.specs.Journals.{JournalData}
 use Rattle.af_tally.specs.declared.summary.Summary.{Summary}
-use Rattle.af_session.specs.declared.answering.PlayFault.{PlayFault}
-use Rattle.af_session.specs.declared.answering.PlayFault.TheVariants as fault
-use Rattle.af_session.specs.declared.rendering.Played.{Played}
+use Rattle.af_playing.specs.declared.answering.PlayFault.{PlayFault}
+use Rattle.af_playing.specs.declared.answering.PlayFault.TheVariants as fault
+use Rattle.af_rendering.specs.declared.rendering.Played.{Played}
 use Rattle.af_session.specs.Ends.{EndsState}
-use Rattle.af_session.specs.PlayedRuns.{AtFault, AtLimit, HandsBackRun, IsLegalJournal, LeavesRun}
-use Rattle.af_session.specs.PlayKept.{KeepsPlay}
+use Rattle.af_playing.specs.PlayedRuns.{AtFault, AtLimit, HandsBackRun, IsLegalJournal, LeavesRun}
+use Rattle.af_playing.specs.PlayKept.{KeepsPlay}
 use Rattle.af_session.specs.Shown.{summary_told}
 use Rattle.af_runs.specs.Pcm.{journal_pcm}
 use Rattle.af_commands.specs.declared.status.Stop.{Stop}

@@ -9,13 +9,13 @@ use Rattle.af_nblog.specs.declared.entries.Note.{Note}
 use Rattle.af_nblog.specs.LogText.{log_text}
 use Rattle.af_runs.specs.Pcm.{journal_pcm}
 use Rattle.af_tally.specs.declared.summary.Summary.{Summary}
-use Rattle.af_session.specs.declared.answering.PlayFault.{PlayFault}
-use Rattle.af_session.specs.declared.answering.PlayFault.TheVariants as fault
-use Rattle.af_session.specs.declared.rendering.Played.{Played}
+use Rattle.af_playing.specs.declared.answering.PlayFault.{PlayFault}
+use Rattle.af_playing.specs.declared.answering.PlayFault.TheVariants as fault
+use Rattle.af_rendering.specs.declared.rendering.Played.{Played}
 use Rattle.af_session.specs.Ends.{EndsState}
-use Rattle.af_session.specs.Logging.{IsLogOf}
-use Rattle.af_session.specs.PlayedRuns.{AtFault, AtLimit, HandsBackRun, IsLegalJournal, LeavesRun}
-use Rattle.af_session.specs.PlayKept.{KeepsPlay}
+use Rattle.af_side_by_side.specs.Logging.{IsLogOf}
+use Rattle.af_playing.specs.PlayedRuns.{AtFault, AtLimit, HandsBackRun, IsLegalJournal, LeavesRun}
+use Rattle.af_playing.specs.PlayKept.{KeepsPlay}
 use Rattle.af_session.specs.Shown.{summary_told}
 use Rattle.af_commands.specs.declared.status.Stop.{Stop}
 use Rattle.af_commands.specs.declared.status.Stop.TheVariants.{Refused, Over, Store, Memory}

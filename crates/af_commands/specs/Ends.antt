@@ -4,7 +4,7 @@ use Rattle.std.specs.declared.alloc.Global.{Global}
 use Rattle.af_enough.specs.Enough.{HasEnoughCycles}
 use Rattle.af_io.specs.Files.{Files, SameFiles, SetsFile, LeavesFront}
 use Rattle.af_io.specs.Outputs.{with_files, LeavesFronts}
-use Rattle.af_session.specs.Rendered.{LeavesSound}
+use Rattle.af_rendering.specs.Rendered.{LeavesSound}
 use Rattle.af_audit.specs.declared.verdict.Refusal.{Refusal as JournalRefusal}
 use Rattle.af_audit.specs.declared.verdict.Verdict.TheVariants as verdict
 use Rattle.af_commands.specs.declared.status.Ending.{Ending}

@@ -1,7 +1,7 @@
 -- What the program loads of a script and its tracks.
 use Rattle.std.specs.Prelude.{ℕ, List}
 use Rattle.af_base.specs.declared.frame.Frame.{Frame}
-use Rattle.af_session.specs.Rendered.{HaveFiles}
+use Rattle.af_rendering.specs.Rendered.{HaveFiles}
 use Rattle.af_commands.specs.declared.load.Loaded.{Loaded}
 use Rattle.af_commands.specs.declared.load.TrackFile.{TrackFile}
 use Rattle.af_commands.specs.Asked as asked

@@ -6,7 +6,7 @@ use Rattle.af_io.specs.Outputs.{SetsFiles, with_file}
 use Rattle.af_journal.specs.Texts.{text_of}
 use Rattle.af_model.specs.Journals.{JournalData}
 use Rattle.af_script.specs.Data.{ScriptData}
-use Rattle.af_session.specs.PlayedRuns.{HandsBackRun, IsLegalJournal, LeavesRun}
+use Rattle.af_playing.specs.PlayedRuns.{HandsBackRun, IsLegalJournal, LeavesRun}
 use Rattle.af_session.specs.Ends.{EndsState}
 use Rattle.af_session.specs.Shown.{summary_told}
 use Rattle.af_runs.specs.Pcm.{journal_pcm}

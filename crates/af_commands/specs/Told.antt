@@ -5,9 +5,9 @@ use Rattle.af_io.specs.Files.{Files, SameFiles, SetsFile, LeavesFront}
 use Rattle.af_io.specs.declared.store.StoreError.{StoreError}
 use Rattle.af_journal.specs.Texts.{text_of}
 use Rattle.af_model.specs.Journals.{JournalData}
-use Rattle.af_session.specs.declared.answering.PlayFault.{PlayFault}
-use Rattle.af_session.specs.declared.answering.PlayFault.TheVariants as fault
-use Rattle.af_session.specs.declared.rendering.Played.{Played}
+use Rattle.af_playing.specs.declared.answering.PlayFault.{PlayFault}
+use Rattle.af_playing.specs.declared.answering.PlayFault.TheVariants as fault
+use Rattle.af_rendering.specs.declared.rendering.Played.{Played}
 use Rattle.af_tally.specs.declared.summary.Summary.{Summary}
 use Rattle.af_commands.specs.declared.status.Ending.TheVariants.{Limit}
 use Rattle.af_commands.specs.declared.status.Stop.{Stop}

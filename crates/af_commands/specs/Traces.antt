@@ -6,7 +6,7 @@ use Rattle.af_io.specs.Outputs.{SetsFiles, with_files}
 use Rattle.af_nblog.specs.declared.entries.Note.{Note}
 use Rattle.af_nblog.specs.LogText.{log_text}
 use Rattle.af_script.specs.Data.{ScriptData}
-use Rattle.af_session.specs.Logging.{IsLogOf}
+use Rattle.af_side_by_side.specs.Logging.{IsLogOf}
 use Rattle.af_commands.specs.Plays.{IsPlay, LeavesPlay}
 
 -- the bytes, the journal's text and the line are of one run in which all parties have ended, and the log's text is that of a log of the same journal; with room for 32 notes none was refused

@@ -5,7 +5,7 @@ ghost use Rattle.af_io.specs.Pcm.{frame_width};
 ghost use Rattle.af_script.specs.Bounds.{most_tracks};
 ghost use Rattle.af_script.specs.Form.{IsTrack};
 ghost use Rattle.af_script.specs.Reading.{script_of};
-ghost use Rattle.af_session.specs.Rendered.{HaveFiles, IsFileFor};
+ghost use Rattle.af_rendering.specs.Rendered.{HaveFiles, IsFileFor};
 ghost use Rattle.af_party.specs.Works.{frames_to_come};
 ghost use Rattle.af_commands.specs.Asked.{enough_of, frames_in, loaded, loaded_of, most_files, script_or, session_of, track_in, tracks_in};
 ghost use Rattle.af_commands.specs.Loading.{file_view, loaded_view, AreFilesFor};

@@ -18,7 +18,8 @@ use crate::status::{Ending, Stop};
 use af_base::Memory;
 use af_io::{Gate, Store, StoreError};
 use af_model::Journal;
-use af_session::{PlayFault, Played};
+use af_playing::PlayFault;
+use af_rendering::Played;
 use std::alloc::Global;
 use std::thread::Threads;
 
@@ -119,7 +120,7 @@ fn play<R: Threads + Sync, S: Store, G: Gate>(
     ensures cause { HasFault (S.faults store.old) (S.faults store.new) result }
     ensures words { (script : List ℕ) → SuitsRequest result (Play script target.now journal.now) }
 {
-    let played = af_session::play(
+    let played = af_playing::play(
         rt,
         alloc,
         &loaded.script,

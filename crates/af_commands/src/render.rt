@@ -11,8 +11,8 @@ ghost use Rattle.af_script.specs.Form.{IsScript};
 use crate::load::{Loaded, load_script};
 use crate::status::Stop;
 use af_io::{Store, StoreError};
+use af_rendering::Played;
 use af_script::Script;
-use af_session::Played;
 use af_tally::Summary;
 use std::alloc::{AllocError, Global};
 
@@ -63,7 +63,7 @@ pub fn play<S: Store>(
     ensures words { IsNoUsage result }
 {
     is_accepted(&loaded.script);
-    let played = af_session::render(alloc, &loaded.script, &loaded.files, store, target);
+    let played = af_rendering::render(alloc, &loaded.script, &loaded.files, store, target);
     let told = tell(alloc, &played);
     drop(played);
     told

@@ -13,7 +13,8 @@ use crate::load::{Loaded, load_script};
 use crate::playing::tell;
 use crate::status::Stop;
 use af_io::{Gate, Store};
-use af_session::{PlayFault, Played};
+use af_playing::PlayFault;
+use af_rendering::Played;
 use std::alloc::Global;
 use std::thread::Threads;
 
@@ -56,7 +57,7 @@ fn trace<R: Threads + Sync, S: Store, G: Gate>(
     ensures words { (script : List ℕ) → SuitsRequest result (Trace script target.now journal.now log.now room) }
 {
     let mut text = Vec::new(alloc);
-    let played = af_session::play_logged(
+    let played = af_playing::play_logged(
         rt,
         alloc,
         &loaded.script,

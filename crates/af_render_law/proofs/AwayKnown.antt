@@ -17,7 +17,7 @@ use Rattle.af_session.specs.Met.{MeetsAway, Met, SpotMet, Spot, item_at, proxies
 use Rattle.af_session.specs.Rounds.{with_ends}
 use Rattle.af_session.specs.Together.{AreTogether, SessionState}
 use Rattle.af_session.proofs.FollowingRounds.{ends_keep}
-use Rattle.af_session.proofs.MetOpen.{clients_ended}
+use Rattle.af_rendering.proofs.MetOpen.{clients_ended}
 use Rattle.af_render_law.specs.Aware.{KnowsAway}
 use Rattle.af_render_law.specs.Tells.{held_slot}
 use Rattle.af_render_law.proofs.AllMeet.{some_at}

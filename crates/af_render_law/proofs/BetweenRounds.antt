@@ -20,18 +20,18 @@ use Rattle.af_script.specs.Data.{ScriptData}
 use Rattle.af_script.specs.declared.op.TurnSpec.TheVariants as spec
 use Rattle.af_server.specs.Order.{ServerState}
 use Rattle.af_stateq.specs.Ends.{Polls, Pushes}
-use Rattle.af_session.specs.Leads.{InStep, Leads, Tells}
+use Rattle.af_rendering.specs.Leads.{InStep, Leads, Tells}
 use Rattle.af_session.specs.Met.{Met}
 use Rattle.af_session.specs.NewSession.{IsNewSession}
 use Rattle.af_session.specs.Rounds.{Given, IsRound, NormalTurned, normal_round, still_round, with_ends}
 use Rattle.af_session.specs.Shares.{SharedState}
 use Rattle.af_session.specs.Together.{AreTogether, SessionState}
-use Rattle.af_session.proofs.Quiet.{IsQuiet, new_quiet, turn_quiet}
+use Rattle.af_rendering.proofs.Quiet.{IsQuiet, new_quiet, turn_quiet}
 use Rattle.af_session.proofs.FollowingRounds.{ends_keep}
-use Rattle.af_session.proofs.NormalSteps.{turn_same, turn_tells, turned_leads}
-use Rattle.af_session.proofs.QueueSeen.{SawUpTo, few_acked, few_seen}
-use Rattle.af_session.proofs.QueueSteps.{learnt_by, step_met, tells_met}
-use Rattle.af_session.proofs.SparedEntries.{entries_first}
+use Rattle.af_rendering.proofs.NormalSteps.{turn_same, turn_tells, turned_leads}
+use Rattle.af_rendering.proofs.QueueSeen.{SawUpTo, few_acked, few_seen}
+use Rattle.af_rendering.proofs.QueueSteps.{learnt_by, step_met, tells_met}
+use Rattle.af_rendering.proofs.SparedEntries.{entries_first}
 use Rattle.af_render_law.specs.Between.{StandsBetween}
 
 -- a turn of the normal mixer leaves what is quiet so

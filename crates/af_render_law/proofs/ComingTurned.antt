@@ -21,11 +21,11 @@ use Rattle.af_server.specs.Order.{ServerState}
 use Rattle.af_stateq.specs.Ends.{Polls, Pushes}
 use Rattle.af_stateq.specs.Laws.{pushed_states}
 use Rattle.af_stateq.specs.Mutates.{at}
-use Rattle.af_session.specs.Leads.{Leads}
+use Rattle.af_rendering.specs.Leads.{Leads}
 use Rattle.af_session.specs.Met.{slot_for}
 use Rattle.af_session.specs.Together.{AreTogether, SessionState}
-use Rattle.af_session.proofs.NormalSteps.{turned_leads}
-use Rattle.af_session.proofs.QueueSeen.{SawUpTo, few_seen}
+use Rattle.af_rendering.proofs.NormalSteps.{turned_leads}
+use Rattle.af_rendering.proofs.QueueSeen.{SawUpTo, few_seen}
 use Rattle.af_render_law.specs.Between.{StandsBetween}
 use Rattle.af_render_law.specs.Places.{IsLentBy, StreamsGo, slot_in, told_by}
 use Rattle.af_render_law.specs.QueueTurned.{QueueKnown}

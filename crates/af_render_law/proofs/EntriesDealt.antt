@@ -8,7 +8,7 @@ use Rattle.af_base.specs.declared.frame.Frame.{Frame}
 use Rattle.af_base.specs.declared.log.CycleEntry.{CycleEntry}
 use Rattle.af_base.specs.Log.{Logged}
 use Rattle.af_model.specs.Journals.{EntrySeen, entries_seen, taken_by}
-use Rattle.af_session.proofs.JournalSound.{same_length}
+use Rattle.af_rendering.proofs.JournalSound.{same_length}
 use Rattle.af_render_law.proofs.Chain.{entries_grown}
 use Rattle.af_render_law.proofs.LogMore.{GrowsBy}
 

@@ -20,7 +20,7 @@ use Rattle.af_server.specs.Order.{ServerState}
 use Rattle.af_stateq.specs.Ends.{Polls}
 use Rattle.af_stateq.specs.Observes.{Observes}
 use Rattle.af_session.specs.FastTurns.{IsCycle}
-use Rattle.af_session.specs.Leads.{InStep, LeadAway}
+use Rattle.af_rendering.specs.Leads.{InStep, LeadAway}
 use Rattle.af_session.specs.Together.{AreTogether, SessionState}
 use Rattle.af_render_law.specs.FastRound.{AreSmall, IsMarkedRun, MixesAreTold}
 use Rattle.af_render_law.specs.Laws.{IsBetween, entry_told}

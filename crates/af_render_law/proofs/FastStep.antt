@@ -8,12 +8,12 @@ use Rattle.af_normal.specs.State.{kept_of}
 use Rattle.af_runs.specs.Sessions.{Session}
 use Rattle.af_script.specs.declared.op.TurnSpec.TheVariants as makes
 use Rattle.af_session.specs.FastTurns.{IsFastTurn, WritesCycle}
-use Rattle.af_session.specs.Leads.{LeadLent}
+use Rattle.af_rendering.specs.Leads.{LeadLent}
 use Rattle.af_session.specs.Rounds.{fast_round, still_round}
-use Rattle.af_session.proofs.Quiet.{IsQuiet}
+use Rattle.af_rendering.proofs.Quiet.{IsQuiet}
 use Rattle.af_session.specs.Together.{SessionState}
 use Rattle.af_session.proofs.FollowingRounds.{ends_keep}
-use Rattle.af_session.proofs.RoundTold.{log_turned}
+use Rattle.af_rendering.proofs.RoundTold.{log_turned}
 use Rattle.af_runs.specs.Blocks.{Marks}
 use Rattle.af_render_law.specs.Between.{StandsBetween}
 use Rattle.af_render_law.proofs.Chain.{FastTurnIsAStep, entries_grown}

@@ -15,10 +15,10 @@ use Rattle.af_server.specs.Order.{ServerState}
 use Rattle.af_stateq.specs.Answers.{sees_same}
 use Rattle.af_stateq.specs.Ends.{Polls, Pushes}
 use Rattle.af_stateq.specs.Observes.{Observes}
-use Rattle.af_session.specs.Leads.{InStep, LeadAway}
+use Rattle.af_rendering.specs.Leads.{InStep, LeadAway}
 use Rattle.af_session.specs.Met.{Met, item_at, slot_for}
 use Rattle.af_session.specs.Together.{AreTogether, SessionState}
-use Rattle.af_session.proofs.QueueSteps.{Finds, finds, finds_none, step_met}
+use Rattle.af_rendering.proofs.QueueSteps.{Finds, finds, finds_none, step_met}
 use Rattle.af_render_law.specs.FastRound.{AreSmall}
 use Rattle.af_render_law.specs.Laws.{IsBetween}
 use Rattle.af_render_law.specs.Own.{SeesOwn}

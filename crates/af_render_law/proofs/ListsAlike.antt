@@ -17,7 +17,7 @@ use Rattle.af_model.specs.declared.shape.Shape.{Shape}
 use Rattle.af_model.specs.Cycles.{Listed, LooksBy, cycle_events}
 use Rattle.af_runs.specs.Found.{take_front}
 use Rattle.af_runs.specs.Fronts.{front_of, fronts_by}
-use Rattle.af_session.proofs.OneTake.{one_take}
+use Rattle.af_rendering.proofs.OneTake.{one_take}
 use Rattle.af_render_law.specs.Alike.{TellAlike}
 use Rattle.af_render_law.specs.Outsides.{AreAlike, ListAlike}
 use Rattle.af_render_law.proofs.KeptAlike.{NoDrops}

@@ -18,7 +18,7 @@ use Rattle.af_session.specs.FastTurns.{IsFastTurn, WritesCycle}
 use Rattle.af_session.specs.Rounds.{Given, IsRound, IsTurnRun, NormalTurned, Turns, fast_round, normal_round, still_round}
 use Rattle.af_session.specs.Together.{SessionState}
 use Rattle.af_session.proofs.FastAdds.{met_keeps, polled_keeps}
-use Rattle.af_session.proofs.RoundTold.{log_turned}
+use Rattle.af_rendering.proofs.RoundTold.{log_turned}
 
 -- b is a with so many more entries at most, and with the frames that they took
 pub record GrowsBy (few : ℕ) (a b : Logged) : Type 0 where

@@ -26,7 +26,7 @@ use Rattle.af_runs.specs.Told.{is_pushed}
 use Rattle.af_server.specs.Order.{ServerState}
 use Rattle.af_stateq.specs.Ends.{Polls, Pushes}
 use Rattle.af_stateq.specs.Mutates.{at}
-use Rattle.af_session.specs.Leads.{InStep}
+use Rattle.af_rendering.specs.Leads.{InStep}
 use Rattle.af_session.specs.Together.{SessionState}
 use Rattle.af_render_law.specs.Places.{StreamsGo, told_by}
 use Rattle.af_render_law.specs.Tells.{is_coming, is_going, items_given, none_comes}

@@ -8,7 +8,7 @@ use Rattle.af_fast.specs.Mixing.{AddsCycle}
 use Rattle.af_fast.specs.Slots.{found}
 use Rattle.af_link.specs.declared.links.Links.{Links}
 use Rattle.af_model.specs.Cycles.{Mixes, cold_done, cycle_of, is_mixed, state_of}
-use Rattle.af_session.specs.Leads.{LeadAway}
+use Rattle.af_rendering.specs.Leads.{LeadAway}
 use Rattle.af_session.specs.Together.{AreTogether, SessionState}
 use Rattle.af_stateq.specs.Shelved.{no_state}
 use Rattle.af_render_law.specs.Laws.{entry_told}

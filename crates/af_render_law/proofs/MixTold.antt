@@ -33,7 +33,7 @@ use Rattle.af_runs.specs.ClientTurns.{Track}
 use Rattle.std.proofs.lemmas.Bool.{cases_lt}
 use Rattle.af_base.specs.declared.event.ServerEvent.{ServerEvent}
 use Rattle.af_stateq.specs.Mutates.{at}
-use Rattle.af_session.specs.Leads.{LeadAway}
+use Rattle.af_rendering.specs.Leads.{LeadAway}
 use Rattle.af_session.specs.Met.{ends_of, item_at, slot_for}
 use Rattle.af_session.specs.Together.{AreTogether, SessionState}
 use Rattle.af_render_law.specs.Laws.{PipeTells}

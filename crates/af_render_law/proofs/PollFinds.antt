@@ -29,7 +29,7 @@ use Rattle.af_stateq.specs.Laws.{is_push, polled_states, pushed_states}
 use Rattle.af_stateq.specs.Observes.{Observes}
 use Rattle.af_stateq.proofs.Exact.{after_ones, after_twos, sees_the_last}
 use Rattle.af_stateq.proofs.Prefix.{polled_in_order}
-use Rattle.af_session.specs.Leads.{HasLearnt, InStep, LeadAway}
+use Rattle.af_rendering.specs.Leads.{HasLearnt, InStep, LeadAway}
 use Rattle.af_session.specs.Met.{Met}
 use Rattle.af_session.specs.Together.{AreTogether, SessionState}
 use Rattle.af_render_law.specs.Tells.{FindsLast, Tells, items_sent, mutated_by}

@@ -18,7 +18,7 @@ use Rattle.af_script.specs.declared.op.TurnSpec.TheVariants as makes
 use Rattle.af_script.specs.Form.{IsScript}
 use Rattle.af_script.specs.Ops.{fast_cycles}
 use Rattle.af_session.specs.Ends.{EndsState}
-use Rattle.af_session.specs.Rendered.{HandsBack, Renders}
+use Rattle.af_rendering.specs.Rendered.{HandsBack, Renders}
 use Rattle.af_session.specs.Together.{SessionState}
 use Rattle.af_turn_law.specs.ListTurns.{AreListTurns, FindShutUnseen}
 use Rattle.af_turn_law.proofs.RunBegins.{forced_run}

@@ -24,7 +24,7 @@ use Rattle.af_runs.specs.Runs.{Run, commands_turned, stream_turned, told_at, tur
 use Rattle.af_runs.specs.Sessions.{Session, setup_of}
 use Rattle.af_server.specs.Order.{ServerState}
 use Rattle.af_session.specs.Together.{AreTogether, SessionState}
-use Rattle.af_session.proofs.Quiet.{IsQuiet}
+use Rattle.af_rendering.proofs.Quiet.{IsQuiet}
 use Rattle.af_render_law.specs.Alike.{TellAlike}
 use Rattle.af_render_law.specs.Places.{StreamsStay}
 use Rattle.af_render_law.specs.Tells.{Tells, TellsCommands, TellsServer, TellsStream}

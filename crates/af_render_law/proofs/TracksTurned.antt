@@ -23,7 +23,7 @@ use Rattle.af_judge.proofs.BlocksTold.{hand-client, server-client}
 use Rattle.af_judge.proofs.EachTrack.{each_at}
 use Rattle.af_session.specs.Met.{Met}
 use Rattle.af_session.specs.Together.{AreTogether, SessionState}
-use Rattle.af_session.proofs.Quiet.{IsQuiet}
+use Rattle.af_rendering.proofs.Quiet.{IsQuiet}
 use Rattle.af_render_law.specs.Between.{StandsBetween}
 use Rattle.af_render_law.specs.Own.{SeesOwn}
 use Rattle.af_render_law.specs.Places.{StreamsGo, StreamsStay}

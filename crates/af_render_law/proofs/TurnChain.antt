@@ -29,8 +29,8 @@ use Rattle.af_session.specs.Rounds.{Given, IsRound, IsTurnRun, NormalTurned, fas
 use Rattle.af_session.proofs.FollowingRounds.{ends_keep}
 use Rattle.af_stateq.specs.Ends.{Pushes}
 use Rattle.af_session.specs.Together.{SessionState}
-use Rattle.af_session.proofs.MetOpen.{clients_ended}
-use Rattle.af_session.proofs.RoundForms.{round_notes}
+use Rattle.af_rendering.proofs.MetOpen.{clients_ended}
+use Rattle.af_rendering.proofs.RoundForms.{round_notes}
 use Rattle.af_client.specs.Order.{ClientState}
 use Rattle.af_render_law.specs.Aware.{KnowsAway}
 use Rattle.af_render_law.specs.Between.{StandsBetween}

@@ -12,7 +12,7 @@ use Rattle.af_runs.specs.Blocks.{Marks, is_tame}
 use Rattle.af_runs.specs.Rounds.{LegalEntry}
 use Rattle.af_runs.specs.Runs.{Run, told_at, with_mix}
 use Rattle.af_runs.specs.Sessions.{Session}
-use Rattle.af_session.specs.Leads.{LeadAway}
+use Rattle.af_rendering.specs.Leads.{LeadAway}
 use Rattle.af_session.specs.Met.{ends_of}
 use Rattle.af_session.specs.Together.{AreTogether, SessionState}
 use Rattle.af_render_law.specs.Laws.{entry_told}

@@ -8,7 +8,7 @@ use Rattle.af_runs.specs.TurnRuns.{IsTurnRun, run_alone}
 use Rattle.af_script.specs.Data.{ScriptData}
 use Rattle.af_script.specs.Form.{IsScript}
 use Rattle.af_session.specs.Ends.{EndsState}
-use Rattle.af_session.specs.Rendered.{HandsBack}
+use Rattle.af_rendering.specs.Rendered.{HandsBack}
 use Rattle.af_session.specs.Shown.{shows, summary_told}
 use Rattle.af_tally.specs.declared.summary.Summary.{Summary}
 use Rattle.af_tally.specs.Summaries.{summary_of}

@@ -8,14 +8,3 @@ pub mod NewTracks
 pub mod NewSession
 pub mod Shown
 pub mod Ends
-pub mod Rendered
-pub mod Alone
-pub mod SideBySide
-pub mod PlayedRuns
-pub mod Spelled
-pub mod Hostile
-pub mod Leads
-pub mod FastSpared
-pub mod Logging
-pub mod Stages
-pub mod PlayKept

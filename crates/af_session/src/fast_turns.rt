@@ -21,15 +21,15 @@ use af_party::Party;
 use af_tally::{Tally, push_pcm};
 use std::sync::ledger::Ledger;
 
-// Whether a cycle mixes.
-pub(crate) fn is_mixed(cycle: Cycle) -> bool
+/// Whether a cycle mixes.
+pub fn is_mixed(cycle: Cycle) -> bool
     ensures { result ≡ is_mixed cycle }
 {
     matches!(cycle, Cycle::Mixed)
 }
 
-// Appends the bytes of a buffer, if it was mixed.
-pub(crate) fn push_written(cycle: Cycle, buffer: &[Frame], bytes: &mut Items<u8>)
+/// Appends the bytes of a buffer, if it was mixed.
+pub fn push_written(cycle: Cycle, buffer: &[Frame], bytes: &mut Items<u8>)
     requires room { length bytes.old.items + 4 * length buffer.now ≤ bytes.old.room }
     ensures { bytes.new ≡ record bytes.old { items = bytes.old.items ++ written cycle buffer.now } }
 {
@@ -76,8 +76,8 @@ fn note_last(fast: &mut FastMixer, tally: &mut Tally)
     tally.note_entry(entry, state.as_ref());
 }
 
-// The mix of a cycle. The entry that it adds is noted, with the state that it used, and the frames that it writes; where it adds none nothing is.
-pub(crate) fn mix_noted<L: Ledger>(
+/// The mix of a cycle. The entry that it adds is noted, with the state that it used, and the frames that it writes; where it adds none nothing is.
+pub fn mix_noted<L: Ledger>(
     fast: &mut FastMixer,
     links: &Links<'_>,
     buffer: &mut [Frame],

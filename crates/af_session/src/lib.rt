@@ -1,33 +1,17 @@
-//! Sessions: the clients, the normal mixer and the fast mixer of a run, their turns, and how they meet.
+//! Sessions: the clients, the normal mixer and the fast mixer of a run, how they are made, their rounds in the order of a script, and how they meet.
 #![tactic(auto)]
 
-mod alone;
-mod answering;
 mod fast_turns;
-mod given_files;
-mod logging;
+mod making;
 mod meetings;
 mod noting;
-mod play_of_all;
-mod playing;
-mod playing_of_all;
-mod rendering;
-mod rounds;
-mod rounds_of_all;
-mod side_by_side;
-mod staging;
-
-pub use answering::PlayFault;
-pub use fast_turns::fast_turn;
-pub use given_files::have_files;
-pub use play_of_all::{play, play_logged};
-pub use rendering::{Ends, Played, render};
-
-mod making;
 mod parties;
+mod rounds;
 mod shared;
 mod tracks;
 
+pub use fast_turns::{fast_turn, is_mixed, mix_noted, push_written};
 pub use making::make;
+pub use noting::{copied_turn, know_frames};
 pub use parties::Parties;
 pub use shared::Shared;

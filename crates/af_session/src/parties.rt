@@ -7,9 +7,9 @@ use std::marker::Model;
 /// The parties of a session: the clients in order of tracks, the normal mixer and the fast mixer.
 #[derive(Drop)]
 pub struct Parties {
-    pub(crate) clients: Vec<Party>,
-    pub(crate) normal: NormalMixer,
-    pub(crate) fast: FastMixer,
+    pub clients: Vec<Party>,
+    pub normal: NormalMixer,
+    pub fast: FastMixer,
 }
 
 impl Model for Parties {

@@ -115,8 +115,8 @@ impl Parties {
         );
     }
 
-    // All parties meet.
-    pub(crate) fn meet_all<L: Ledger>(
+    /// All parties meet.
+    pub fn meet_all<L: Ledger>(
         &mut self,
         links: &Links<'_>,
         tracks: &[TrackSpec],
@@ -135,8 +135,8 @@ impl Parties {
         meet(clients, normal, fast, links, steps);
     }
 
-    // Once the normal mixer has ended every client has.
-    pub(crate) fn end_clients(&mut self)
+    /// Once the normal mixer has ended every client has.
+    pub fn end_clients(&mut self)
         ensures { self.new ≡ with_ends self.old }
     {
         if self.normal.has_ended() {

@@ -1,5 +1,5 @@
 use Rattle.std.proofs.Common.{◌≡◌, Ok, subst}
-use Rattle.af_session.specs.PlayKept.{KeepsPlay}
+use Rattle.af_playing.specs.PlayKept.{KeepsPlay}
 use Rattle.af_commands.specs.Asked.{Loaded, play_job}
 use Rattle.af_commands.specs.Ends.{Makes}
 use Rattle.af_commands.specs.Loading.{loaded_view}

@@ -1,0 +1,41 @@
+-- When a run of all parties goes on, and how many rounds it can have made by then.
+use Rattle.std.proofs.Common.{◌≡◌, ℕ, suc, ◌+◌, ◌<◌, ◌≤◌, ◌&&◌, Bool, true, true≢false, List, [], ◌∷◌, length, slice_get, Some, refl, sym, ap, ◌∙◌, arith}
+use Rattle.std.specs.List.{list_all}
+use Rattle.std.proofs.lemmas.Bool.{eqb-false}
+use Rattle.af_model.specs.Cycles.{has_exit}
+use Rattle.af_model.specs.Journals.{RoundNoted}
+use Rattle.af_party.specs.Parties.{PartyState}
+use Rattle.af_playing.specs.PlayedRuns.{GoesOn, all_ended}
+use Rattle.af_session.specs.Rounds.{Given}
+use Rattle.af_side_by_side.specs.SideBySide.{IsRoundOfAll}
+use Rattle.af_session.specs.Together.{SessionState}
+use Rattle.af_playing.proofs.ExitSeen.{Knowing}
+use Rattle.af_playing.proofs.RoundsLeft.{AllEnded, IsGoing, has_ended, has_entries, going_on}
+
+clients_all : (ps : List PartyState) → ((i : ℕ) (p : PartyState) → slice_get ps i ≡ Some p → p.client.ended ≡ true) → list_all (λ (p : PartyState). p.client.ended) ps ≡ true
+clients_all [] each = refl
+clients_all (p ∷ ps) each = ap (λ (b : Bool). b && list_all (λ (q : PartyState). q.client.ended) ps) (each 0 p refl) ∙ clients_all ps (λ i q at. each (suc i) q at)
+
+-- where every party has ended all have
+whole_end : (s : SessionState) → AllEnded s → all_ended s ≡ true
+whole_end s all =
+    ap (λ (b : Bool). b && (s.fast.exited && list_all (λ (p : PartyState). p.client.ended) s.clients)) all.normal
+    ∙ ap (λ (b : Bool). b && list_all (λ (p : PartyState). p.client.ended) s.clients) all.fast
+    ∙ clients_all s.clients all.clients
+
+some_goes : (s : SessionState) → GoesOn s → AllEnded s → ⊥
+some_goes s goes all = true≢false (sym (whole_end s all) ∙ goes.some)
+
+-- a log that isn't full has room
+pub room_left : (s : SessionState) → length s.fast.log.entries ≤ s.fast.cycles → GoesOn s → length s.fast.log.entries < s.fast.cycles
+room_left s few goes = let other = eqb-false (length s.fast.log.entries) s.fast.cycles goes.room in omega (arith, few, other)
+
+-- where a run goes on after so many rounds, each has added an entry
+pub few_so_far : (i : ℕ) (s : SessionState) → length s.fast.log.entries ≤ s.fast.cycles → GoesOn s → IsGoing i s → i < s.fast.cycles
+few_so_far i s few goes (has_ended all) = absurd (some_goes s goes all)
+few_so_far i s few goes (has_entries more) = let room = room_left s few goes in omega (arith, more, room)
+
+-- and so after one round more
+pub goes_further : (g : Given) (i : ℕ) (s t : SessionState) (r : RoundNoted) (bytes : List ℕ) → Knowing s → s.fast.exited ≡ has_exit s.fast.log.entries → length s.fast.log.entries ≤ s.fast.cycles → GoesOn s → IsGoing i s → IsRoundOfAll g s r bytes t
+    → IsGoing (i + 1) t
+goes_further g i s t r bytes knows is few goes going round = going_on g i s t r bytes knows is (some_goes s goes) (room_left s few goes) going round

@@ -1,0 +1,17 @@
+pub mod PlayCauses
+pub mod LogTold
+pub mod PushedRuns
+pub mod LastExit
+pub mod ExitSeen
+pub mod RoundsLeft
+pub mod RunOfAll
+pub mod RoundsOfAll
+pub mod GoingOn
+pub mod PlayAnswers
+pub mod StagesPlayed
+pub mod KeptPlays
+pub mod ClientsSpelled
+pub mod RunSpelled
+pub mod RunPushed
+pub mod NeverOlder
+pub mod SparedOfAll

@@ -1,0 +1,85 @@
+-- No cycle of a run uses a state older than that of one before it.
+use Rattle.std.proofs.Common.{◌≡◌, ℕ, zero, suc, ◌+◌, ◌≤◌, ◌==◌, ◌||◌, Bool, true, false, fold, List, [], ◌∷◌, ◌++◌, length, map, refl, sym, ap, subst, ◌∙◌, eqb-true}
+use Rattle.std.specs.Bool.{MatchBool}
+use Rattle.af_base.specs.declared.frame.Frame.{Frame}
+use Rattle.af_base.specs.declared.log.Cycle.{Cycle}
+use Rattle.af_base.specs.declared.log.CycleEntry.{CycleEntry}
+use Rattle.af_base.specs.Log.{Logged}
+use Rattle.af_model.specs.Cycles.{is_mixed}
+use Rattle.af_model.specs.JournalForm.{IsWhole}
+use Rattle.af_model.specs.Journals.{EntrySeen, RoundNoted, RoundsNoted, journal_of}
+use Rattle.af_fast.specs.Mixer.{MixerState, is_over}
+use Rattle.af_fast.specs.Mixing.{MixesOnce}
+use Rattle.af_link.specs.declared.links.Links.{Links}
+use Rattle.af_script.specs.Data.{ScriptData}
+use Rattle.af_side_by_side.specs.Alone.{CyclesOn, CyclesOnce, FastTurned, most_cycles}
+use Rattle.af_playing.specs.PlayedRuns.{IsRunOfAll, Plays}
+use Rattle.af_session.specs.Rounds.{Given}
+use Rattle.af_side_by_side.specs.SideBySide.{IsRoundOfAll}
+use Rattle.af_playing.specs.Spelled.{NoneOlder, StepsUp}
+use Rattle.af_session.specs.Together.{SessionState}
+use Rattle.af_session.proofs.FastAdds.{polled_keeps}
+use Rattle.af_rendering.proofs.JournalSound.{dealt, same_entries}
+use Rattle.af_playing.proofs.RoundsOfAll.{log_of_turns}
+
+-- one entry more
+steps_more : (n : ℕ) (es : List CycleEntry) (e : CycleEntry) → StepsUp n es → fold (λ (number : ℕ) (x : CycleEntry). x.state) n es ≤ e.state → e.state ≤ fold (λ (number : ℕ) (x : CycleEntry). x.state) n es + 1 → StepsUp n (es ++ e ∷ [])
+steps_more n [] e steps low high = (low, high, tt)
+steps_more n (x ∷ es) e steps low high = (steps.0, steps.1, steps_more x.state es e steps.2 low high)
+
+abbrev Steps : Logged → Type 0
+Steps log = StepsUp 0 log.entries
+
+-- a call of mix
+mix_steps : (m m' : MixerState) (out out' : List Frame) (answer : Cycle) → MixesOnce m out answer m' out' → Steps m.log → Steps m'.log
+mix_steps m m' out out' answer x steps = by_exit m.exited refl
+  where
+    stays : m'.log ≡ m.log → Steps m'.log
+    stays same = subst Steps (sym same) steps
+
+    by_length : (full : Bool) → m.exited ≡ false → (length m.log.entries == m.cycles) ≡ full → Steps m'.log
+    by_length true runs is = stays (ap (λ (y : MixerState). y.log) (x.spent runs (eqb-true (length m.log.entries) m.cycles is)).1)
+    by_length false runs is =
+        let goes : is_over m ≡ false = ap (λ (b : Bool). b || (length m.log.entries == m.cycles)) runs ∙ is in
+        let done = x.adds goes in
+        subst (StepsUp 0) (sym done.2.entries) (steps_more 0 m.log.entries done.0 steps done.2.legal.follows.0 done.2.legal.follows.1)
+
+    by_exit : (exited : Bool) → m.exited ≡ exited → Steps m'.log
+    by_exit true is = stays (ap (λ (y : MixerState). y.log) (x.exited is).1)
+    by_exit false is = by_length (length m.log.entries == m.cycles) is refl
+
+-- a cycle, some of them, and a turn
+once_steps : (links : Links) (m m' : MixerState) (answer : Cycle) (bytes : List ℕ) → CyclesOnce links m answer bytes m' → Steps m.log → Steps m'.log
+once_steps links m m' answer bytes w steps = mix_steps w.polled m' w.before w.after answer w.mixes (subst Steps (sym (polled_keeps m w.polled w.adopts).0) steps)
+
+steps_by : (next m' : MixerState) (back : List ℕ) (mixed : Bool) → Steps next.log → (mixed ≡ true → Steps m'.log) → (mixed ≡ false → (back ≡ []) × (m' ≡ next)) → Steps m'.log
+steps_by next m' back true first goes stops = goes refl
+steps_by next m' back false first goes stops = subst (λ (x : MixerState). Steps x.log) (sym (stops refl).1) first
+
+cycles_step : (links : Links) (left : ℕ) (m m' : MixerState) (bytes : List ℕ) → CyclesOn links left m bytes m' → Steps m.log → Steps m'.log
+cycles_step links zero m m' bytes turn steps = subst (λ (x : MixerState). Steps x.log) (sym turn.1) steps
+cycles_step links (suc left) m m' bytes (answer, next, front, back, cycle, bytes_are, more, over) steps =
+    let first : Steps next.log = once_steps links m next answer front cycle steps in
+    steps_by next m' back (is_mixed answer) first (λ yes. cycles_step links left next m' back (more yes) first) over
+
+turn_steps : (links : Links) (m m' : MixerState) (bytes : List ℕ) → FastTurned links m bytes m' → Steps m.log → Steps m'.log
+turn_steps links m m' bytes turned steps = by_exit m.exited turned
+  where
+    by_exit : (exited : Bool) → MatchBool exited ((bytes ≡ []) × (m' ≡ m)) (CyclesOn links most_cycles m bytes m') → Steps m'.log
+    by_exit true done = subst (λ (x : MixerState). Steps x.log) (sym done.1) steps
+    by_exit false done = cycles_step links most_cycles m m' bytes done steps
+
+-- a run
+run_steps : (g : Given) (s : SessionState) (rounds : List RoundNoted) (bytes : List ℕ) (t : SessionState) → IsRunOfAll g s rounds bytes t → Steps s.fast.log → Steps t.fast.log
+run_steps g s [] bytes t run steps = subst (λ (x : SessionState). Steps x.fast.log) (sym run.1) steps
+run_steps g s (r ∷ rs) bytes t run steps =
+    let round : IsRoundOfAll g s r run.0 run.2 = run.5 in
+    run_steps g run.2 rs run.1 t run.6 (subst Steps (sym (log_of_turns g s r run.0 run.2 round)) (turn_steps round.links s.fast round.turned.fast run.0 round.plays.fast steps))
+
+-- the journal of one that was played since its session was made
+pub none_older : (script : ScriptData) (files : List (List Frame)) (noted : RoundsNoted) (t : SessionState) → Plays script files noted.rounds t → IsWhole noted t.fast.log → NoneOlder (journal_of noted t.fast.log)
+none_older script files noted t played whole =
+    let first : Steps played.start.fast.log = subst (λ (m : MixerState). Steps m.log) (sym played.new.fast) tt in
+    let all : Steps t.fast.log = run_steps (record { tracks = script.tracks; files = files }) played.start noted.rounds played.bytes t played.run first in
+    let log : Logged = t.fast.log in
+    subst (StepsUp 0) (sym (ap (map (λ (x : EntrySeen). x.entry)) (dealt noted log whole.0) ∙ same_entries log.frames log.entries)) all

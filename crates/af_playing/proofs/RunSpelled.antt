@@ -1,0 +1,138 @@
+-- In a run of all parties each client's lists are spelled by just the calls that the journal tells of it.
+use Rattle.std.proofs.Common.{◌≡◌, ℕ, Bool, true, false, if◌then◌else◌, List, [], ◌∷◌, ◌++◌, length, map, option_map, slice_get, Option, Some, None, refl, sym, ap, subst, ◌∙◌, append_assoc, append-nil, drop, take, ⊎_elim, arith}
+use Rattle.std.specs.Prelude.{flat_map, slice_index_or}
+use Rattle.std.proofs.lemmas.List.Concat.{flat_map-cons}
+use Rattle.std.proofs.lemmas.Option.{get_or_from_slice_get, none-some, same_Some, slice_get-map, slice_get_cases, slice_get_within}
+use Rattle.af_base.specs.declared.event.ClientCall.{ClientCall}
+use Rattle.af_base.specs.declared.frame.Frame.{Frame}
+use Rattle.af_cblk.specs.declared.view.ClientPart.{ClientPart}
+use Rattle.af_cblk.specs.Sides.{HandSide, Made}
+use Rattle.af_client.specs.Order.{ClientState}
+use Rattle.af_model.specs.Journals.{EntrySeen, JournalData, RoundNoted, RoundSeen, rounds_seen}
+use Rattle.af_model.specs.Spelled.{Kind, stream, commands}
+use Rattle.af_normal.specs.Meeting.{MeetsStream, client_knows}
+use Rattle.af_script.specs.Data.{ScriptData}
+use Rattle.af_server.specs.Order.{ServerState}
+use Rattle.af_session.specs.Ends.{EndsState}
+use Rattle.af_session.specs.Met.{MeetsAway, Spot, SpotMet, TrackMet}
+use Rattle.af_session.specs.NewSession.{IsNewSession, tracks_of}
+use Rattle.af_session.specs.NewTracks.{IsTrackAt}
+use Rattle.af_party.specs.Parties.{PartyState, track_of}
+use Rattle.af_playing.specs.PlayedRuns.{HandsBackRun, IsRunOfAll}
+use Rattle.af_session.specs.Rounds.{Given, end_party, file_at, ops_at}
+use Rattle.af_session.specs.Shares.{SharedState}
+use Rattle.af_side_by_side.specs.SideBySide.{ClientPlayed, IsRoundOfAll}
+use Rattle.af_playing.specs.Spelled.{BothSpell, CallsStandOnce, IsSpelled, Spells, calls_told}
+use Rattle.af_session.specs.Together.{SessionState}
+use Rattle.af_playing.proofs.ClientsSpelled.{spelled_met, spelled_none, turn_spells}
+use Rattle.af_side_by_side.proofs.ReadyOfAll.{zip_at}
+
+-- ## A meeting
+
+module _ (calls : List ClientCall) where
+  knows : (kind : Kind) (c d : ClientState) (s : ServerState) → d ≡ client_knows c s → Spells kind calls c → Spells kind calls d
+  knows kind c d s is spells = subst (Spells kind calls) (sym is) (spelled_met kind c.pass.part.shape.frames c.pass.part.shape.base calls c.pass.part.events (length s.pass.part.events) spells)
+
+  stream_met : (block : Made) (o : Option ServerState) (a : Spot) (c : ClientState) (b : Spot) (d : ClientState) → SpotMet block o a c b d → Spells stream calls c → Spells stream calls d
+  stream_met block (Some s) a c b d met spells = home a.hand met.0
+    where
+      home : (h : Option HandSide) → MeetsStream block (Some s) h c b.stream b.hand d → Spells stream calls d
+      home None m = knows stream c d s m.3.client spells
+      home (Some h) m = knows stream c d s m.4.client spells
+  stream_met block None a c b d met spells = away a.held met.met
+    where
+      away : (o : Option ServerState) → MeetsAway block o met.hand c b.held met.hand' d → Spells stream calls d
+      away None m = subst (Spells stream calls) (sym m.1.client) spells
+      away (Some s) m = knows stream c d s m.2.client spells
+
+  track_met : (a b : Spot) (p q : PartyState) → TrackMet a b p q → BothSpell calls p → BothSpell calls q
+  track_met a b p q met spells = (stream_met _ a.stream a p.stream b q.stream met.streamed spells.0, knows commands p.command q.command met.command met.commanded.client spells.1)
+
+-- ## A round
+
+-- the lists of each client are spelled by these calls of it
+abbrev AllSpell : (ℕ → List ClientCall) → SessionState → Type 0
+AllSpell calls s = (i : ℕ) (p : PartyState) → slice_get s.clients i ≡ Some p → BothSpell (calls i) p
+
+-- what stands at a place before the ends
+ended_from : (ps : List PartyState) (ended : Bool) (i : ℕ) (q : PartyState) (s : SessionState) → s.clients ≡ ps → slice_get (if ended then record s { clients = map end_party s.clients } else s).clients i ≡ Some q
+    → (p : PartyState) × (slice_get ps i ≡ Some p) × ((calls : List ClientCall) → BothSpell calls p → BothSpell calls q)
+ended_from ps false i q s is at = (q, ap (λ (l : List PartyState). slice_get l i) (sym is) ∙ at, λ calls spells. spells)
+ended_from ps true i q s is at = by_place (slice_get ps i) refl
+  where
+    there : option_map end_party (slice_get ps i) ≡ Some q
+    there = sym (slice_get-map end_party ps i) ∙ ap (λ (l : List PartyState). slice_get (map end_party l) i) (sym is) ∙ at
+
+    by_place : (o : Option PartyState) → slice_get ps i ≡ o → (p : PartyState) × (slice_get ps i ≡ Some p) × ((calls : List ClientCall) → BothSpell calls p → BothSpell calls q)
+    by_place None e = absurd (none-some q (sym (ap (option_map end_party) e) ∙ there))
+    by_place (Some p) e =
+        let same : end_party p ≡ q = same_Some (end_party p) q (sym (ap (option_map end_party) e) ∙ there) in
+        (p, e, λ calls spells. subst (BothSpell calls) same spells)
+
+module _ (g : Given) (s : SessionState) (r : RoundNoted) (bytes : List ℕ) (t : SessionState) (round : IsRoundOfAll g s r bytes t) where
+  abbrev x : SessionState
+  x = round.turned
+
+  -- whoever met had made its turn
+  met_from : (i : ℕ) (q : PartyState) → slice_get round.met.clients i ≡ Some q → (p : PartyState) × (slice_get x.clients i ≡ Some p) × ((calls : List ClientCall) → BothSpell calls p → BothSpell calls q)
+  met_from i q at = ⊎_elim
+      (λ h. (h.0, h.2, λ calls spells. track_met calls _ _ h.0 q (round.meets.tracks.met i h.0 q h.1 h.2 at) spells))
+      (λ h. (q, sym (round.meets.tracks.rest i h.0).1 ∙ at, λ calls spells. spells))
+      (slice_get_cases x.clients i).1
+
+  -- the calls noted of a client are those of its turn
+  calls_noted : (i : ℕ) (p : PartyState) → slice_get x.clients i ≡ Some p → slice_index_or r.calls i [] ≡ p.calls.items
+  calls_noted i p at =
+      let f : PartyState → List ClientCall = λ (y : PartyState). y.calls.items in
+      ap (λ (y : RoundNoted). slice_index_or y.calls i []) round.told ∙ get_or_from_slice_get (map f x.clients) i (f p) [] (slice_get-map f x.clients i ∙ ap (option_map f) at)
+
+  pub round_spells : (calls : ℕ → List ClientCall) → AllSpell calls s → AllSpell (λ i. calls i ++ slice_index_or r.calls i []) t
+  round_spells calls spells i q at =
+      let last = ended_from round.met.clients round.met.normal.ended i q round.met refl (ap (λ (y : SessionState). slice_get y.clients i) (sym round.ends) ∙ at) in
+      let made = met_from i last.0 last.1 in
+      let first = zip_at (ClientPlayed g) s.clients x.clients i made.0 round.plays.clients made.1 in
+      let before : BothSpell (calls i) first.0 = spells i first.0 first.1 in
+      let turned : BothSpell (calls i ++ made.0.calls.items) made.0 =
+      turn_spells (calls i) made.0.calls.items (track_of (ops_at g first.0.track) (file_at g first.0.track) first.0) (track_of (ops_at g first.0.track) (file_at g first.0.track) made.0) first.2.turned before in
+      last.2 (calls i ++ slice_index_or r.calls i [])
+      (made.2 (calls i ++ slice_index_or r.calls i []) (subst (λ (l : List ClientCall). BothSpell (calls i ++ l) made.0) (sym (calls_noted i made.0 made.1)) turned))
+
+-- ## A run
+
+-- the calls of a client over rounds noted
+abbrev calls_over : List RoundNoted → ℕ → List ClientCall
+calls_over rounds i = flat_map (λ (r : RoundNoted). slice_index_or r.calls i []) rounds
+
+run_spells : (g : Given) (s : SessionState) (rounds : List RoundNoted) (bytes : List ℕ) (t : SessionState) → IsRunOfAll g s rounds bytes t → (calls : ℕ → List ClientCall) → AllSpell calls s → AllSpell (λ i. calls i ++ calls_over rounds i) t
+run_spells g s [] bytes t run calls spells = λ i p at.
+    subst (λ (l : List ClientCall). BothSpell l p) (sym (append-nil (calls i))) (spells i p (ap (λ (y : SessionState). slice_get y.clients i) (sym run.1) ∙ at))
+run_spells g s (r ∷ rs) bytes t run calls spells = λ i p at.
+    let here : List ClientCall = slice_index_or r.calls i [] in
+    subst (λ (l : List ClientCall). BothSpell l p) (append_assoc (calls i) here (calls_over rs i) ∙ ap (λ (l : List ClientCall). calls i ++ l) (sym (flat_map-cons (λ (y : RoundNoted). slice_index_or y.calls i []) r rs)))
+    (run_spells g run.2 rs run.1 t run.6 (λ k. calls k ++ slice_index_or r.calls k []) (round_spells g s r run.0 run.2 run.5 calls spells) i p at)
+
+-- ## The journal
+
+calls_dealt : (entries : List EntrySeen) (rounds : List RoundNoted) (i : ℕ) → flat_map (λ (r : RoundSeen). slice_index_or r.calls i []) (rounds_seen entries rounds) ≡ calls_over rounds i
+calls_dealt entries [] i = refl
+calls_dealt entries (r ∷ rs) i =
+    flat_map-cons (λ (y : RoundSeen). slice_index_or y.calls i []) (record { calls = r.calls; turn = r.turn; entries = take r.cycles entries }) (rounds_seen (drop r.cycles entries) rs)
+    ∙ ap (λ (l : List ClientCall). slice_index_or r.calls i [] ++ l) (calls_dealt (drop r.cycles entries) rs i)
+    ∙ sym (flat_map-cons (λ (y : RoundNoted). slice_index_or y.calls i []) r rs)
+
+-- a new client's lists are empty
+new_spells : (script : ScriptData) (shared : SharedState) (s : SessionState) → IsNewSession script shared s → AllSpell (λ i. []) s
+new_spells script shared s new i p at =
+    let one : IsTrackAt script.version i script.tracks shared.streams shared.commands s.clients (tracks_of script s.normal) = new.tracks.each i (omega (arith, slice_get_within s.clients i p at, new.tracks.parties)) in
+    let is : one.party ≡ p = same_Some one.party p (sym one.party_at ∙ at) in
+    subst (BothSpell []) is (
+      subst (λ (x : ClientPart). IsSpelled stream x.shape.frames x.shape.base [] x.events) (sym one.new.party.stream.part) (spelled_none stream _ _),
+      subst (λ (x : ClientPart). IsSpelled commands x.shape.frames x.shape.base [] x.events) (sym one.new.party.command.part) (spelled_none commands _ _),
+    )
+
+pub calls_stand_once : (ended : Bool) (script : ScriptData) (files : List (List Frame)) (j : JournalData) (e : EndsState) → HandsBackRun ended script files j e → CallsStandOnce j e
+calls_stand_once ended script files j e h i p at =
+    let played = h.played in
+    let all = run_spells (record { tracks = script.tracks; files = files }) played.start h.rounds played.bytes h.parties played.run (λ k. []) (new_spells script played.shared played.start played.new) in
+    let told : calls_told j i ≡ calls_over h.rounds i = ap (λ (x : JournalData). calls_told x i) h.journal_is ∙ calls_dealt _ h.rounds i in
+    subst (λ (l : List ClientCall). BothSpell l p) (sym told) (all i p (ap (λ (x : EndsState). slice_get x.clients i) (sym h.ends_are) ∙ at))

@@ -1,0 +1,50 @@
+-- What a stage comes to whose rounds were played.
+use Rattle.std.proofs.Common.{◌≡◌, ◌≤◌, ℕ, List, [], Result, Ok, Err, OnOk, length, false, true, sym, ap, subst, ◌∙◌}
+use Rattle.af_base.specs.declared.frame.Frame.{Frame}
+use Rattle.af_link.specs.declared.links.Links.{Links}
+use Rattle.af_script.specs.Data.{ScriptData}
+use Rattle.af_script.specs.declared.track.TrackSpec.{TrackSpec}
+use Rattle.af_rendering.specs.declared.staging.Stage.{Stage}
+use Rattle.af_session.specs.NewSession.{IsNewSession}
+use Rattle.af_playing.specs.PlayedRuns.{RunsOfAll, all_ended, is_full}
+use Rattle.af_session.specs.Rounds.{Given}
+use Rattle.af_session.specs.Shares.{SharedState}
+use Rattle.af_playing.specs.PlayedStages.{HasPlayed}
+use Rattle.af_session.specs.Together.{SessionState}
+use Rattle.af_rendering.proofs.FirstRound.{frames_first}
+use Rattle.af_playing.proofs.RoundsOfAll.{tally_of_all}
+use Rattle.af_playing.proofs.RunOfAll.{plays}
+use Rattle.af_rendering.proofs.ShownWhole.{released_few}
+use Rattle.af_rendering.proofs.Spared.{spares_noted}
+use Rattle.af_rendering.proofs.StagesRun.{NotedOn}
+
+module _ (script : ScriptData) (shared : SharedState) (was : SessionState) (new : IsNewSession script shared was) (files : List (List Frame)) (links : Links) (tracks : List TrackSpec) (here : tracks ≡ script.tracks) (s : Stage) (room : s.room.released ≡ record { items = []; room = length script.tracks }) where
+  abbrev given : Given
+  given = record { tracks = tracks; files = files }
+
+  -- of all rounds
+  played_on : (cycles : ℕ) → cycles ≡ script.cycles → NotedOn links given (length s.rounds.rounds) was s → RunsOfAll given was s.rounds.rounds s.parties → (all_ended s.parties ≡ false → is_full s.parties ≡ true) → length s.rounds.rounds ≤ cycles → HasPlayed script files s
+  played_on cycles are noted ran over few =
+      let n : ℕ = length s.rounds.rounds in
+      record {
+        all = plays script shared was new files s.rounds.rounds s.parties (subst (λ (x : List TrackSpec). RunsOfAll (record { tracks = x; files = files }) was s.rounds.rounds s.parties) here ran);
+        over = over;
+        few = subst (λ (x : ℕ). length s.rounds.rounds ≤ x) are few;
+        noted = record {
+          tracks = noted.tracks ∙ ap (λ (ts : List TrackSpec). length ts) here;
+          whole = noted.whole;
+          form = noted.form;
+          count = sym noted.ready.given.0 ∙ ap (λ (ts : List TrackSpec). length ts) here;
+          tally = tally_of_all script shared was new links given n s.rounds s.parties s.room.tally noted.ready ran noted.tracks noted.frames noted.tally;
+          released = released_few links given n s.parties noted.ready;
+          room = room;
+          spared = spares_noted script.frames s.rounds s.parties.fast.log s.parties.normal.mutator.past.events s.parties (sym noted.ready.given.0 ∙ sym noted.tracks) noted.spares;
+        };
+        frames = noted.frames ∙ frames_first script shared was new files;
+        entries = noted.ready.together.fast.0.room.entries.0;
+      }
+
+  pub has_played : {T E : Type 0} (r : Result T E) (cycles : ℕ) → cycles ≡ script.cycles → OnOk r (NotedOn links given (length s.rounds.rounds) was s) → OnOk r (RunsOfAll given was s.rounds.rounds s.parties) → OnOk r (all_ended s.parties ≡ false → is_full s.parties ≡ true)
+      → OnOk r (length s.rounds.rounds ≤ cycles) → OnOk r (HasPlayed script files s)
+  has_played (Ok x) cycles are noted ran over few = played_on cycles are noted ran over few
+  has_played (Err e) cycles are noted ran over few = tt

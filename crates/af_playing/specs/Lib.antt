@@ -1,0 +1,4 @@
+pub mod PlayedRuns
+pub mod Spelled
+pub mod PlayedStages
+pub mod PlayKept

@@ -1,0 +1,132 @@
+//! What a play answers, once its parties were played to their end, or to that of the log.
+ghost use Rattle.std.specs.Prelude.{◌≡◌, ◌⊎◌, true, false, length, IfErr, IfOk, OnOk};
+ghost use Rattle.af_runs.specs.LegalRuns.{IsCutRun, IsLegalRun};
+ghost use Rattle.af_model.specs.Journals.{journal_of};
+ghost use Rattle.af_playing.specs.declared.answering.PlayFault.TheVariants.{CycleLimit, Memory as MemoryFault};
+ghost use Rattle.af_session.specs.Ends.{ends_from};
+ghost use Rattle.af_playing.specs.PlayedRuns.{AtLimit};
+ghost use Rattle.af_playing.specs.PlayKept.{Answers};
+ghost use Rattle.af_rendering.specs.Rendered.{HaveFiles};
+ghost use Rattle.af_session.specs.Shown.{summary_told};
+ghost use Rattle.af_playing.specs.PlayedStages.{HasPlayed};
+
+use crate::playing_of_all::have_ended;
+use af_audit::judge;
+use af_base::Memory;
+use af_io::{Pcm, StoreError};
+use af_model::Journal;
+use af_rendering::{Ends, Played, Stage, hand_over};
+use af_script::Script;
+use std::alloc::Global;
+use std::mem::drop;
+
+/// Why a play was not played to its end.
+#[derive(Drop)]
+pub enum PlayFault {
+    /// The store failed, and its count of faults rose.
+    Store,
+    /// The log has all of its entries, and some party has not ended. The journal is that of the rounds that were made.
+    CycleLimit { journal: Journal, ends: Ends },
+    /// Memory ran out.
+    Memory,
+}
+
+impl From<StoreError> for PlayFault {
+    ghost use Rattle.std.specs.Prelude.{◌≡◌};
+    ghost use Rattle.af_playing.specs.PlayedRuns.{fault_of};
+
+    ghost from_gives = { λ error fault. fault ≡ fault_of error };
+
+    fn from(error: StoreError) -> Self {
+        match error {
+            StoreError::Failed => PlayFault::Store,
+            StoreError::Memory => PlayFault::Memory,
+        }
+    }
+}
+
+impl From<Memory> for PlayFault {
+    ghost use Rattle.std.specs.Prelude.{◌≡◌};
+    ghost use Rattle.af_playing.specs.declared.answering.PlayFault.TheVariants.{Memory};
+
+    ghost from_gives = { λ _ fault. fault ≡ Memory };
+
+    fn from(_: Memory) -> Self {
+        PlayFault::Memory
+    }
+}
+
+// Judges a journal by itself, as anyone may: Memory says that there was none, that the journal isn't legal, or that it is longer than the judge counts. No play has come to the last two.
+fn judged(
+    alloc: Global,
+    script: &Script,
+    files: &[Pcm],
+    journal: &Journal,
+    cut: bool,
+) -> Result<(), Memory>
+    requires tracks { journal.now.tracks ≡ length script.now.tracks }
+    requires files { length files.now ≡ length script.now.tracks }
+    ensures legal { cut ≡ false → OnOk result (IsLegalRun script.now files.now journal.now) }
+    ensures cut { cut ≡ true → OnOk result (IsCutRun script.now files.now journal.now) }
+{
+    if judge(alloc, script, files, journal, cut)? {
+        return Ok(());
+    }
+    Err(Memory)
+}
+
+// What is handed back where all parties have ended, once the journal was judged.
+fn whole(stage: Stage, alloc: Global, script: &Script, files: &[Pcm]) -> Result<Played, PlayFault>
+    requires played { HasPlayed script.now files.now stage }
+    requires files { HaveFiles (record { tracks = script.now.tracks; files = files.now }) }
+    ensures journal { IfOk result (λ p. p.journal ≡ journal_of stage.rounds stage.parties.fast.log) }
+    ensures ends { IfOk result (λ p. p.ends ≡ ends_from stage.parties) }
+    ensures summary { IfOk result (λ p. p.summary ≡ summary_told script.now.frames p.journal p.ends) }
+    ensures legal { IfOk result (λ p. IsLegalRun script.now files.now p.journal) }
+    ensures memory { IfErr result (λ f. f ≡ MemoryFault) }
+{
+    let played = stage.finish();
+    match judged(alloc, script, files, &played.journal, false) {
+        Ok(()) => Ok(played),
+        Err(_) => {
+            drop(played);
+            Err(PlayFault::Memory)
+        }
+    }
+}
+
+// What is handed back where the log is full first, once the journal was judged.
+fn cut_off(stage: Stage, alloc: Global, script: &Script, files: &[Pcm]) -> Result<Played, PlayFault>
+    requires played { HasPlayed script.now files.now stage }
+    requires files { HaveFiles (record { tracks = script.now.tracks; files = files.now }) }
+    ensures never { IfOk result (λ _. ⊥) }
+    ensures cut { IfErr result (λ f. (f ≡ CycleLimit (journal_of stage.rounds stage.parties.fast.log) (ends_from stage.parties)) ⊎ (f ≡ MemoryFault)) }
+    ensures cut_run { IfErr result (AtLimit (λ journal _. IsCutRun script.now files.now journal)) }
+{
+    let (journal, ends) = hand_over(stage.parties, stage.rounds);
+    match judged(alloc, script, files, &journal, true) {
+        Ok(()) => Err(PlayFault::CycleLimit { journal, ends }),
+        Err(_) => {
+            drop(journal);
+            drop(ends);
+            Err(PlayFault::Memory)
+        }
+    }
+}
+
+/// What a play answers of a stage that was played to its end, or to that of the log, once its journal was judged.
+pub fn answer(
+    stage: Stage,
+    alloc: Global,
+    script: &Script,
+    files: &[Pcm],
+) -> Result<Played, PlayFault>
+    requires played { HasPlayed script.now files.now stage }
+    requires files { HaveFiles (record { tracks = script.now.tracks; files = files.now }) }
+    ensures { Answers script.now files.now stage result }
+{
+    if have_ended(&stage.parties) {
+        return whole(stage, alloc, script, files);
+    }
+    cut_off(stage, alloc, script, files)
+}

@@ -1,0 +1,64 @@
+-- The form and the sound of the journal of a run.
+use Rattle.std.proofs.Common.{◌≡◌, ℕ, suc, All, List, [], ◌∷◌, ◌++◌, length, map, take, drop, refl, sym, ap, subst, ◌∙◌, arith}
+use Rattle.std.proofs.lemmas.List.{length-drop, take-append-drop}
+use Rattle.std.proofs.lemmas.List.Elements.{All-cons, All-head, All-nil, All-tail}
+use Rattle.af_base.specs.declared.frame.Frame.{Frame}
+use Rattle.af_base.specs.declared.log.CycleEntry.{CycleEntry}
+use Rattle.af_base.specs.Log.{Logged}
+use Rattle.af_base.specs.Sample.{IsFrame}
+use Rattle.af_model.specs.Journals.{EntrySeen, RoundNoted, RoundsNoted, cycles_of, entries_of, entries_seen, frames_of, journal_of, rounds_seen, taken_by}
+use Rattle.af_model.specs.JournalForm.{AreEntries, IsJournal, IsRound, IsWhole}
+use Rattle.af_model.specs.Numbers.{HasRanges}
+use Rattle.af_tally.specs.Sound.{pcm_of}
+use Rattle.af_runs.specs.Pcm.{entries_pcm, journal_pcm}
+use Rattle.af_rendering.proofs.RoundForms.{AreNoted, IsNoted}
+
+-- the entries of a log stay
+pub same_entries : (frames : List Frame) (entries : List CycleEntry) → map (λ (x : EntrySeen). x.entry) (entries_seen frames entries) ≡ entries
+same_entries frames [] = refl
+same_entries frames (e ∷ es) = ap (λ (l : List CycleEntry). e ∷ l) (same_entries (drop (taken_by e) frames) es)
+
+pub same_length : (frames : List Frame) (entries : List CycleEntry) → length (entries_seen frames entries) ≡ length entries
+same_length frames [] = refl
+same_length frames (e ∷ es) = ap suc (same_length (drop (taken_by e) frames) es)
+
+-- all are dealt out where the rounds have as many
+all_dealt : (entries : List EntrySeen) (rounds : List RoundNoted) → cycles_of rounds ≡ length entries → entries_of (rounds_seen entries rounds) ≡ entries
+all_dealt [] [] same = refl
+all_dealt (e ∷ es) [] same = absurd (omega arith)
+all_dealt entries (r ∷ rs) same = let left = length-drop r.cycles entries in
+    ap (λ (l : List EntrySeen). take r.cycles entries ++ l) (all_dealt (drop r.cycles entries) rs (omega arith)) ∙ take-append-drop r.cycles entries
+
+-- the entries of the journal are those of the log
+pub dealt : (noted : RoundsNoted) (log : Logged) → cycles_of noted.rounds ≡ length log.entries → entries_of (journal_of noted log).rounds ≡ entries_seen log.frames log.entries
+dealt noted log count = all_dealt (entries_seen log.frames log.entries) noted.rounds (count ∙ sym (same_length log.frames log.entries))
+
+-- ## Form
+
+rounds_form : (tracks : ℕ) (entries : List EntrySeen) (rounds : List RoundNoted) → All (IsNoted tracks) rounds → All (IsRound tracks) (rounds_seen entries rounds)
+rounds_form tracks entries [] all = All-nil (IsRound tracks)
+rounds_form tracks entries (r ∷ rs) all =
+    let here = All-head (IsNoted tracks) r rs all in
+    All-cons (IsRound tracks) (record { calls = r.calls; turn = r.turn; entries = take r.cycles entries }) (rounds_seen (drop r.cycles entries) rs)
+    (record { calls = here.calls; turn = here.turn })
+    (rounds_form tracks (drop r.cycles entries) rs (All-tail (IsNoted tracks) r rs all))
+
+module _ (tracks : ℕ) (noted : RoundsNoted) (log : Logged) (are : AreNoted tracks noted log) (samples : All IsFrame log.frames) where
+  pub journal_whole : IsWhole noted log
+  journal_whole = (are.count, (are.form samples).frames_are)
+
+  pub journal_form : HasRanges (journal_of noted log) → IsJournal (journal_of noted log)
+  journal_form ranges = record {
+    rounds = subst (λ (n : ℕ). All (IsRound n) (journal_of noted log).rounds) (sym are.tracks_are) (rounds_form tracks (entries_seen log.frames log.entries) noted.rounds are.each);
+    entries = subst (AreEntries 0) (sym (dealt noted log are.count)) (are.form samples).form;
+    numbers = ranges;
+  }
+
+-- ## Sound
+
+-- the journal sounds as the log does
+pub journal_sounds : (len : ℕ) (noted : RoundsNoted) (log : Logged) → IsWhole noted log → journal_pcm len (journal_of noted log) ≡ pcm_of len log
+journal_sounds len noted log whole =
+    ap (λ (es : List EntrySeen). entries_pcm len (frames_of es) (map (λ (x : EntrySeen). x.entry) es)) (dealt noted log whole.0)
+    ∙ ap (λ (es : List CycleEntry). entries_pcm len (frames_of (entries_seen log.frames log.entries)) es) (same_entries log.frames log.entries)
+    ∙ ap (λ (fs : List Frame). entries_pcm len fs log.entries) whole.1

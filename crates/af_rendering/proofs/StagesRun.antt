@@ -1,0 +1,85 @@
+-- What a stage comes to whose turns were played.
+use Rattle.std.proofs.Common.{◌≡◌, ℕ, List, [], Some, Result, Ok, Err, OnOk, length, sym, ap, subst, ◌∙◌}
+use Rattle.af_base.specs.declared.frame.Frame.{Frame}
+use Rattle.af_base.specs.declared.state.FastState.{FastState}
+use Rattle.af_io.specs.Files.{Files, SetsFile}
+use Rattle.af_link.specs.declared.links.Links.{Links}
+use Rattle.af_model.specs.JournalForm.{IsJournal, IsWhole}
+use Rattle.af_model.specs.Journals.{journal_of}
+use Rattle.af_script.specs.Data.{ScriptData}
+use Rattle.af_script.specs.declared.op.TurnSpec.{TurnSpec}
+use Rattle.af_script.specs.declared.track.TrackSpec.{TrackSpec}
+use Rattle.af_rendering.specs.declared.staging.Stage.{Stage}
+use Rattle.af_rendering.specs.FastSpared.{FastSparesSoFar}
+use Rattle.af_rendering.specs.Hostile.{SparesSoFar}
+use Rattle.af_session.specs.NewSession.{IsNewSession}
+use Rattle.af_rendering.specs.Rendered.{Runs}
+use Rattle.af_session.specs.Rounds.{Given, IsReady}
+use Rattle.af_session.specs.Shares.{SharedState}
+use Rattle.af_session.specs.Shown.{shown_at}
+use Rattle.af_rendering.specs.Stages.{HasRendered}
+use Rattle.af_session.specs.Together.{SessionState}
+use Rattle.af_tally.specs.Sound.{pcm_of}
+use Rattle.af_tally.specs.Tallies.{IsTally}
+use Rattle.af_rendering.proofs.FirstRound.{frames_first, rendered, silent_first}
+use Rattle.af_rendering.proofs.ShownWhole.{released_few, tally_end}
+use Rattle.af_rendering.proofs.Spared.{spares_noted}
+use Rattle.af_rendering.proofs.SparedEntries.{entries_end}
+
+-- the rounds of a stage were noted, as `n` of these tracks and files, behind the parties that it began with
+pub record NotedOn (links : Links) (g : Given) (n : ℕ) (was : SessionState) (s : Stage) : Type 0 where
+  pub ready : IsReady links g n s.parties
+  pub tracks : s.rounds.tracks ≡ length g.tracks
+  pub whole : IsWhole s.rounds s.parties.fast.log
+  pub form : IsJournal (journal_of s.rounds s.parties.fast.log)
+  pub tally : (first : FastState) → IsTally (shown_at first (length g.tracks) s.rounds.rounds s.parties.fast) s.room.tally
+  pub frames : s.parties.fast.frames ≡ was.fast.frames
+  pub spares : SparesSoFar s.rounds.rounds s.parties
+
+pub noted_on : {T E : Type 0} (r : Result T E) (links : Links) (g : Given) (n : ℕ) (was : SessionState) (s : Stage) → OnOk r (IsReady links g n s.parties) → OnOk r (s.rounds.tracks ≡ length g.tracks) → OnOk r (IsWhole s.rounds s.parties.fast.log)
+    → OnOk r (IsJournal (journal_of s.rounds s.parties.fast.log)) → OnOk r ((first : FastState) → IsTally (shown_at first (length g.tracks) s.rounds.rounds s.parties.fast) s.room.tally) → OnOk r (s.parties.fast.frames ≡ was.fast.frames)
+    → OnOk r (SparesSoFar s.rounds.rounds s.parties) → OnOk r (NotedOn links g n was s)
+noted_on (Ok x) links g n was s ready tracks whole form tally frames spares = record { ready = ready; tracks = tracks; whole = whole; form = form; tally = tally; frames = frames; spares = spares }
+noted_on (Err e) links g n was s ready tracks whole form tally frames spares = tt
+
+module _ (script : ScriptData) (shared : SharedState) (was : SessionState) (new : IsNewSession script shared was) (files : List (List Frame)) (links : Links) (tracks : List TrackSpec) (here : tracks ≡ script.tracks) (s : Stage) (room : s.room.released ≡ record { items = []; room = length script.tracks }) where
+  abbrev given : Given
+  given = record { tracks = tracks; files = files }
+
+  long : (n : ℕ) → NotedOn links given n was s → length s.parties.clients ≡ s.rounds.tracks
+  long n noted = sym noted.ready.given.0 ∙ sym noted.tracks
+
+  -- of all turns
+  rendered_on : (turns : List TurnSpec) → turns ≡ script.turns → NotedOn links given (length turns) was s → Runs given turns was s.rounds.rounds s.parties → FastSparesSoFar s.parties → HasRendered script files s
+  rendered_on turns are noted ran spares =
+      let n : ℕ = length turns in
+      record {
+        all = rendered script shared was new files script.turns s.rounds.rounds s.parties
+            (subst (λ (x : List TrackSpec × List TurnSpec). Runs (record { tracks = x.0; files = files }) x.1 was s.rounds.rounds s.parties) (λ k. (here k, are k)) ran);
+        noted = record {
+          tracks = noted.tracks ∙ ap (λ (ts : List TrackSpec). length ts) here;
+          whole = noted.whole;
+          form = noted.form;
+          count = sym noted.ready.given.0 ∙ ap (λ (ts : List TrackSpec). length ts) here;
+          tally = tally_end script shared was new links given n turns s.rounds s.parties s.room.tally noted.ready ran noted.tracks noted.frames noted.tally;
+          released = released_few links given n s.parties noted.ready;
+          room = room;
+          spared = spares_noted script.frames s.rounds s.parties.fast.log s.parties.normal.mutator.past.events s.parties (long n noted) noted.spares;
+        };
+        entries = entries_end script shared was new links given n turns s.rounds s.parties noted.ready ran noted.tracks noted.spares spares;
+      }
+
+  pub has_rendered : {T E : Type 0} (r : Result T E) (turns : List TurnSpec) → turns ≡ script.turns → OnOk r (NotedOn links given (length turns) was s) → OnOk r (Runs given turns was s.rounds.rounds s.parties) → OnOk r (FastSparesSoFar s.parties) → OnOk r (HasRendered script files s)
+  has_rendered (Ok x) turns are noted ran spares = rendered_on turns are noted ran spares
+  has_rendered (Err e) turns are noted ran spares = tt
+
+-- ## The file
+
+module _ (script : ScriptData) (shared : SharedState) (was : SessionState) (new : IsNewSession script shared was) (base : Files) (name : List ℕ) where
+  -- an empty file is the sound so far
+  pub silent_so_far : (old : Files) → SetsFile base name (Some []) old → SetsFile base name (Some (pcm_of was.fast.frames was.fast.log)) old
+  silent_so_far old set = subst (λ (xs : List ℕ). SetsFile base name (Some xs) old) (sym (silent_first script shared was new [] was.fast.frames)) set
+
+  -- the cycles are as long as the script says
+  pub in_frames : (P : ℕ → Type 0) → P was.fast.frames → P script.frames
+  in_frames P p = subst P (frames_first script shared was new []) p

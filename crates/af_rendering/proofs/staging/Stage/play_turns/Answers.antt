@@ -1,0 +1,104 @@
+use Rattle.std.proofs.Common.{◌≡◌, ◌*◌, ◌≤◌, ℕ, List, [], Some, OnOk, OnErr, length, take, sym, ap, subst, arith}
+use Rattle.std.specs.Prelude.{All}
+use Rattle.af_base.specs.Roomy.{Roomy}
+use Rattle.af_io.specs.Files.{SetsFile, LeavesFront}
+use Rattle.af_model.specs.Journals.{RoundNoted}
+use Rattle.af_script.specs.Form.{IsScript, IsTurn}
+use Rattle.af_script.specs.declared.op.TurnSpec.{TurnSpec}
+use Rattle.af_script.specs.declared.track.TrackSpec.{TrackSpec}
+use Rattle.af_rendering.specs.Rendered.{Runs}
+use Rattle.af_session.specs.Rounds.{Given, IsReady}
+use Rattle.af_tally.specs.Sound.{pcm_of}
+use Rattle.af_tally.specs.Summaries.{nothing_shown}
+use Rattle.af_tally.specs.Tallies.{IsTally}
+use Rattle.af_session.specs.Together.{SessionState}
+use Rattle.af_rendering.proofs.FirstRound.{empty_first, frames_first, ready_first, rendered}
+use Rattle.af_rendering.proofs.Spared.{spares_first}
+use Rattle.af_rendering.proofs.SparedEntries.{entries_first}
+use Rattle.af_rendering.proofs.StagesRun.{has_rendered, in_frames, noted_on, silent_so_far}
+use Rattle.af_rendering.proofs.staging.Stage.play_turns.Goals as goal
+
+pub play_all-requires-clause-turns : goal.play_all-requires-clause-turns
+play_all-requires-clause-turns g c =
+    let script : IsScript c.args.script.now = c.turns-turns.ensures.script in
+    subst (λ (x : List TrackSpec × List TurnSpec). All (IsTurn (length x.0)) x.1) (λ k. (sym c.tracks-tracks.ensures.value k, sym c.turns-turns.ensures.value k)) script.turns
+
+pub play_all-requires-clause-few : goal.play_all-requires-clause-few
+play_all-requires-clause-few g c =
+    let script : IsScript c.args.script.now = c.turns-turns.ensures.script in
+    subst (λ (x : List TurnSpec). length x ≤ 100000) (sym c.turns-turns.ensures.value) script.turn_count
+
+pub play_all-requires-clause-buffer : goal.play_all-requires-clause-buffer
+play_all-requires-clause-buffer g c =
+    let s = c.args.self.now in
+    let buffer = c.requires.new.room.buffer in
+    let same = frames_first c.args.script.now s.shared s.parties c.requires.new.new c.args.files.now in
+    omega (arith, same, buffer)
+
+pub play_all-requires-clause-room : goal.play_all-requires-clause-room
+play_all-requires-clause-room g c =
+    let s = c.args.self.now in
+    let bytes : s.room.bytes.room ≡ 64 * c.args.script.now.frames = ap (λ (b : Roomy ℕ). b.room) c.requires.new.room.bytes in
+    let same = frames_first c.args.script.now s.shared s.parties c.requires.new.new c.args.files.now in
+    omega (arith, same, bytes)
+
+pub play_all-requires-clause-ready : goal.play_all-requires-clause-ready
+play_all-requires-clause-ready g c =
+    let s = c.args.self.now in
+    let links = c.links-links.result in
+    subst (λ (x : List TrackSpec). IsReady links (record { tracks = x; files = c.args.files.now }) 0 s.parties) (sym c.tracks-tracks.ensures.value)
+    (ready_first c.args.script.now s.shared s.parties c.requires.new.new c.args.files.now links c.requires.files (c.requires.new.together links c.links-links.ensures))
+
+pub play_all-requires-clause-rounds : goal.play_all-requires-clause-rounds
+play_all-requires-clause-rounds g c =
+    subst (λ (ts : List TrackSpec). c.args.self.now.rounds ≡ record { tracks = length ts; rounds = [] }) (sym c.tracks-tracks.ensures.value) c.requires.new.rounds
+
+pub play_all-requires-clause-log : goal.play_all-requires-clause-log
+play_all-requires-clause-log g c = let s = c.args.self.now in empty_first c.args.script.now s.shared s.parties c.requires.new.new c.args.files.now
+
+pub play_all-requires-clause-tally : goal.play_all-requires-clause-tally
+play_all-requires-clause-tally g c = subst (λ (ts : List TrackSpec). IsTally (nothing_shown (length ts)) c.args.self.now.room.tally) (sym c.tracks-tracks.ensures.value) c.requires.new.room.tally
+
+pub returns-clause-some : goal.returns-clause-some
+returns-clause-some g c =
+    let files = c.args.files.now in
+    let s = c.args.self.now in
+    let was : SessionState = s.parties in
+    let is : SessionState = c.play_all.new.parties in
+    let n : ℕ = c.play_all.ensures.run.0 in
+    let played : List RoundNoted = c.play_all.ensures.run.1 in
+    let runs : Runs (record { tracks = c.args.script.now.tracks; files = files }) (take n c.args.script.now.turns) was played is =
+    subst (λ (x : List TrackSpec × List TurnSpec). Runs (record { tracks = x.0; files = files }) (take n x.1) was played is) (λ k. (c.tracks-tracks.ensures.value k, c.turns-turns.ensures.value k)) c.play_all.ensures.run.2 in
+    (n, (played, rendered c.args.script.now s.shared was c.requires.new.new files (take n c.args.script.now.turns) played is runs))
+
+pub returns-clause-rendered : goal.returns-clause-rendered
+returns-clause-rendered g c =
+    let s = c.args.self.now in
+    let was : SessionState = s.parties in
+    let script = c.args.script.now in
+    let given : Given = record { tracks = c.tracks-tracks.result.now; files = c.args.files.now } in
+    let links = c.links-links.result in
+    let new = c.requires.new.new in
+    let done = c.play_all.ensures in
+    let turns : List TurnSpec = c.turns-turns.result.now in
+    has_rendered script s.shared was new c.args.files.now links given.tracks c.tracks-tracks.ensures.value _ c.requires.new.room.released c.play_all.result turns c.turns-turns.ensures.value
+    (noted_on c.play_all.result links given (length turns) was _ done.ready done.tracks done.whole done.form done.tally done.frames (done.spares (spares_first script s.shared was new)))
+    done.all (done.entries (entries_first script s.shared was new))
+
+pub returns-clause-written : goal.returns-clause-written
+returns-clause-written g c = λ told base set.
+    let s = c.args.self.now in
+    let script = c.args.script.now in
+    let is : SessionState = c.play_all.new.parties in
+    let name = c.args.name.now in
+    in_frames script s.shared s.parties c.requires.new.new base name (λ (n : ℕ). OnOk c.play_all.result (SetsFile base name (Some (pcm_of n is.fast.log)) (g.S.Store.files c.play_all.new.store)))
+    (c.play_all.ensures.written told base (silent_so_far script s.shared s.parties c.requires.new.new base name (g.S.Store.files c.args.store.now) set))
+
+pub returns-clause-left : goal.returns-clause-left
+returns-clause-left g c = λ told base set.
+    let s = c.args.self.now in
+    let script = c.args.script.now in
+    let is : SessionState = c.play_all.new.parties in
+    let name = c.args.name.now in
+    in_frames script s.shared s.parties c.requires.new.new base name (λ (n : ℕ). OnErr c.play_all.result (LeavesFront base name (pcm_of n is.fast.log) (g.S.Store.files c.play_all.new.store)))
+    (c.play_all.ensures.left told base (silent_so_far script s.shared s.parties c.requires.new.new base name (g.S.Store.files c.args.store.now) set))

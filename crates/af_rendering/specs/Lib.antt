@@ -1,0 +1,5 @@
+pub mod Rendered
+pub mod Hostile
+pub mod Leads
+pub mod FastSpared
+pub mod Stages

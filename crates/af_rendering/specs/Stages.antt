@@ -1,0 +1,55 @@
+-- What a session is played on: before its first turn, and once its rounds were noted.
+use Rattle.std.specs.Prelude.{◌≡◌, ℕ, ◌*◌, ◌<◌, ◌^◌, All, List, [], length}
+use Rattle.af_base.specs.declared.frame.Frame.{Frame}
+use Rattle.af_link.specs.declared.links.Links.{Links}
+use Rattle.af_model.specs.JournalForm.{IsJournal, IsWhole}
+use Rattle.af_model.specs.Journals.{journal_of}
+use Rattle.af_party.specs.Parties.{PartyState}
+use Rattle.af_script.specs.Data.{ScriptData}
+use Rattle.af_script.specs.Form.{IsScript}
+use Rattle.af_rendering.specs.declared.staging.Room.{Room}
+use Rattle.af_rendering.specs.declared.staging.Stage.{Stage}
+use Rattle.af_rendering.specs.Hostile.{PokesSpareEntries, PokesSpareOthers}
+use Rattle.af_session.specs.NewSession.{IsNewSession}
+use Rattle.af_rendering.specs.Rendered.{Renders}
+use Rattle.af_session.specs.Shares.{AreLinksOf}
+use Rattle.af_session.specs.Shown.{shown_in}
+use Rattle.af_session.specs.Together.{AreTogether}
+use Rattle.af_tally.specs.Summaries.{Shown, nothing_shown}
+use Rattle.af_tally.specs.Tallies.{IsTally}
+
+-- room for so many frames a cycle and for so many tracks, of which nothing was noted yet
+pub record IsNewRoom (frames tracks : ℕ) (room : Room) : Type 0 where
+  pub buffer : length room.buffer.items ≡ frames
+  pub bytes : room.bytes ≡ record { items = []; room = 64 * frames }
+  pub tally : IsTally (nothing_shown tracks) room.tally
+  pub released : room.released ≡ record { items = []; room = tracks }
+
+-- the new parties of an accepted script with what they share, with such room, and no round
+pub record IsNewStage (script : ScriptData) (s : Stage) : Type 0 where
+  pub script_is : IsScript script
+  pub new : IsNewSession script s.shared s.parties
+  pub together : (links : Links) → AreLinksOf s.shared links → AreTogether links s.parties
+  pub room : IsNewRoom script.frames (length script.tracks) s.room
+  pub rounds : s.rounds ≡ record { tracks = length script.tracks; rounds = [] }
+
+-- what the rounds noted show, with the log
+abbrev pub shown_on : ScriptData → Stage → Shown
+shown_on script s = shown_in script.frames s.rounds s.parties.fast.log s.parties.normal.mutator.past.events
+
+-- The rounds noted make a journal with the log, and the tally is theirs; there is room for a count of each client; and each track that nobody poked was spared
+pub record IsNoted (script : ScriptData) (s : Stage) : Type 0 where
+  pub tracks : s.rounds.tracks ≡ length script.tracks
+  pub whole : IsWhole s.rounds s.parties.fast.log
+  pub form : IsJournal (journal_of s.rounds s.parties.fast.log)
+  pub count : length s.parties.clients ≡ length script.tracks
+  pub tally : IsTally (shown_on script s) s.room.tally
+  pub released : All (λ (p : PartyState). p.stream.released < 2 ^ 58) s.parties.clients
+  pub room : s.room.released ≡ record { items = []; room = length script.tracks }
+  pub spared : PokesSpareOthers (shown_on script s)
+
+-- all turns of the script were played on it
+pub record HasRendered (script : ScriptData) (files : List (List Frame)) (s : Stage) : Type 0 where
+  pub all : Renders script files script.turns s.rounds.rounds s.parties
+  pub noted : IsNoted script s
+  pub entries : PokesSpareEntries (shown_on script s)

@@ -1,0 +1,12 @@
+//! Renders: the turns of a script from first to last, one after the other, and the file of what they mixed; and what a session is played on.
+#![tactic(auto)]
+
+mod given_files;
+mod playing;
+mod rendering;
+mod staging;
+
+pub use given_files::have_files;
+pub use playing::{play_all, send_out};
+pub use rendering::{Ends, Played, hand_over, render};
+pub use staging::{Room, Stage};

@@ -1,0 +1,242 @@
+//! A script's turns from first to last, one after the other.
+ghost use Rattle.std.specs.Prelude.{◌^◌, All, ◌≡◌, ◌<◌, ◌≤◌, ℕ, [], Some, length, take, IfOk, OnOk, OnErr};
+ghost use Rattle.af_io.specs.Causes.{HasCause};
+ghost use Rattle.af_io.specs.Files.{Files, SetsFile, LeavesFront};
+ghost use Rattle.af_model.specs.JournalForm.{IsJournal, IsWhole};
+ghost use Rattle.af_model.specs.Journals.{journal_of};
+ghost use Rattle.af_script.specs.Data.{ScriptData};
+ghost use Rattle.af_rendering.specs.Hostile.{PokesSpareEntries, PokesSpareOthers};
+ghost use Rattle.af_session.specs.Ends.{command_proxy, ends_from, stream_proxy};
+ghost use Rattle.af_rendering.specs.Rendered.{HandsBack, HaveFiles, LeavesSound, Rendered};
+ghost use Rattle.af_session.specs.Shown.{released_by, shown_by, summary_told};
+ghost use Rattle.af_rendering.specs.Stages.{HasRendered, IsNewStage, IsNoted};
+ghost use Rattle.af_tally.specs.Sound.{pcm_of};
+ghost use Rattle.af_runs.specs.Pcm.{journal_pcm};
+ghost use Rattle.af_tally.specs.Summaries.{Shown, summary_of};
+ghost use Rattle.af_tally.specs.Tallies.{IsTally};
+
+use crate::playing::play_all;
+use crate::staging::Stage;
+use af_base::Items;
+use af_client::Client;
+use af_io::{Pcm, Store, StoreError};
+use af_model::{Journal, Rounds};
+use af_normal::NormalMixer;
+use af_party::Party;
+use af_script::Script;
+use af_session::Parties;
+use af_tally::{Summary, Tally};
+use std::alloc::Global;
+use std::marker::Model;
+use std::mem::drop;
+
+/// The client proxies and the normal mixer of a run that is over. Contracts see the lists that their passes keep.
+#[derive(Drop)]
+pub struct Ends {
+    clients: Vec<Party>,
+    normal: NormalMixer,
+}
+
+impl Model for Ends {
+    ghost use Rattle.af_session.specs.Ends.{EndsState};
+
+    ghost Value = { EndsState };
+
+    ghost view = { λ e. record { clients = e.clients.items; normal = e.normal } };
+}
+
+impl Ends {
+    /// The client proxy of the stream's block of a track.
+    pub fn stream(&self, track: u32) -> &Client
+        requires { track < length self.now.clients }
+        ensures { stream_proxy self.now track ≡ Some result.now }
+    {
+        &self.clients[track as usize].stream
+    }
+
+    /// The client proxy of the command block of a track.
+    pub fn command(&self, track: u32) -> &Client
+        requires { track < length self.now.clients }
+        ensures { command_proxy self.now track ≡ Some result.now }
+    {
+        &self.clients[track as usize].command
+    }
+
+    /// The normal mixer.
+    pub fn normal(&self) -> &NormalMixer
+        ensures { result.now ≡ self.now.normal }
+    {
+        &self.normal
+    }
+}
+
+/// What was played: its journal, its summary, and the ends.
+#[derive(Drop)]
+pub struct Played {
+    pub journal: Journal,
+    pub summary: Summary,
+    pub ends: Ends,
+}
+
+// How many frames the client of each track has released, in a list with room for them.
+fn push_released(clients: &[Party], released: &mut Items<u64>)
+    requires room { length clients.now ≤ released.old.room }
+    requires empty { released.old.items ≡ [] }
+    ensures { released.new.items ≡ released_by clients.now }
+{
+    for i in 0..clients.len() {
+        released.push(clients[i].released());
+    }
+}
+
+// The summary of what a tally noted and of the frames that the clients released, for whose counts a list has room.
+fn sum_up(parties: &Parties, tally: &Tally, released: &mut Items<u64>) -> Summary
+    requires room { length parties.now.clients ≤ released.old.room }
+    requires empty { released.old.items ≡ [] }
+    requires count { length tally.now.tracks ≡ length parties.now.clients }
+    requires small { All (λ p. p.stream.released < 2 ^ 58) parties.now.clients }
+    ensures { (run : Shown) → IsTally run tally.now → result ≡ summary_of run (released_by parties.now.clients) }
+{
+    push_released(&parties.clients, released);
+    tally.summary(released.as_slice())
+}
+
+/// The journal of parties, whose rounds were noted, and their ends.
+pub fn hand_over(parties: Parties, rounds: Rounds) -> (Journal, Ends)
+    requires whole { IsWhole rounds parties.fast.log }
+    requires form { IsJournal (journal_of rounds parties.fast.log) }
+    ensures journal { result.0 ≡ journal_of rounds parties.fast.log }
+    ensures ends { result.1 ≡ ends_from parties }
+{
+    let Parties {
+        clients,
+        normal,
+        fast,
+    } = parties;
+    (
+        Journal::new(rounds, fast.into_log()),
+        Ends { clients, normal },
+    )
+}
+
+// What parties hand back, with the rounds that were noted, and the summary.
+fn hand_back(parties: Parties, rounds: Rounds, summary: Summary) -> Played
+    requires whole { IsWhole rounds parties.fast.log }
+    requires form { IsJournal (journal_of rounds parties.fast.log) }
+    ensures journal { result.journal ≡ journal_of rounds parties.fast.log }
+    ensures summary { result.summary ≡ summary }
+    ensures ends { result.ends ≡ ends_from parties }
+{
+    let (journal, ends) = hand_over(parties, rounds);
+    Played {
+        journal,
+        summary,
+        ends,
+    }
+}
+
+impl Stage {
+    // All turns of a script by its new parties, into a file that is empty.
+    fn play_turns<S: Store>(
+        &mut self,
+        alloc: Global,
+        script: &Script,
+        files: &[Pcm],
+        store: &mut S,
+        name: &str,
+    ) -> Result<(), StoreError>
+        requires new { IsNewStage script.now self.old }
+        requires files { HaveFiles (record { tracks = script.now.tracks; files = files.now }) }
+        ensures some { (n : ℕ) × Rendered script.now files.now (take n script.now.turns) self.new.parties }
+        ensures rendered { OnOk result (HasRendered script.now files.now self.new) }
+        ensures written { S.told store.old → (base : Files) → SetsFile base name.now (Some []) (S.files store.old) → OnOk result (SetsFile base name.now (Some (pcm_of script.now.frames self.new.parties.fast.log)) (S.files store.new)) }
+        ensures left { S.told store.old → (base : Files) → SetsFile base name.now (Some []) (S.files store.old) → OnErr result (LeavesFront base name.now (pcm_of script.now.frames self.new.parties.fast.log) (S.files store.new)) }
+        ensures tells { S.told store.old → S.told store.new }
+        ensures cause { HasCause (S.faults store.old) (S.faults store.new) result }
+    {
+        let Stage {
+            shared,
+            parties,
+            room,
+            rounds,
+        } = self;
+        let links = shared.links();
+        let (turns, tracks) = (script.turns(), script.tracks());
+        play_all(
+            parties,
+            alloc,
+            &links,
+            turns,
+            tracks,
+            files,
+            store,
+            name,
+            &mut room.buffer,
+            &mut room.bytes,
+            rounds,
+            &mut room.tally,
+        )
+    }
+
+    // Makes the file, and plays all turns of a script by its new parties.
+    fn play_new<S: Store>(
+        &mut self,
+        alloc: Global,
+        script: &Script,
+        files: &[Pcm],
+        store: &mut S,
+        name: &str,
+    ) -> Result<(), StoreError>
+        requires new { IsNewStage script.now self.old }
+        requires files { HaveFiles (record { tracks = script.now.tracks; files = files.now }) }
+        ensures rendered { OnOk result (HasRendered script.now files.now self.new) }
+        ensures written { S.told store.old → OnOk result (SetsFile (S.files store.old) name.now (Some (pcm_of script.now.frames self.new.parties.fast.log)) (S.files store.new)) }
+        ensures left { S.told store.old → OnErr result (LeavesSound script.now files.now name.now (S.files store.old) (S.files store.new)) }
+        ensures tells { S.told store.old → S.told store.new }
+        ensures cause { HasCause (S.faults store.old) (S.faults store.new) result }
+    {
+        store.create(name)?;
+        self.play_turns(alloc, script, files, store, name)
+    }
+
+    /// What is handed back of a stage whose rounds were noted.
+    pub fn finish(mut self) -> Played
+        requires { (script : ScriptData) × IsNoted script self }
+        ensures journal { result.journal ≡ journal_of self.rounds self.parties.fast.log }
+        ensures ends { result.ends ≡ ends_from self.parties }
+        ensures summary { (script : ScriptData) → IsNoted script self → result.summary ≡ summary_told script.frames result.journal result.ends }
+    {
+        let summary = sum_up(&self.parties, &self.room.tally, &mut self.room.released);
+        hand_back(self.parties, self.rounds, summary)
+    }
+}
+
+/// Plays the turns of a script one after the other, each as a round after which all parties meet, and writes the sound to the file of this name. All blocks, logs and mixers are made before the file is; the rounds are noted as they are played.
+///
+/// What was played is a turn run of the script and its files, whose rounds the journal has and of which the summary is, and where the store tells it the file is the sound of the journal. Whatever clients stored in their words, each track on whose blocks nothing was poked is spared: no call of its client was answered Corrupt, and no look of either mixer at its blocks was Shut. After a fault of the store, or want of memory, no file has changed, or the file holds a front of the sound of some first turns.
+pub fn render<S: Store>(
+    alloc: Global,
+    script: &Script,
+    files: &[Pcm],
+    store: &mut S,
+    name: &str,
+) -> Result<Played, StoreError>
+    requires { HaveFiles (record { tracks = script.now.tracks; files = files.now }) }
+    ensures played { IfOk result (λ p. HandsBack script.now files.now p.journal p.ends) }
+    ensures summary { IfOk result (λ p. p.summary ≡ summary_told script.now.frames p.journal p.ends) }
+    ensures spared { IfOk result (λ p. PokesSpareOthers (shown_by script.now.frames p.journal p.ends.normal.mutator.past.events)) }
+    ensures entries { IfOk result (λ p. PokesSpareEntries (shown_by script.now.frames p.journal p.ends.normal.mutator.past.events)) }
+    ensures written { S.told store.old → IfOk result (λ p. SetsFile (S.files store.old) name.now (Some (journal_pcm script.now.frames p.journal)) (S.files store.new)) }
+    ensures left { S.told store.old → OnErr result (LeavesSound script.now files.now name.now (S.files store.old) (S.files store.new)) }
+    ensures tells { S.told store.old → S.told store.new }
+    ensures cause { HasCause (S.faults store.old) (S.faults store.new) result }
+{
+    let mut stage = Stage::make(alloc, script)?;
+    match stage.play_new(alloc, script, files, store, name) {
+        Ok(()) => Ok(stage.finish()),
+        Err(error) => {
+            drop(stage);
+            Err(error)
+        }
+    }
+}

@@ -1,6 +1,0 @@
-use Rattle.std.proofs.Common.{rules}
-use Rattle.af_session.proofs.Zips.{all_zip_halves}
-use Rattle.af_session.proofs.side_by_side.+clients.Goals as goal
-
-pub returns-in_default : goal.returns-in_default
-returns-in_default g t c = search (rules, all_zip_halves)

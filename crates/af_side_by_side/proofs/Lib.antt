@@ -1,0 +1,10 @@
+pub mod AloneTurns
+pub mod Zips
+pub mod ReadyOfAll
+pub mod NotedOfAll
+pub mod NotedTurns
+pub mod LogNotes
+pub mod ScribeTurns
+pub mod LogRounds
+pub mod LogMeets
+pub mod LogEnds

@@ -1,0 +1,117 @@
+-- What all parties have for a round in which they make their turns at once, and what they leave.
+use Rattle.std.proofs.Common.{◌≡◌, ℕ, suc, ◌+◌, ◌<◌, ◌^◌, Bool, true, false, List, [], ◌∷◌, length, get_or, slice_get, Option, Some, None, MatchOption, IsSomeAnd, All, refl, sym, ap, subst, ◌∙◌, arith}
+use Rattle.std.specs.Bool.{MatchBool}
+use Rattle.std.specs.List.{AllZip}
+use Rattle.std.proofs.lemmas.Option.{slice_get-get_or, slice_get_within}
+use Rattle.std.proofs.lemmas.Slice.Zip.{AllZip-right}
+use Rattle.af_base.specs.Roomy.{Roomy}
+use Rattle.af_fast.specs.Mixer.{MixerState}
+use Rattle.af_life.specs.Kept.{Setup}
+use Rattle.af_link.specs.declared.links.Links.{Links}
+use Rattle.af_normal.specs.Meeting.{AreClientsOf}
+use Rattle.af_normal.specs.State.{NormalState, setup_of}
+use Rattle.af_party.specs.Parties.{PartyState}
+use Rattle.af_session.specs.Rounds.{Given, IsReady, file_at, ops_at}
+use Rattle.af_side_by_side.specs.SideBySide.{AllPlayed, CanCycle, CanMixOn, CanTurn, ClientPlayed, HasCycledOn, HasMixedOn, HasTurned, NormalPlayed, TurnPlayed}
+use Rattle.af_session.specs.Together.{SessionState}
+use Rattle.af_party.specs.Works.{CanWork}
+
+-- ## Lists that are related place by place
+
+some_and : {X : Type 0} (o : Option X) (P : X → Type 0) → IsSomeAnd o P → (x : X) × (o ≡ Some x) × P x
+some_and None P h = absurd h
+some_and (Some x) P h = (x, refl, h)
+
+-- what stands at a place of the second stands there in the first
+pub zip_at : {X : Type 0} (R : X → X → Type 0) (xs ys : List X) (i : ℕ) (y : X) → AllZip R xs ys → slice_get ys i ≡ Some y → (x : X) × (slice_get xs i ≡ Some x) × R x y
+zip_at {X} R xs ys i y zip at =
+    some_and (slice_get xs i) (λ x. R x y) (subst (λ (o : Option X). MatchOption o (Unit {0}) (λ z. IsSomeAnd (slice_get xs i) (λ x. R x z))) at (AllZip-right R xs ys zip i))
+
+pub zip_long : {X : Type 0} (R : X → X → Type 0) (xs ys : List X) → AllZip R xs ys → length ys ≡ length xs
+zip_long R [] [] zip = refl
+zip_long R [] (y ∷ ys) zip = absurd zip
+zip_long R (x ∷ xs) [] zip = absurd zip
+zip_long R (x ∷ xs) (y ∷ ys) zip = ap suc (zip_long R xs ys zip.1)
+
+-- what is related by one relation is by another that follows from it
+pub zip_weaker : {X : Type 0} (R S : X → X → Type 0) → ((x y : X) → R x y → S x y) → (xs ys : List X) → AllZip R xs ys → AllZip S xs ys
+zip_weaker R S f [] [] zip = zip
+zip_weaker R S f [] (y ∷ ys) zip = absurd zip
+zip_weaker R S f (x ∷ xs) [] zip = absurd zip
+zip_weaker R S f (x ∷ xs) (y ∷ ys) zip = (f x y zip.0, zip_weaker R S f xs ys zip.1)
+
+-- ## Before the turns
+
+module _ (links : Links) (g : Given) (n : ℕ) (s : SessionState) (ready : IsReady links g n s) (few : n < 131072) where
+  can_turn : (i : ℕ) (p : PartyState) → slice_get s.clients i ≡ Some p → CanTurn links g p
+  can_turn i p at =
+      let track : p.track ≡ i = ready.together.tracks i p at in
+      let lt : i < length s.clients = slice_get_within s.clients i p at in
+      let sent = ready.few i p at in
+      record {
+        track = (omega (arith, track, lt, ready.given.0), omega (arith, track, lt, ready.given.1));
+        clients = subst (λ (k : ℕ). AreClientsOf links k p.stream p.command) (sym track) (ready.together.clients i p at);
+        work = subst (λ (k : ℕ). CanWork (ops_at g k) (length (file_at g k)) p) (sym track) (ready.works i p at);
+        few = omega (arith, sent, few);
+      }
+
+  pub all_can : All (CanTurn links g) s.clients
+  all_can k d lt = can_turn k (get_or s.clients k d) (slice_get-get_or s.clients k d lt)
+
+  pub can_mix : CanMixOn links s.normal
+  can_mix = record { order = ready.together.normal; few = omega (arith, ready.turns, few) }
+
+  pub few_clients : length s.clients < 2 ^ 31
+  few_clients = let count = ready.together.count in let most = ready.together.normal.tied.sizes.few in omega arith
+
+  pub can_cycle : CanCycle links s.fast
+  can_cycle = record { linked = ready.together.fast.1; order = ready.together.fast.0; between = ready.between; whole = ready.whole }
+
+-- ## After them
+
+same_setup : (m m' : NormalState) → NormalPlayed m m' → setup_of m' ≡ setup_of m
+same_setup m m' played = by_end m.ended played
+  where
+    by_end : (ended : Bool) → MatchBool ended (m' ≡ m) (TurnPlayed m m') → setup_of m' ≡ setup_of m
+    by_end true same = ap setup_of same
+    by_end false turned = turned.1.setup
+
+module _ (links : Links) (g : Given) (n : ℕ) (s : SessionState) (ready : IsReady links g n s) (clients : List PartyState) (m : NormalState) (f : MixerState) (bytes bytes' : Roomy ℕ)
+    (turned : AllZip (HasTurned links g) s.clients clients) (mixed : HasMixedOn links s.normal m) (cycled : HasCycledOn links s.fast f bytes bytes') where
+  abbrev after : SessionState
+  after = record { clients = clients; normal = m; fast = f }
+
+  was : (i : ℕ) (q : PartyState) → slice_get clients i ≡ Some q → (p : PartyState) × (slice_get s.clients i ≡ Some p) × HasTurned links g p q
+  was i q at = zip_at (HasTurned links g) s.clients clients i q turned at
+
+  long : length clients ≡ length s.clients
+  long = zip_long (HasTurned links g) s.clients clients turned
+
+  tracks_long : length m.tracks ≡ length s.normal.tracks
+  tracks_long =
+      let settings : length m.settings ≡ length s.normal.settings = ap (λ (c : Setup). length c.settings) (same_setup s.normal m mixed.played) in
+      sym mixed.order.tied.sizes.settings ∙ settings ∙ ready.together.normal.tied.sizes.settings
+
+  pub ready_of_all : IsReady links g (n + 1) after
+  ready_of_all = record {
+    together = record {
+      normal = mixed.order;
+      fast = (cycled.can.order, cycled.can.linked);
+      count = long ∙ ready.together.count ∙ sym tracks_long;
+      tracks = (λ i q at. let x = was i q at in x.2.track ∙ ready.together.tracks i x.0 x.1);
+      clients = (λ i q at. let x = was i q at in subst (λ (k : ℕ). AreClientsOf links k q.stream q.command) (x.2.track ∙ ready.together.tracks i x.0 x.1) x.2.clients);
+    };
+    between = cycled.can.between;
+    given = (ready.given.0 ∙ sym long, ready.given.1 ∙ sym long);
+    works = (λ i q at. let x = was i q at in subst (λ (k : ℕ). CanWork (ops_at g k) (length (file_at g k)) q) (ready.together.tracks i x.0 x.1) x.2.work);
+    few = (λ i q at. let x = was i q at in let old = ready.few i x.0 x.1 in let new = x.2.few in omega arith);
+    turns = (let old = ready.turns in let new = mixed.turns in omega arith);
+    whole = cycled.can.whole;
+  }
+
+  pub played_by_all : AllPlayed links g s after cycled.added
+  played_by_all = record {
+    clients = zip_weaker (HasTurned links g) (ClientPlayed g) (λ p q h. h.played) s.clients clients turned;
+    normal = mixed.played;
+    fast = cycled.played;
+  }

@@ -1,0 +1,91 @@
+-- What the scribe of a log notes of the cycles of a turn.
+use Rattle.std.proofs.Common.{◌≡◌, ℕ, ◌-◌, ◌<◌, ◌≤◌, ◌==◌, ◌||◌, Bool, true, false, MatchOption, Option, Some, None, List, [], ◌∷◌, ◌++◌, length, refl, sym, ap, subst, ◌∙◌, eqb-true, append-nil, arith}
+use Rattle.std.proofs.lemmas.List.{get_or_push, length-append, length_push}
+use Rattle.af_base.specs.declared.frame.Frame.{Frame}
+use Rattle.af_base.specs.declared.log.Cycle.{Cycle}
+use Rattle.af_base.specs.declared.log.CycleEntry.{CycleEntry}
+use Rattle.af_base.specs.Log.{Logged, entry_at, no_entry}
+use Rattle.af_fast.specs.Mixer.{MixerState, adopted_states, is_over}
+use Rattle.af_fast.specs.Mixing.{MixesOnce}
+use Rattle.af_fast.specs.Slots.{found}
+use Rattle.af_link.specs.declared.links.Links.{Links}
+use Rattle.af_model.specs.JournalForm.{is_spent}
+use Rattle.af_model.proofs.EntryForms.{entry_form}
+use Rattle.af_nblog.specs.NoteEnds.{WriterState}
+use Rattle.af_side_by_side.specs.Alone.{CyclesOnce}
+use Rattle.af_side_by_side.specs.Logging.{HasLogged, Logs, ScribeState}
+use Rattle.af_session.proofs.FastAdds.{polled_keeps}
+use Rattle.af_side_by_side.proofs.LogNotes.{logged_more, logged_none}
+
+-- ## What a cycle adds
+
+-- the entries of a log stay, or one is added that doesn't tell of a full log
+pub data AddsUpToOne (m m' : MixerState) : Type 0 where
+  adds_nothing : m'.log.entries ≡ m.log.entries → AddsUpToOne m m'
+  adds_entry : (entry : CycleEntry) → m'.log.entries ≡ m.log.entries ++ entry ∷ [] → is_spent entry.cycle ≡ false → AddsUpToOne m m'
+
+mix_adds_up_to_one : (m m' : MixerState) (out out' : List Frame) (answer : Cycle) → MixesOnce m out answer m' out' → AddsUpToOne m m'
+mix_adds_up_to_one m m' out out' answer x = by_exit m.exited refl
+  where
+    by_length : (full : Bool) → m.exited ≡ false → (length m.log.entries == m.cycles) ≡ full → AddsUpToOne m m'
+    by_length true runs is = adds_nothing (ap (λ (y : MixerState). y.log.entries) (x.spent runs (eqb-true (length m.log.entries) m.cycles is)).1)
+    by_length false runs is =
+        let goes : is_over m ≡ false = ap (λ (b : Bool). b || (length m.log.entries == m.cycles)) runs ∙ is in
+        let done = x.adds goes in
+        adds_entry done.0 done.2.entries (entry_form m.frames (adopted_states m) m.log.entries (length m.log.frames) (found m.observer m.pipe) (found m'.observer m'.pipe) done.0 done.2.legal).kept
+
+    by_exit : (exited : Bool) → m.exited ≡ exited → AddsUpToOne m m'
+    by_exit true is = adds_nothing (ap (λ (y : MixerState). y.log.entries) (x.exited is).1)
+    by_exit false is = by_length (length m.log.entries == m.cycles) is refl
+
+from_polled : (m p m' : MixerState) → p.log ≡ m.log → AddsUpToOne p m' → AddsUpToOne m m'
+from_polled m p m' same (adds_nothing is) = adds_nothing (is ∙ ap (λ (l : Logged). l.entries) same)
+from_polled m p m' same (adds_entry entry is kept) = adds_entry entry (is ∙ ap (λ (l : Logged). l.entries ++ entry ∷ []) same) kept
+
+-- a cycle adds no more
+pub cycle_adds_up_to_one : (links : Links) (m m' : MixerState) (answer : Cycle) (bytes : List ℕ) → CyclesOnce links m answer bytes m' → AddsUpToOne m m'
+cycle_adds_up_to_one links m m' answer bytes w = from_polled m w.polled m' (polled_keeps m w.polled w.adopts).0 (mix_adds_up_to_one w.polled m' w.before w.after answer w.mixes)
+
+-- so the log is no shorter
+pub grown_by : (m m' : MixerState) → AddsUpToOne m m' → (more : List CycleEntry) × (m'.log.entries ≡ m.log.entries ++ more)
+grown_by m m' (adds_nothing is) = ([], is ∙ sym (append-nil m.log.entries))
+grown_by m m' (adds_entry entry is kept) = (entry ∷ [], is)
+
+pub no_shorter : (m m' : MixerState) → AddsUpToOne m m' → length m.log.entries ≤ length m'.log.entries
+no_shorter m m' adds = let more = grown_by m m' adds in omega (arith, ap length more.1 ∙ length-append m.log.entries more.0)
+
+-- a longer one has one entry more
+pub one_longer : (m m' : MixerState) → AddsUpToOne m m' → length m.log.entries < length m'.log.entries → length m'.log.entries - 1 ≡ length m.log.entries
+one_longer m m' (adds_nothing is) longer = absurd (omega (arith, ap length is))
+one_longer m m' (adds_entry entry is kept) longer = omega (arith, ap length is ∙ length_push m.log.entries entry)
+
+-- and the last one doesn't tell of a full log
+pub last_kept : (m m' : MixerState) → AddsUpToOne m m' → length m.log.entries < length m'.log.entries → is_spent (entry_at m'.log.entries (length m'.log.entries - 1)).cycle ≡ false
+last_kept m m' (adds_nothing is) longer = absurd (omega (arith, ap length is))
+last_kept m m' (adds_entry entry is kept) longer =
+    ap (λ (es : List CycleEntry). is_spent (entry_at es (length es - 1)).cycle) is
+    ∙ ap (λ (e : CycleEntry). is_spent e.cycle) (get_or_push m.log.entries entry no_entry (length (m.log.entries ++ entry ∷ []) - 1) (omega (arith, length_push m.log.entries entry)))
+    ∙ kept
+
+-- ## What the scribe notes
+
+-- nothing where nothing was added
+pub noted_none : (first : ℕ) (m : MixerState) (s : ScribeState) → first ≡ length m.log.entries → HasLogged first m s s
+noted_none first m s same = by_end s.end refl
+  where
+    by_end : (o : Option WriterState) → s.end ≡ o → MatchOption o (s ≡ s) (λ w. (w' : WriterState) × (s.end ≡ Some w') × Logs first m w w')
+    by_end None is = refl
+    by_end (Some w) is = (w, is, subst (λ (n : ℕ). Logs n m w w) (sym same) (logged_none m w))
+
+-- behind what was noted before
+pub noted_more : (first : ℕ) (m m' : MixerState) (s v u : ScribeState) → first ≤ length m.log.entries → m'.frames ≡ m.frames → AddsUpToOne m m' → HasLogged first m s v → HasLogged (length m.log.entries) m' v u → HasLogged first m' s u
+noted_more first m m' s v u within frames adds one two = by_end s.end refl one
+  where
+    by_end : (o : Option WriterState) → s.end ≡ o → MatchOption o (v ≡ s) (λ w. (w' : WriterState) × (v.end ≡ Some w') × Logs first m w w') → MatchOption o (u ≡ s) (λ w. (w' : WriterState) × (u.end ≡ Some w') × Logs first m' w w')
+    by_end None is same =
+        let none : v.end ≡ None = ap (λ (x : ScribeState). x.end) same ∙ is in
+        subst (λ (o : Option WriterState). MatchOption o (u ≡ v) (λ w. (w' : WriterState) × (u.end ≡ Some w') × Logs (length m.log.entries) m' w w')) none two ∙ same
+    by_end (Some w) is noted =
+        let next = subst (λ (o : Option WriterState). MatchOption o (u ≡ v) (λ w. (w' : WriterState) × (u.end ≡ Some w') × Logs (length m.log.entries) m' w w')) noted.1 two in
+        let grown = grown_by m m' adds in
+        (next.0, next.1, logged_more first m m' grown.0 w noted.0 next.0 within frames grown.1 noted.2 next.2)

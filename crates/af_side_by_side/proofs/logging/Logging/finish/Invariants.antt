@@ -1,0 +1,4 @@
+use Rattle.af_side_by_side.proofs.logging.Logging.finish.Given as goal
+
+abbrev pub ghosts-read_in : goal.ghosts-read_in
+ghosts-read_in g a = record { name = a.blank.name; parts = a.blank.parts }
