@@ -19,9 +19,9 @@ use Rattle.af_session.specs.Together.{AreTogether, SessionState}
 use Rattle.af_session.proofs.FollowingRounds.{ends_keep}
 use Rattle.af_rendering.proofs.MetOpen.{clients_ended}
 use Rattle.af_render_law.specs.Aware.{KnowsAway}
-use Rattle.af_render_law.specs.Tells.{held_slot}
-use Rattle.af_render_law.proofs.AllMeet.{some_at}
-use Rattle.af_render_law.proofs.TrackMeets.{tracks_are}
+use Rattle.af_told_law.specs.Tells.{held_slot}
+use Rattle.af_told_law.proofs.AllMeet.{some_at}
+use Rattle.af_told_law.proofs.TrackMeets.{tracks_are}
 
 -- the history that the hand's meeting with the client gave
 abbrev pub KnownBy : ClientState → HandSide → Type 0

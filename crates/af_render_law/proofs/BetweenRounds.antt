@@ -32,7 +32,7 @@ use Rattle.af_rendering.proofs.NormalSteps.{turn_same, turn_tells, turned_leads}
 use Rattle.af_rendering.proofs.QueueSeen.{SawUpTo, few_acked, few_seen}
 use Rattle.af_rendering.proofs.QueueSteps.{learnt_by, step_met, tells_met}
 use Rattle.af_rendering.proofs.SparedEntries.{entries_first}
-use Rattle.af_render_law.specs.Between.{StandsBetween}
+use Rattle.af_told_law.specs.Between.{StandsBetween}
 
 -- a turn of the normal mixer leaves what is quiet so
 pub quiet_turned : (o : Outside) (x n : NormalState) → IsLegal o x n → IsQuiet (kept_of x) → IsQuiet (kept_of n)

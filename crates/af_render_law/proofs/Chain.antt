@@ -11,11 +11,11 @@ use Rattle.af_script.specs.declared.op.TurnSpec.TheVariants as makes
 use Rattle.af_session.specs.Rounds.{IsRound}
 use Rattle.af_session.specs.Together.{SessionState}
 use Rattle.af_render_law.specs.Aware.{KnowsAway}
-use Rattle.af_render_law.specs.Between.{StandsBetween}
-use Rattle.af_render_law.specs.FastRound.{IsMarkedRun, IsSmallRun}
+use Rattle.af_told_law.specs.Between.{StandsBetween}
+use Rattle.af_told_law.specs.Sizes.{IsMarkedRun, IsSmallRun}
 use Rattle.af_render_law.specs.Laws.{StepIsTold, round_of}
-use Rattle.af_render_law.specs.QueueTurned.{QueueKnown, ReportMet}
-use Rattle.af_render_law.specs.Tells.{Tells, given_of}
+use Rattle.af_told_law.specs.QueueTurned.{QueueKnown, ReportMet}
+use Rattle.af_told_law.specs.Tells.{Tells, given_of}
 use Rattle.af_render_law.proofs.InvalidKept.{InvalidKept}
 use Rattle.af_render_law.proofs.TameRounds.{TameReady}
 

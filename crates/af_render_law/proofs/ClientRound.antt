@@ -16,10 +16,10 @@ use Rattle.af_script.specs.declared.op.TurnSpec.TheVariants as makes
 use Rattle.af_session.specs.Rounds.{ClientTurned, IsRound, client_round, no_calls}
 use Rattle.af_session.specs.Together.{AreTogether, SessionState}
 use Rattle.af_render_law.specs.Laws.{StepIsTold, round_of}
-use Rattle.af_render_law.specs.Tells.{Tells, given_of}
-use Rattle.af_render_law.proofs.AllMeet.{met_histories, tells_met}
-use Rattle.af_render_law.proofs.ClientTold.{client_told}
-use Rattle.af_render_law.proofs.EndsTold.{ends_told}
+use Rattle.af_told_law.specs.Tells.{Tells, given_of}
+use Rattle.af_told_law.proofs.AllMeet.{met_histories, tells_met}
+use Rattle.af_told_law.proofs.ClientTold.{client_told}
+use Rattle.af_told_law.proofs.EndsTold.{ends_told}
 
 pub none_else : (n j : ℕ) → slice_index_or (replicate n (let none : List ClientCall = [] in none)) j [] ≡ []
 none_else zero j = refl

@@ -22,14 +22,16 @@ use Rattle.af_stateq.specs.Observes.{Observes}
 use Rattle.af_session.specs.FastTurns.{IsCycle}
 use Rattle.af_rendering.specs.Leads.{InStep, LeadAway}
 use Rattle.af_session.specs.Together.{AreTogether, SessionState}
-use Rattle.af_render_law.specs.FastRound.{AreSmall, IsMarkedRun, MixesAreTold}
-use Rattle.af_render_law.specs.Laws.{IsBetween, entry_told}
-use Rattle.af_render_law.specs.Own.{SeesOwn}
-use Rattle.af_render_law.specs.Tells.{Tells}
-use Rattle.af_render_law.proofs.FastGrows.{adds, same_frames, still_on}
+use Rattle.af_told_law.specs.Sizes.{AreSmall, IsMarkedRun}
+use Rattle.af_told_law.specs.MixLaws.{MixesAreTold}
+use Rattle.af_render_law.specs.Laws.{IsBetween}
+use Rattle.af_told_law.specs.MixLaws.{entry_told}
+use Rattle.af_told_law.specs.Own.{SeesOwn}
+use Rattle.af_told_law.specs.Tells.{Tells}
+use Rattle.af_told_law.proofs.FastGrows.{adds, same_frames, still_on}
 use Rattle.af_render_law.proofs.IdlePoll.{between_met, caught_met}
-use Rattle.af_render_law.proofs.PollFinds.{poll_met}
-use Rattle.af_render_law.proofs.TameRuns.{met_marked, mix_marked, poll_marked, small_told}
+use Rattle.af_told_law.proofs.PollFinds.{poll_met}
+use Rattle.af_told_law.proofs.TameRuns.{met_marked, mix_marked, poll_marked, small_told}
 
 -- the last of two lists that are the same up to it
 same_last : (xs : List CycleEntry) (a b : CycleEntry) → xs ++ a ∷ [] ≡ xs ++ b ∷ [] → a ≡ b

@@ -16,13 +16,14 @@ use Rattle.af_session.specs.FastTurns as parties
 use Rattle.af_session.specs.Rounds.{IsRound, fast_round, still_round}
 use Rattle.af_session.specs.Rounds as rounds
 use Rattle.af_session.specs.Together.{SessionState}
-use Rattle.af_render_law.specs.FastRound.{IsMarkedRun, MixesAreTold}
+use Rattle.af_told_law.specs.Sizes.{IsMarkedRun}
+use Rattle.af_told_law.specs.MixLaws.{MixesAreTold}
 use Rattle.af_render_law.specs.Laws.{IsBetween, StepIsTold, round_of}
-use Rattle.af_render_law.specs.Tells.{Tells, given_of}
-use Rattle.af_render_law.proofs.AllMeet.{met_histories, tells_met}
+use Rattle.af_told_law.specs.Tells.{Tells, given_of}
+use Rattle.af_told_law.proofs.AllMeet.{met_histories, tells_met}
 use Rattle.af_render_law.proofs.ClientRound.{none_else}
-use Rattle.af_render_law.proofs.EndsTold.{ends_told}
-use Rattle.af_render_law.proofs.FastForm.{form_seen}
+use Rattle.af_told_law.proofs.EndsTold.{ends_told}
+use Rattle.af_told_law.proofs.FastForm.{form_seen}
 use Rattle.af_render_law.proofs.FastTurnTold.{TurnTold, turn_told}
 use Rattle.af_render_law.proofs.IdlePoll.{between_after}
 

@@ -15,12 +15,12 @@ use Rattle.af_session.specs.Together.{SessionState}
 use Rattle.af_session.proofs.FollowingRounds.{ends_keep}
 use Rattle.af_rendering.proofs.RoundTold.{log_turned}
 use Rattle.af_runs.specs.Blocks.{Marks}
-use Rattle.af_render_law.specs.Between.{StandsBetween}
+use Rattle.af_told_law.specs.Between.{StandsBetween}
 use Rattle.af_render_law.proofs.Chain.{FastTurnIsAStep, entries_grown}
 use Rattle.af_render_law.specs.Laws.{IsBetween}
-use Rattle.af_render_law.specs.Tells.{given_of}
+use Rattle.af_told_law.specs.Tells.{given_of}
 use Rattle.af_render_law.proofs.FastRound.{fast_between, fast_step}
-use Rattle.af_render_law.proofs.MixTold.{mix_told}
+use Rattle.af_told_law.proofs.MixTold.{mix_told}
 
 -- the ends of the queue between two rounds
 pub between_by : (x : SessionState) → StandsBetween x → IsBetween x

@@ -15,15 +15,17 @@ use Rattle.af_runs.specs.TurnRuns.{LegalAlone, cycle_alone}
 use Rattle.af_session.specs.FastTurns.{IsCycle, IsFastTurn, WritesCycle}
 use Rattle.af_session.specs.Met.{Met}
 use Rattle.af_session.specs.Together.{AreTogether, SessionState}
-use Rattle.af_render_law.specs.FastRound.{AreSmall, IsMarkedRun, MixesAreTold}
-use Rattle.af_render_law.specs.Laws.{IsBetween, entry_told}
-use Rattle.af_render_law.specs.Own.{SeesOwn}
-use Rattle.af_render_law.specs.Tells.{Tells}
+use Rattle.af_told_law.specs.Sizes.{AreSmall, IsMarkedRun}
+use Rattle.af_told_law.specs.MixLaws.{MixesAreTold}
+use Rattle.af_render_law.specs.Laws.{IsBetween}
+use Rattle.af_told_law.specs.MixLaws.{entry_told}
+use Rattle.af_told_law.specs.Own.{SeesOwn}
+use Rattle.af_told_law.specs.Tells.{Tells}
 use Rattle.af_render_law.proofs.FastCycle.{cycle_legal, cycle_tame, cycle_told, next_between, next_caught, next_small}
-use Rattle.af_render_law.proofs.FastForm.{AreTurn, mixed_entry}
-use Rattle.af_render_law.proofs.FastGrows.{adds, frames_grow, frames_more, goes_on, one_more, still_room, still_runs, taken, taken_long}
+use Rattle.af_told_law.proofs.FastForm.{AreTurn, mixed_entry}
+use Rattle.af_told_law.proofs.FastGrows.{adds, frames_grow, frames_more, goes_on, one_more, still_room, still_runs, taken, taken_long}
 use Rattle.af_render_law.proofs.IdlePoll.{idle_meetings_show}
-use Rattle.af_render_law.proofs.MeetsShow.{meetings_show}
+use Rattle.af_told_law.proofs.MeetsShow.{meetings_show}
 
 -- what a log has past some frames that it begins with
 past_first : (frames first rest : List Frame) → frames ≡ first ++ rest → drop (length first) frames ≡ rest

@@ -19,10 +19,10 @@ use Rattle.af_rendering.specs.Leads.{InStep, LeadAway}
 use Rattle.af_session.specs.Met.{Met, item_at, slot_for}
 use Rattle.af_session.specs.Together.{AreTogether, SessionState}
 use Rattle.af_rendering.proofs.QueueSteps.{Finds, finds, finds_none, step_met}
-use Rattle.af_render_law.specs.FastRound.{AreSmall}
+use Rattle.af_told_law.specs.Sizes.{AreSmall}
 use Rattle.af_render_law.specs.Laws.{IsBetween}
-use Rattle.af_render_law.specs.Own.{SeesOwn}
-use Rattle.af_render_law.proofs.MeetsShow.{meetings_show}
+use Rattle.af_told_law.specs.Own.{SeesOwn}
+use Rattle.af_told_law.proofs.MeetsShow.{meetings_show}
 
 abbrev Watching : Type 0
 Watching = Observes ServerState StreamNames

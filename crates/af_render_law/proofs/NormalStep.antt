@@ -27,22 +27,22 @@ use Rattle.af_session.proofs.FollowingRounds.{ends_keep}
 use Rattle.af_stateq.specs.Ends.{Pushes}
 use Rattle.af_turn_law.specs.Acting.{FindsShutUnseen}
 use Rattle.af_render_law.proofs.Chain.{Holds, NormalTurnIsAStep}
-use Rattle.af_render_law.specs.FastRound.{AreSmall}
+use Rattle.af_told_law.specs.Sizes.{AreSmall}
 use Rattle.af_render_law.specs.Laws.{StepIsTold, round_of}
-use Rattle.af_render_law.specs.NormalLaws.{PartsAreTold, PartsTold, turned_run}
-use Rattle.af_render_law.specs.Own.{SeesOwn}
-use Rattle.af_render_law.specs.QueueTurned.{QueueKnown}
-use Rattle.af_render_law.specs.Tells.{Tells, given_of}
-use Rattle.af_render_law.proofs.AllMeet.{met_histories, tells_met}
+use Rattle.af_told_law.specs.NormalLaws.{PartsAreTold, PartsTold, turned_run}
+use Rattle.af_told_law.specs.Own.{SeesOwn}
+use Rattle.af_told_law.specs.QueueTurned.{QueueKnown}
+use Rattle.af_told_law.specs.Tells.{Tells, given_of}
+use Rattle.af_told_law.proofs.AllMeet.{met_histories, tells_met}
 use Rattle.af_render_law.proofs.BetweenRounds.{leads_turned}
 use Rattle.af_render_law.proofs.ClientRound.{none_else}
-use Rattle.af_render_law.proofs.EndsTold.{ends_told}
-use Rattle.af_render_law.proofs.KnownSteps.{Quiet, known_same, quiet_ends, quiet_met, quiet_then}
-use Rattle.af_render_law.proofs.MeetsShow.{meetings_show}
-use Rattle.af_render_law.proofs.NormalRound.{known_now, legal_now, report_found, tells_turned}
+use Rattle.af_told_law.proofs.EndsTold.{ends_told}
+use Rattle.af_told_law.proofs.KnownSteps.{Quiet, known_same, quiet_ends, quiet_met, quiet_then}
+use Rattle.af_told_law.proofs.MeetsShow.{meetings_show}
+use Rattle.af_told_law.proofs.NormalRound.{known_now, legal_now, report_found, tells_turned}
 use Rattle.af_render_law.proofs.ShutUnseen.{shut_unseen}
-use Rattle.af_render_law.proofs.TameRuns.{small_told}
-use Rattle.af_render_law.proofs.TurnCounts.{turns_made}
+use Rattle.af_told_law.proofs.TameRuns.{small_told}
+use Rattle.af_told_law.proofs.TurnCounts.{turns_made}
 
 -- one turn more is counted
 made_turns : (x y : NormalState) → TurnMade (answer_of (turn_of y.entry)) x y → y.turns ≡ x.turns + 1

@@ -27,16 +27,16 @@ use Rattle.af_judge.proofs.StatesRuns.{scales_of}
 use Rattle.af_render_law.specs.Aware.{KnowsAway}
 use Rattle.af_render_law.proofs.Chain.{AreCounted, FastTurnIsAStep, Holds, NormalTurnIsAStep, entries_grown}
 use Rattle.af_render_law.specs.Laws.{AreSteps}
-use Rattle.af_render_law.specs.Marked.{AreRoundsMarked}
-use Rattle.af_render_law.specs.Tells.{Tells}
+use Rattle.af_told_law.specs.Marked.{AreRoundsMarked}
+use Rattle.af_told_law.specs.Tells.{Tells}
 use Rattle.af_render_law.proofs.BetweenRounds.{stands_first}
 use Rattle.af_render_law.proofs.InvalidKept.{invalid_new}
-use Rattle.af_render_law.proofs.KnownSteps.{known_new}
-use Rattle.af_render_law.proofs.LogMore.{all_asked}
-use Rattle.af_render_law.proofs.MarkedRuns.{marks_free, new_marked}
-use Rattle.af_render_law.proofs.NewTold.{new_told}
-use Rattle.af_render_law.proofs.PipeCells.{cells_new}
-use Rattle.af_render_law.proofs.SmallRuns.{new_small}
+use Rattle.af_told_law.proofs.KnownSteps.{known_new}
+use Rattle.af_told_law.proofs.LogMore.{all_asked}
+use Rattle.af_told_law.proofs.MarkedRuns.{marks_free, new_marked}
+use Rattle.af_told_law.proofs.NewTold.{new_told}
+use Rattle.af_told_law.proofs.PipeCells.{cells_new}
+use Rattle.af_told_law.proofs.SmallRuns.{new_small}
 use Rattle.af_render_law.proofs.StepTurns.{steps_turns}
 use Rattle.af_render_law.proofs.TameRounds.{tame_new}
 use Rattle.af_render_law.proofs.TurnChain.{chain}

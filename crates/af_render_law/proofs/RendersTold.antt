@@ -15,7 +15,7 @@ use Rattle.af_render_law.proofs.Chain.{FastTurnIsAStep, NormalTurnIsAStep}
 use Rattle.af_render_law.specs.RenderLaws.{RendersAreToldAlone, summary_alone}
 use Rattle.af_render_law.proofs.FastStep.{fast_turns_step}
 use Rattle.af_render_law.proofs.NormalStep.{normal_turns_step}
-use Rattle.af_render_law.proofs.PartsTold.{parts_told}
+use Rattle.af_told_law.proofs.PartsTold.{parts_told}
 use Rattle.af_render_law.proofs.RenderTold.{parties_counted, parties_told, turn_run}
 use Rattle.af_render_law.proofs.SummaryTold.{summary_is}
 

@@ -33,17 +33,17 @@ use Rattle.af_audit.proofs.Booleans.{neither}
 use Rattle.af_judge.proofs.SoundTurns.{sound_acked}
 use Rattle.af_turn_law.specs.Acting.{FindsShutUnseen, SawNoInvalid}
 use Rattle.af_render_law.specs.Aware.{KnowsAway}
-use Rattle.af_render_law.specs.Comers.{ComersTell}
-use Rattle.af_render_law.specs.Own.{SeesOwn}
-use Rattle.af_render_law.specs.Tells.{Tells, held_slot}
-use Rattle.af_render_law.proofs.AllMeet.{some_at}
+use Rattle.af_told_law.specs.Comers.{ComersTell}
+use Rattle.af_told_law.specs.Own.{SeesOwn}
+use Rattle.af_told_law.specs.Tells.{Tells, held_slot}
+use Rattle.af_told_law.proofs.AllMeet.{some_at}
 use Rattle.af_render_law.proofs.InvalidKept.{InvalidKept, away_unset}
-use Rattle.af_render_law.proofs.LegalAlike.{invalid_same}
+use Rattle.af_told_law.proofs.LegalAlike.{invalid_same}
 use Rattle.af_render_law.proofs.NoInvalid.{HandSetNoInvalid, SetNoInvalid, set_first, unseen}
-use Rattle.af_render_law.proofs.NormalFound.{stream_found, turn_alike}
+use Rattle.af_told_law.proofs.NormalFound.{stream_found, turn_alike}
 use Rattle.af_render_law.proofs.RunCalm.{AllOpen}
-use Rattle.af_render_law.proofs.SlotHeld.{is_held}
-use Rattle.af_render_law.proofs.TurnAlike.{learn_alike, served_holder, tracks_same}
+use Rattle.af_told_law.proofs.SlotHeld.{is_held}
+use Rattle.af_told_law.proofs.TurnAlike.{learn_alike, served_holder, tracks_same}
 
 none_there : {X : Type 0} (o : Option X) → is_some o ≡ false → o ≡ None
 none_there None h = refl

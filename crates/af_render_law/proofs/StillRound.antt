@@ -21,10 +21,10 @@ use Rattle.af_session.specs.Met.{Met}
 use Rattle.af_session.specs.Rounds.{IsRound, NormalTurned, fast_round, normal_round, still_round}
 use Rattle.af_session.specs.Together.{AreTogether, SessionState}
 use Rattle.af_render_law.specs.Laws.{StepIsTold, round_of}
-use Rattle.af_render_law.specs.Tells.{Tells, given_of}
-use Rattle.af_render_law.proofs.AllMeet.{met_histories, tells_met}
+use Rattle.af_told_law.specs.Tells.{Tells, given_of}
+use Rattle.af_told_law.proofs.AllMeet.{met_histories, tells_met}
 use Rattle.af_render_law.proofs.ClientRound.{none_else}
-use Rattle.af_render_law.proofs.EndsTold.{ends_told}
+use Rattle.af_told_law.proofs.EndsTold.{ends_told}
 
 module _ (links : Links) (s : Session) (marks : Marks) (run : Run) (x : SessionState) (r : RoundNoted) (bytes : List ℕ) (y : SessionState) (entries : List EntrySeen) (h : Tells s run x) (together : AreTogether links x) where
   abbrev round : RoundSeen

@@ -15,7 +15,7 @@ use Rattle.af_session.specs.Together.{SessionState}
 use Rattle.af_tally.specs.Summaries.{summary_of}
 use Rattle.af_render_law.proofs.Chain.{AreCounted}
 use Rattle.af_render_law.specs.RenderLaws.{run_told, summary_alone}
-use Rattle.af_render_law.specs.Tells.{Tells}
+use Rattle.af_told_law.specs.Tells.{Tells}
 
 -- two lists give the same where each place does
 same_maps : (xs : List PartyState) (ts : List TrackTold) → length ts ≡ length xs → ((i : ℕ) (p : PartyState) (t : TrackTold) → slice_get xs i ≡ Some p → slice_get ts i ≡ Some t → p.stream.released ≡ length t.stream.released)

@@ -24,7 +24,7 @@ use Rattle.af_turn_law.proofs.RunShared.{SharedDone, shared_rest, shared_mixed, 
 use Rattle.af_turn_law.proofs.TurnActs.{acts}
 use Rattle.af_turn_law.proofs.TurnsForced.{TurnsReady, turn_by, queue_told, round_forced}
 use Rattle.af_render_law.proofs.RunCalm.{RunCalm, AllOpen, run_calm_met, run_calm_ends, open_ends, run_calm_calls, run_calm_cycles, run_calm_turned}
-use Rattle.af_render_law.proofs.TakesRise.{turn_rises}
+use Rattle.af_told_law.proofs.TakesRise.{turn_rises}
 use Rattle.af_render_law.proofs.TrackCalm.{TrackCalm, IsOpenStream, stream_open}
 
 -- all that is kept between two rounds

@@ -6,7 +6,7 @@ use Rattle.af_normal.specs.Mixing.{stream_at}
 use Rattle.af_party.specs.Parties.{PartyState}
 use Rattle.af_session.specs.Met.{item_at}
 use Rattle.af_session.specs.Together.{SessionState}
-use Rattle.af_render_law.specs.Tells.{held_slot}
+use Rattle.af_told_law.specs.Tells.{held_slot}
 
 -- where a stream proxy is neither home nor held, and its client has not poked, the client's list and the hand's have a history with the server's list as the hand knows it
 abbrev pub KnowsAway : SessionState → Type 0

@@ -1,15 +1,9 @@
 -- What the laws say.
-use Rattle.std.specs.Prelude.{◌≡◌, ℕ, drop, take, List, [], ◌∷◌, Some}
-use Rattle.af_base.specs.declared.frame.Frame.{Frame}
-use Rattle.af_base.specs.declared.log.CycleEntry.{CycleEntry}
+use Rattle.std.specs.Prelude.{◌≡◌, take, List, [], ◌∷◌, Some}
 use Rattle.af_base.specs.Turn.{Turn}
 use Rattle.af_script.specs.declared.op.TurnSpec.{TurnSpec}
-use Rattle.af_fast.specs.Mixer.{MixerState}
 use Rattle.af_model.specs.StateQueue.{HasHistory}
-use Rattle.af_base.specs.declared.event.ClientEvent.{ClientEvent}
-use Rattle.af_model.specs.Order.{ones, twos}
-use Rattle.af_runs.specs.Told.{PipeTold}
-use Rattle.af_model.specs.Journals.{EntrySeen, RoundNoted, RoundSeen, taken_by}
+use Rattle.af_model.specs.Journals.{EntrySeen, RoundNoted, RoundSeen}
 use Rattle.af_runs.specs.Blocks.{Marks}
 use Rattle.af_runs.specs.Rounds.{HaveHistories}
 use Rattle.af_runs.specs.Runs.{Run, found_before, with_ends}
@@ -18,7 +12,7 @@ use Rattle.af_runs.specs.TurnRuns.{IsMadeBy, met_alone}
 use Rattle.af_rendering.specs.Leads.{InStep, LeadAway}
 use Rattle.af_session.specs.Together.{SessionState}
 use Rattle.af_turn_law.specs.Acting.{FindsShutUnseen}
-use Rattle.af_render_law.specs.Tells.{Tells}
+use Rattle.af_told_law.specs.Tells.{Tells}
 
 -- a round as the journal has it, where these entries are left
 abbrev pub round_of : RoundNoted → List EntrySeen → RoundSeen
@@ -43,14 +37,3 @@ pub record IsBetween (x : SessionState) : Type 0 where
   pub history : HasHistory x.normal.mutator.past.first x.normal.mutator.past.events x.fast.observer.past.events
   pub state : LeadAway x.fast.observer.past.state x.normal.tracks
   pub last : LeadAway x.normal.mutator.past.last x.normal.tracks
-
--- an entry as the journal has it, where the log had so many frames before
-abbrev pub entry_told : List Frame → ℕ → CycleEntry → EntrySeen
-entry_told frames place entry = record { entry = entry; frames = take (taken_by entry) (drop place frames) }
-
--- the pipe's ends did and have what is told
-pub record PipeTells (p : PipeTold) (puts : List ClientEvent) (put : List ℕ) (f : MixerState) : Type 0 where
-  pub puts_are : puts ≡ ones p.told
-  pub put_is : put ≡ p.put
-  pub takes : f.pipe.pass.part.events ≡ twos p.told
-  pub taken : f.pipe.pass.part.frames ≡ p.taken

@@ -1,15 +1,3 @@
-pub mod Marked
-pub mod Alike
-pub mod Tells
 pub mod Laws
-pub mod Own
-pub mod Between
-pub mod QueueTurned
-pub mod MixLaws
-pub mod FastRound
-pub mod Places
-pub mod Outsides
-pub mod Comers
-pub mod NormalLaws
 pub mod RenderLaws
 pub mod Aware

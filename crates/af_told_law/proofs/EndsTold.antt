@@ -1,0 +1,61 @@
+-- Once the normal mixer has ended all clients have, in the session and in the run.
+use Rattle.std.proofs.Common.{◌≡◌, ℕ, ◌<◌, Bool, true, false, if◌then◌else◌, map, length, slice_get, Some, sym, ap, ◌∙◌, subst, arith}
+use Rattle.std.proofs.lemmas.List.{length-map}
+use Rattle.std.proofs.lemmas.Option.{same_Some, slice_get-map, slice_get_within}
+use Rattle.std.specs.Option.{option_map}
+use Rattle.af_life.specs.Kept.{NormalKept}
+use Rattle.af_party.specs.Parties.{PartyState}
+use Rattle.af_runs.specs.Clients.{ends}
+use Rattle.af_runs.specs.ClientTurns.{Track}
+use Rattle.af_runs.specs.Runs.{Run, TrackTold, each_track, told_at, with_ends}
+use Rattle.af_runs.specs.Sessions.{Session}
+use Rattle.af_judge.proofs.EachTrack.{each_long, told_each}
+use Rattle.af_session.specs.Rounds.{end_party}
+use Rattle.af_session.specs.Rounds as parties
+use Rattle.af_session.specs.Together.{SessionState}
+use Rattle.af_told_law.specs.Tells.{Tells, TellsTrack}
+use Rattle.af_told_law.proofs.AllMeet.{some_at}
+
+module _ (s : Session) (run : Run) (x : SessionState) (h : Tells s run x) where
+  abbrev ended_track : ℕ → TrackTold → TrackTold
+  ended_track n t = record t { client = ends t.client }
+
+  all_ended : Tells s (each_track ended_track run) (record x { clients = map end_party x.clients })
+  all_ended = record {
+    count = (each_long ended_track 0 run.tracks ∙ h.count.0, length-map x.clients end_party ∙ h.count.1);
+    tracks = λ i q is. ended_at i q is;
+    shared = record {
+      first = h.shared.first;
+      mutator = h.shared.mutator;
+      observer = h.shared.observer;
+      reader = h.shared.reader;
+      writer = h.shared.writer;
+      puts = record { told = h.shared.puts.told; words = h.shared.puts.words };
+      takes = h.shared.takes;
+      taken = h.shared.taken;
+      size = h.shared.size;
+    };
+    normal = record { setup = h.normal.setup; kept = h.normal.kept; hands = h.normal.hands; states = h.normal.states; number = h.normal.number; last = h.normal.last };
+    fast = record { frames = h.fast.frames; cycles = h.fast.cycles; current = h.fast.current; state = h.fast.state; entries = h.fast.entries; logged = h.fast.logged; exited = h.fast.exited; reports = h.fast.reports; fresh = h.fast.fresh };
+  }
+    where
+      ended_at : (i : ℕ) (q : PartyState) → slice_get (map end_party x.clients) i ≡ Some q → TellsTrack s x.normal x.fast i (told_at (each_track ended_track run) i) q
+      ended_at i q is =
+          let within : i < length x.clients = (let w = slice_get_within (map end_party x.clients) i q is in let n = length-map x.clients end_party in omega (arith, w, n)) in
+          let p = some_at x.clients i within in
+          let one : end_party p.0 ≡ q = same_Some (end_party p.0) q (sym (slice_get-map end_party x.clients i ∙ ap (option_map end_party) p.1) ∙ is) in
+          let told : TellsTrack s x.normal x.fast i (told_at run i) p.0 = h.tracks i p.0 p.1 in
+          let now : told_at (each_track ended_track run) i ≡ ended_track i (told_at run i) = told_each ended_track run i (let a = h.count.0 in let b = h.count.1 in omega (arith, within, a, b)) in
+          subst (λ (y : TrackTold × PartyState). TellsTrack s x.normal x.fast i y.0 y.1) (λ j. (sym now j, one j))
+          (record { client = ap (λ (t : Track). let u : Track = record t { client = ends t.client } in u) told.client; stream = told.stream; commands = told.commands })
+
+  by_end : (b : Bool) → Tells s (if b then each_track ended_track run else run) (if b then record x { clients = map end_party x.clients } else x)
+  by_end true = all_ended
+  by_end false = h
+
+  -- the clients end in both
+  pub ends_told : Tells s (with_ends run) (parties.with_ends x)
+  unfolding with_ends
+  ends_told =
+      let same : x.normal.ended ≡ run.normal.ended = ap (λ (k : NormalKept). k.ended) h.normal.kept in
+      subst (λ (b : Bool). Tells s (if b then each_track ended_track run else run) (if x.normal.ended then record x { clients = map end_party x.clients } else x)) same (by_end x.normal.ended)

@@ -1,0 +1,39 @@
+-- What a mix leaves of the pipe is told by the run's mix, where its look saw the number of frames taken before.
+use Rattle.std.proofs.Common.{◌≡◌, ℕ, Bool, true, if◌then◌else◌, map, List, ◌∷◌, ◌++◌, length, sym, ap, ◌∙◌, append-nil, subst}
+use Rattle.af_base.specs.declared.event.ClientEvent.{ClientEvent}
+use Rattle.af_base.specs.declared.event.ServerEvent.{ServerEvent}
+use Rattle.af_base.specs.declared.event.ServerEvent.TheVariants as server
+use Rattle.af_base.specs.Log.{entry_slot, frames_taken}
+use Rattle.af_base.specs.Sample.{packed_word}
+use Rattle.af_fast.specs.Mixer.{MixerState}
+use Rattle.af_fast.specs.Mixing.{Takes}
+use Rattle.af_model.specs.Cycles.{SubmixSlot, is_mixed, takes_shown}
+use Rattle.af_model.specs.Journals.{EntrySeen, slot_frames}
+use Rattle.af_model.specs.Order.{ones, twos}
+use Rattle.af_model.specs.Point.{wrapped}
+use Rattle.af_model.proofs.Splits.{ones_append}
+use Rattle.af_runs.specs.Runs.{mixed_pipe}
+use Rattle.af_runs.specs.Told.{PipeTold}
+use Rattle.af_told_law.specs.MixLaws.{PipeTells}
+use Rattle.af_told_law.proofs.SharedMeets.{of_two, ones_two, twos_append, twos_two}
+
+module _ (f g : MixerState) (e : EntrySeen) (p : PipeTold) (puts : List ClientEvent) (put : List ℕ) (h : PipeTells p puts put f) (mixed : is_mixed e.entry.cycle ≡ true) (takes : Takes f g e.entry)
+    (submix : SubmixSlot f.frames f.pipe.pass.part.events g.pipe.pass.part.events (entry_slot e.entry 0)) (front : submix.front ≡ wrapped (length f.pipe.pass.part.frames))
+    (frames : frames_taken g.log.frames (entry_slot e.entry 0) ≡ slot_frames e 0) where
+  abbrev more : List ServerEvent
+  more = server.SawRear (entry_slot e.entry 0).rear ∷ server.SawFront (wrapped (length p.taken)) ∷ takes_shown (entry_slot e.entry 0).seen
+
+  abbrev after : PipeTold
+  after = record p { told = p.told ++ map (of_two ClientEvent) more; taken = p.taken ++ map packed_word (slot_frames e 0) }
+
+  after_told : PipeTells after puts put g
+  after_told = record {
+    puts_are = h.puts_are ∙ sym (ones_append p.told (map (of_two ClientEvent) more) ∙ ap (λ (l : List ClientEvent). ones p.told ++ l) (ones_two ClientEvent more) ∙ append-nil (ones p.told));
+    put_is = h.put_is;
+    takes = submix.list ∙ (λ j. h.takes j ++ server.SawRear (entry_slot e.entry 0).rear ∷ server.SawFront ((front ∙ ap (λ (l : List ℕ). wrapped (length l)) h.taken) j) ∷ takes_shown (entry_slot e.entry 0).seen)
+        ∙ sym (twos_append p.told (map (of_two ClientEvent) more) ∙ ap (λ (l : List ServerEvent). twos p.told ++ l) (twos_two ClientEvent more));
+    taken = takes.piped mixed ∙ (λ j. h.taken j ++ map packed_word (frames j));
+  }
+
+  pub pipe_mixed : PipeTells (mixed_pipe e p) puts put g
+  pipe_mixed = subst (λ (b : Bool). PipeTells (if b then after else p) puts put g) (sym mixed) after_told

@@ -1,0 +1,64 @@
+-- A cycle that mixes nothing leaves each stream as the run's mix tells it: nothing was played.
+use Rattle.std.proofs.Common.{◌≡◌, ⊎_elim, ℕ, zero, suc, ◌+◌, ◌<◌, ◌≤◌, ◌==◌, ◌&&◌, nat_lt, not, Bool, true, false, if◌then◌else◌, find, replicate, length, Option, Some, None, refl, sym, ap, ◌∙◌, subst, arith}
+use Rattle.std.specs.List.{range_with_len}
+use Rattle.std.specs.Prelude.{slice_index_or}
+use Rattle.std.proofs.lemmas.Bool.{cases_lt}
+use Rattle.std.proofs.lemmas.List.{get_or-replicate, get_or_past, length-replicate}
+use Rattle.af_base.specs.declared.log.CycleEntry.{CycleEntry}
+use Rattle.af_base.specs.declared.log.SlotEntry.{SlotEntry}
+use Rattle.af_base.specs.declared.state.FastState.{FastState}
+use Rattle.af_base.specs.Log.{absent, entry_slot, slots}
+use Rattle.af_fast.specs.Mixer.{MixerState}
+use Rattle.af_link.specs.declared.names.StreamNames.{StreamNames}
+use Rattle.af_model.specs.Cycles.{still_entry}
+use Rattle.af_model.specs.Journals.{EntrySeen}
+use Rattle.af_model.specs.StateQueue.{carries, observed, slot_of}
+use Rattle.af_normal.specs.State.{NormalState}
+use Rattle.af_runs.specs.Blocks.{BlockTold}
+use Rattle.af_runs.specs.Fronts.{is_shown}
+use Rattle.af_runs.specs.Runs.{TrackTold, mixed_track, played, plays}
+use Rattle.af_runs.specs.Runs as run_of
+use Rattle.af_runs.specs.Sessions.{Session, cycle_frames}
+use Rattle.af_server.specs.Order.{ServerState}
+use Rattle.af_stateq.specs.Mutates.{at}
+use Rattle.af_stateq.specs.Observes.{Observes}
+use Rattle.af_session.specs.Met.{item_at, slot_for}
+use Rattle.af_told_law.specs.Tells.{IfThere, TellsAway, TellsStream, items_sent, mutated_by}
+
+abbrev Watching : Type 0
+Watching = Observes ServerState StreamNames
+
+-- ## Nothing is played
+
+none_found : (p : ℕ → Bool) (a n : ℕ) → ((k : ℕ) → p k ≡ false) → find p (range_with_len a n) ≡ None
+none_found p a zero all = refl
+none_found p a (suc n) all = ap (λ (b : Bool). if b then Some a else find p (range_with_len (a + 1) n)) (all a) ∙ none_found p (a + 1) n all
+
+absent_all : (k : ℕ) → slice_index_or (replicate slots absent) k absent ≡ absent
+absent_all k = ⊎_elim (λ (low : k < slots). get_or-replicate slots k absent absent low) (λ (high : slots ≤ k). get_or_past (replicate slots absent) k absent (let l : length (replicate slots absent) ≡ slots = length-replicate slots absent in omega (arith, l, high))) (cases_lt k slots)
+
+and_off : (a b c : Bool) → b ≡ false → ((a && b) && c) ≡ false
+and_off true b c off = ap (λ (d : Bool). d && c) off
+and_off false b c off = refl
+
+-- a track after an entry that mixes nothing
+pub track_still : (s : Session) (x : FastState) (e : EntrySeen) (i : ℕ) (t : TrackTold) → e.entry ≡ still_entry e.entry.state e.entry.cycle → mixed_track s x e i t ≡ t
+track_still s x e i t still =
+    let none : run_of.slot_for x e.entry i ≡ None = none_found (λ k. plays x e.entry k && ((slot_of x k).track == i)) 0 slots (λ k.
+    and_off (carries x k) (is_shown (entry_slot e.entry k).seen) ((slot_of x k).track == i) (ap (λ (entry : CycleEntry). is_shown (entry_slot entry k).seen) still ∙ ap (λ (slot : SlotEntry). is_shown slot.seen) (absent_all k))) in
+    ap (λ (o : Option ℕ). elim o as (λ o. TrackTold) [ None ↦ t | Some k ↦ record t { stream = played (cycle_frames s) e k t.stream } ]) none
+
+-- ## The same observer
+
+module _ (m : NormalState) (f g : MixerState) (is : g.observer ≡ f.observer) (i : ℕ) (b : BlockTold) where
+  away_same : (k : ℕ) → TellsAway m f i k b → TellsAway m g i k b
+  away_same k h = record {
+    held = subst (λ (o : Watching). IfThere b (item_at o.items (slot_for o.past.state i))) (sym is) h.held;
+    goes = subst (λ (o : Watching). slot_for o.past.state i ≡ None → nat_lt o.past.number m.mutator.past.number ≡ true → IfThere b (at (items_sent m) k)) (sym is) h.goes;
+    comes = subst (λ (o : Watching). slot_for o.past.state i ≡ None → (not (nat_lt o.past.number m.mutator.past.number) && not (mutated_by m).clear) ≡ true → IfThere b (at (observed o.past.events).given k)) (sym is) h.comes;
+    waits = subst (λ (o : Watching). slot_for o.past.state i ≡ None → ((not (nat_lt o.past.number m.mutator.past.number) && not (mutated_by m).clear) ≡ true → at (observed o.past.events).given k ≡ None) → IfThere b (at m.mutator.pending k)) (sym is) h.waits;
+    back = subst (λ (o : Watching). slot_for o.past.state i ≡ None → ((not (nat_lt o.past.number m.mutator.past.number) && not (mutated_by m).clear) ≡ true → at (observed o.past.events).given k ≡ None) → IfThere b (at m.mutator.returned k)) (sym is) h.back;
+  }
+
+  pub stream_stays : TellsStream m f i b → TellsStream m g i b
+  stream_stays h = record { home = h.home; away = (λ off. away_same _ (h.away off)); hand = h.hand }

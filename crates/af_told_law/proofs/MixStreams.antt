@@ -1,0 +1,212 @@
+-- What a mix leaves of a stream is told by the run's mix: on a block that wasn't poked each front that its looks saw is the server's own, and on another one each front by which it answers so leaves the same.
+use Rattle.std.proofs.Common.{◌≡◌, ℕ, zero, suc, ◌+◌, ◌<◌, ◌==◌, ◌&&◌, not, nat_lt, Bool, true, false, true≢false, if◌then◌else◌, find, fold, is_some, map, List, [], ◌∷◌, ◌++◌, length, Option, Some, None, refl, sym, ap, ◌∙◌, subst, arith, append_assoc, append-nil}
+use Rattle.std.specs.List.{range_with_len}
+use Rattle.std.proofs.lemmas.Option.{none-some}
+use Rattle.af_base.specs.declared.event.ServerEvent.{ServerEvent}
+use Rattle.af_base.specs.declared.seen.Seen.{Seen}
+use Rattle.af_base.specs.declared.seen.Seen.TheVariants as seen
+use Rattle.af_base.specs.declared.state.FastState.{FastState}
+use Rattle.af_base.specs.Log.{entry_slot, slots}
+use Rattle.af_base.specs.Sample.{packed_word}
+use Rattle.af_fast.specs.Mixer.{MixerState}
+use Rattle.af_fast.specs.Mixing.{Takes}
+use Rattle.af_fast.specs.Slots.{SlotPlayed}
+use Rattle.af_life.specs.Kept.{is_home, slot_number, track_at}
+use Rattle.af_link.specs.declared.links.Links.{Links}
+use Rattle.af_link.specs.declared.names.StreamNames.{StreamNames}
+use Rattle.af_model.specs.Cycles.{IsSeen, cycle_events, is_mixed}
+use Rattle.af_model.specs.History.{Moment, by_server, hand_of, is_lawful, server_of}
+use Rattle.af_model.specs.Journals.{EntrySeen}
+use Rattle.af_model.specs.StateQueue.{carries, slot_of, observed}
+use Rattle.af_normal.specs.Mixing.{stream_at}
+use Rattle.af_runs.specs.Blocks.{BlockTold}
+use Rattle.af_runs.specs.Blocks as told_of
+use Rattle.af_runs.specs.Fronts.{front_of, is_shown}
+use Rattle.af_runs.specs.Runs.{TrackTold, mixed_track, played, plays}
+use Rattle.af_runs.specs.Runs as run_of
+use Rattle.af_runs.specs.Sessions.{Session, cycle_frames}
+use Rattle.af_server.specs.Order.{ServerState}
+use Rattle.af_server.specs.Slot.{listed}
+use Rattle.af_stateq.specs.Mutates.{at}
+use Rattle.af_stateq.specs.Observes.{Observes}
+use Rattle.af_rendering.specs.Leads.{LeadAway}
+use Rattle.af_session.specs.Met.{is_slot_of, item_at, or_else, slot_below, slot_for}
+use Rattle.af_session.specs.Together.{AreTogether, SessionState}
+use Rattle.af_told_law.specs.Alike.{TellAlike}
+use Rattle.af_told_law.specs.Own.{SawOwn}
+use Rattle.af_told_law.specs.Tells.{SawTold, TellsAway, TellsServer, TellsStream, held_slot, is_coming, is_going, items_given, mutated_by}
+use Rattle.af_told_law.proofs.KeptAlike.{cycle_told_alike}
+use Rattle.af_told_law.proofs.MixLooks.{listed_told, looked_so}
+use Rattle.af_told_law.proofs.MixSlots.{shape_same}
+use Rattle.af_told_law.proofs.SlotHeld.{found_carries, found_track, range_end}
+use Rattle.af_told_law.proofs.TameRuns.{server_client}
+use Rattle.af_told_law.proofs.TrackMeets.{none_there, there_is}
+
+abbrev Watching : Type 0
+Watching = Observes ServerState StreamNames
+
+-- ## The slot by which the run finds a track
+
+find_end : (p : ℕ → Bool) (xs : List ℕ) (n : ℕ) → find p (xs ++ n ∷ []) ≡ or_else (find p xs) (if p n then Some n else None)
+find_end p [] n = refl
+find_end p (x ∷ xs) n = by_first (p x) (find_end p xs n)
+  where
+    by_first : (b : Bool) → find p (xs ++ n ∷ []) ≡ or_else (find p xs) (if p n then Some n else None)
+        → (if b then Some x else find p (xs ++ n ∷ [])) ≡ or_else (if b then Some x else find p xs) (if p n then Some n else None)
+    by_first true rest = refl
+    by_first false rest = rest
+
+first_found : (p : ℕ → Bool) (x : FastState) (i n : ℕ) → ((k : ℕ) → k < n → p k ≡ is_slot_of x i k) → find p (range_with_len 0 n) ≡ slot_below x i n
+first_found p x i zero same = refl
+first_found p x i (suc n) same =
+    ap (find p) (range_end 0 n ∙ ap (λ (k : ℕ). range_with_len 0 n ++ k ∷ []) (let z : 0 + n ≡ n = omega arith in z))
+    ∙ find_end p (range_with_len 0 n) n
+    ∙ (λ j. or_else (first_found p x i n (λ k low. same k (omega (arith, low))) j) (if same n (omega arith) j then Some n else None))
+
+shown_so : (seen : Seen) → IsSeen seen → is_shown seen ≡ true
+shown_so seen.Absent h = absurd h
+shown_so (seen.Frames count) h = refl
+shown_so seen.Empty h = refl
+shown_so (seen.Flushed dropped) h = refl
+shown_so (seen.Shut front rear) h = refl
+
+-- ## A block after some events of its server
+
+server_more : (told : List Moment) (es : List ServerEvent) → server_of (fold (λ told moment. moment ∷ told) told (map by_server es)) ≡ server_of told ++ es
+server_more told [] = sym (append-nil (server_of told))
+server_more told (e ∷ es) = server_more (by_server e ∷ told) es ∙ append_assoc (server_of told) (e ∷ []) es
+
+hand_still : (told : List Moment) (es : List ServerEvent) → hand_of (fold (λ told moment. moment ∷ told) told (map by_server es)) ≡ hand_of told
+hand_still told [] = refl
+hand_still told (e ∷ es) = hand_still (by_server e ∷ told) es
+
+module _ (links : Links) (x : SessionState) (g : MixerState) (together : AreTogether links x) (after : AreTogether links (record x { fast = g })) (e : EntrySeen) (s : Session) (frames : x.fast.frames ≡ cycle_frames s)
+    (current : x.fast.observer.current ≡ Some x.fast.observer.past.state) (mixed : is_mixed e.entry.cycle ≡ true) (takes : Takes x.fast g e.entry) (saw : SawTold x.fast g e) (lead : LeadAway x.fast.observer.past.state x.normal.tracks) where
+  abbrev state : FastState
+  state = x.fast.observer.past.state
+
+  slot_played : (k : ℕ) → k < slots → carries state k ≡ true → SlotPlayed x.fast.frames (at x.fast.observer.items k) (at g.observer.items k) g.log.frames (entry_slot e.entry k)
+  slot_played k low carried = takes.tracks mixed state current k low carried
+
+  plays_is : (i k : ℕ) → k < slots → (plays state e.entry k && ((slot_of state k).track == i)) ≡ is_slot_of state i k
+  plays_is i k low = by_carried (carries state k) refl
+    where
+      by_carried : (c : Bool) → carries state k ≡ c → (plays state e.entry k && ((slot_of state k).track == i)) ≡ is_slot_of state i k
+      by_carried true is =
+          let shown : is_shown (entry_slot e.entry k).seen ≡ true = shown_so (entry_slot e.entry k).seen (slot_played k low is).plays.looks.0 in
+          (λ j. (is j && shown j) && ((slot_of state k).track == i)) ∙ sym (λ j. is j && ((slot_of state k).track == i))
+      by_carried false is = (λ j. (is j && is_shown (entry_slot e.entry k).seen) && ((slot_of state k).track == i)) ∙ sym (λ j. is j && ((slot_of state k).track == i))
+
+  -- the run finds the track where the observer has it
+  found_so : (i : ℕ) → run_of.slot_for state e.entry i ≡ slot_for state i
+  unfolding slot_for
+  found_so i = first_found (λ k. plays state e.entry k && ((slot_of state k).track == i)) state i slots (plays_is i)
+
+  -- the observer did nothing but play its items
+  only_items : g.observer ≡ record x.fast.observer { items = g.observer.items }
+  only_items = takes.observer
+
+  state_same : g.observer.past.state ≡ state
+  state_same = ap (λ (o : Watching). o.past.state) only_items
+
+  going_same : is_going x.normal g ≡ is_going x.normal x.fast
+  going_same = ap (λ (o : Watching). nat_lt o.past.number x.normal.mutator.past.number) only_items
+
+  coming_same : is_coming x.normal g ≡ is_coming x.normal x.fast
+  coming_same = ap (λ (b : Bool). not b && not (mutated_by x.normal).clear) going_same
+
+  given_same : items_given g ≡ items_given x.fast
+  given_same = ap (λ (o : Watching). (observed o.past.events).given) only_items
+
+  held_same : (i : ℕ) → held_slot g i ≡ slot_for state i
+  held_same i = ap (λ (z : FastState). slot_for z i) state_same
+
+  -- a proxy that isn't held stays
+  away_still : (i k : ℕ) (b : BlockTold) → slot_for state i ≡ None → TellsAway x.normal x.fast i k b → TellsAway x.normal g i k b
+  away_still i k b none h = record {
+    held = none_there b (item_at g.observer.items (held_slot g i)) (ap (item_at g.observer.items) (held_same i ∙ none));
+    goes = (λ off going. h.goes none (sym going_same ∙ going));
+    comes = (λ off coming p item. h.comes none (sym coming_same ∙ coming) p (sym (ap (λ (is : List (Option ServerState)). at is k) given_same) ∙ item));
+    waits = (λ off comes. h.waits none (λ coming. sym (ap (λ (is : List (Option ServerState)). at is k) given_same) ∙ comes (coming_same ∙ coming)));
+    back = (λ off comes. h.back none (λ coming. sym (ap (λ (is : List (Option ServerState)). at is k) given_same) ∙ comes (coming_same ∙ coming)));
+  }
+
+  module _ (i : ℕ) (b : BlockTold) (h : TellsStream x.normal x.fast i b) (inside : i < length x.normal.tracks) (own : told_of.is_tame b ≡ true → (k : ℕ) (p : ServerState) → slot_for state i ≡ Some k → at g.observer.items k ≡ Some p → SawOwn p) where
+    abbrev after_mix : ℕ → BlockTold
+    after_mix k = played (cycle_frames s) e k b
+
+    module _ (k : ℕ) (found : slot_for state i ≡ Some k) where
+      low : k < slots
+      low = (found_carries state i k found).0
+
+      carried : carries state k ≡ true
+      carried = (found_carries state i k found).1
+
+      gone : is_home (track_at x.normal.tracks i).holder ≡ false
+      gone = ap (λ (j : ℕ). is_home (track_at x.normal.tracks j).holder) (sym (found_track state i k found)) ∙ (lead k low carried).0
+
+      abbrev one : SlotPlayed x.fast.frames (at x.fast.observer.items k) (at g.observer.items k) g.log.frames (entry_slot e.entry k)
+      one = slot_played k low carried
+
+      old_told : TellsServer b one.old
+      old_told = (h.away gone).held one.old (ap (item_at x.fast.observer.items) found ∙ one.was)
+
+      same_block : one.new.pass.part.shape ≡ one.old.pass.part.shape
+      same_block = shape_same links x g together after lead takes.observer k one.old one.new low one.was one.is
+
+      -- what the run tells that it did
+      abbrev does : List ServerEvent
+      does = cycle_events (cycle_frames s) (told_of.listed b) (entry_slot e.entry k) (front_of (cycle_frames s) (told_of.listed b) (entry_slot e.entry k))
+
+      grown : told_of.server_list (after_mix k) ≡ told_of.server_list b ++ does
+      grown = server_more b.told does
+
+      events_are : told_of.is_tame b ≡ true → cycle_events x.fast.frames (listed one.old) (entry_slot e.entry k) one.plays.front ≡ does
+      events_are tame =
+          (looked_so x.fast.frames one.old one.new (entry_slot e.entry k) same_block one.plays (own tame k one.new found one.is)).0
+          ∙ (λ j. cycle_events (frames j) (listed_told b one.old old_told tame j) (entry_slot e.entry k) (front_of (frames j) (listed_told b one.old old_told tame j) (entry_slot e.entry k)))
+
+      alike_now : TellAlike b.shape (one.old.pass.part.events ++ cycle_events x.fast.frames (listed one.old) (entry_slot e.entry k) one.plays.front) (told_of.server_list b ++ does)
+      alike_now = subst (λ (n : ℕ). TellAlike b.shape (one.old.pass.part.events ++ cycle_events x.fast.frames (listed one.old) (entry_slot e.entry k) one.plays.front) (told_of.server_list b ++ cycle_events n (told_of.listed b) (entry_slot e.entry k) (front_of n (told_of.listed b) (entry_slot e.entry k)))) frames
+          (cycle_told_alike x.fast.frames (listed one.old) (told_of.listed b) (entry_slot e.entry k) one.plays.front old_told.shape old_told.alike one.plays.looks)
+
+      tame_before : told_of.is_tame (after_mix k) ≡ true → told_of.is_tame b ≡ true
+      tame_before tame = sym (ap is_lawful (server_client b.told does)) ∙ tame
+
+      new_told : TellsServer (after_mix k) one.new
+      new_told = record {
+        shape = same_block ∙ old_told.shape;
+        events = (λ tame. one.plays.list ∙ (λ j. old_told.events (tame_before tame) j ++ events_are (tame_before tame) j) ∙ sym grown);
+        alike = subst (λ (y : List ServerEvent × List ServerEvent). TellAlike b.shape y.0 y.1) (λ j. (sym one.plays.list j, sym grown j)) alike_now;
+        taken = one.frames_are ∙ (λ j. old_told.taken j ++ map packed_word (saw.frames k low j));
+      }
+
+      there_none : (o : Option ServerState) → stream_at x.normal.streams i ≡ o → stream_at x.normal.streams i ≡ None
+      there_none None is = is
+      there_none (Some p) is = absurd (true≢false (sym (ap is_some is) ∙ together.normal.tied.proxies.there i inside ∙ gone))
+
+      stream_played : TellsStream x.normal g i (after_mix k)
+      stream_played = record {
+        home = none_there (after_mix k) (stream_at x.normal.streams i) (there_none (stream_at x.normal.streams i) refl);
+        away = (λ off. record {
+          held = there_is (after_mix k) (item_at g.observer.items (held_slot g i)) one.new (ap (item_at g.observer.items) (held_same i ∙ found) ∙ one.is) new_told;
+          goes = (λ none. absurd (none-some k (sym none ∙ held_same i ∙ found)));
+          comes = (λ none. absurd (none-some k (sym none ∙ held_same i ∙ found)));
+          waits = (λ none. absurd (none-some k (sym none ∙ held_same i ∙ found)));
+          back = (λ none. absurd (none-some k (sym none ∙ held_same i ∙ found)));
+        });
+        hand = h.hand ∙ sym (hand_still b.told (cycle_events (cycle_frames s) (told_of.listed b) (entry_slot e.entry k) (front_of (cycle_frames s) (told_of.listed b) (entry_slot e.entry k))));
+      }
+
+  -- the stream of a track after a mix
+  pub stream_mixed : (i : ℕ) (t : TrackTold) → i < length x.normal.tracks → (told_of.is_tame t.stream ≡ true → (k : ℕ) (p : ServerState) → slot_for state i ≡ Some k → at g.observer.items k ≡ Some p → SawOwn p) → TellsStream x.normal x.fast i t.stream
+      → TellsStream x.normal g i (mixed_track s state e i t).stream
+  stream_mixed i t inside own h = by_slot (slot_for state i) refl
+    where
+      by_slot : (o : Option ℕ) → slot_for state i ≡ o → TellsStream x.normal g i (mixed_track s state e i t).stream
+      by_slot None none =
+          subst (λ (o : Option ℕ). TellsStream x.normal g i (elim o as (λ o. TrackTold) [ None ↦ t | Some k ↦ record t { stream = played (cycle_frames s) e k t.stream } ]).stream) (sym (found_so i ∙ none))
+          (record { home = h.home; away = (λ gone. away_still i (slot_number (track_at x.normal.tracks i)) t.stream none (h.away gone)); hand = h.hand })
+      by_slot (Some k) found =
+          subst (λ (o : Option ℕ). TellsStream x.normal g i (elim o as (λ o. TrackTold) [ None ↦ t | Some k ↦ record t { stream = played (cycle_frames s) e k t.stream } ]).stream) (sym (found_so i ∙ found))
+          (stream_played i t.stream h inside own k found)

@@ -1,0 +1,256 @@
+-- A mix is told by the run, where each front that its looks saw at a block that wasn't poked is the server's own: its entry is legal, and the run with it tells the session.
+use Rattle.std.proofs.Common.{◌≡◌, ◌⊎◌, inl, inr, ℕ, ◌<◌, ◌≤◌, Bool, true, false, true≢false, List, [], ◌++◌, length, slice_get, Option, Some, None, refl, sym, ap, ◌∙◌, subst, arith}
+use Rattle.std.proofs.lemmas.Option.{slice_get_within}
+use Rattle.af_base.specs.declared.frame.Frame.{Frame}
+use Rattle.af_base.specs.declared.log.Cycle.{Cycle}
+use Rattle.af_base.specs.declared.log.CycleEntry.{CycleEntry}
+use Rattle.af_base.specs.declared.state.FastState.{FastState}
+use Rattle.af_base.specs.Log.{entry_slot, slots}
+use Rattle.af_cblk.specs.Sides.{Made}
+use Rattle.af_fast.specs.Known.{known, known_at}
+use Rattle.af_fast.specs.Meets.{HaveHistories}
+use Rattle.af_fast.specs.Mixer.{MixerState}
+use Rattle.af_fast.specs.Mixing.{AddsCycle}
+use Rattle.af_fast.specs.Slots.{SlotPlayed}
+use Rattle.af_link.specs.declared.links.Links.{Links}
+use Rattle.af_model.specs.Cycles.{TrackSlot, cycle_events, is_mixed}
+use Rattle.af_model.specs.History.{is_lawful}
+use Rattle.af_model.specs.Journals.{EntrySeen}
+use Rattle.af_model.specs.StateQueue.{carries, slot_of}
+use Rattle.af_party.specs.Parties.{PartyState}
+use Rattle.af_runs.specs.Blocks.{BlockTold, Marks, server_list}
+use Rattle.af_runs.specs.Blocks as told_of
+use Rattle.af_runs.specs.Fronts.{lawful_front}
+use Rattle.af_runs.specs.Rounds.{LegalEntry}
+use Rattle.af_runs.specs.Runs.{Run, TrackTold, known_of, mixed_pipe, mixed_track, next_report, played, state_for, stream_of, told_at, with_looks, with_mix}
+use Rattle.af_runs.specs.Runs as run_of
+use Rattle.af_runs.specs.Sessions.{Session, cycle_frames}
+use Rattle.af_judge.proofs.EachTrack.{each_long, told_each}
+use Rattle.af_judge.proofs.EntryTracks.{mixed_sides}
+use Rattle.af_server.specs.Order.{ServerState}
+use Rattle.af_server.specs.Slot.{listed}
+use Rattle.af_runs.specs.ClientTurns.{Track}
+use Rattle.std.proofs.lemmas.Bool.{cases_lt}
+use Rattle.af_base.specs.declared.event.ServerEvent.{ServerEvent}
+use Rattle.af_stateq.specs.Mutates.{at}
+use Rattle.af_rendering.specs.Leads.{LeadAway}
+use Rattle.af_session.specs.Met.{ends_of, item_at, slot_for}
+use Rattle.af_session.specs.Together.{AreTogether, SessionState}
+use Rattle.af_told_law.specs.MixLaws.{PipeTells}
+use Rattle.af_told_law.specs.MixLaws.{AreMarked, MixIsTold, entry_added}
+use Rattle.af_told_law.specs.Own.{SawOwn, SeesOwn}
+use Rattle.af_told_law.specs.Tells.{IsFresh, SawTold, Tells, TellsCommands, TellsServer, TellsStream, TellsTrack}
+use Rattle.af_told_law.proofs.AllMeet.{some_at}
+use Rattle.af_told_law.proofs.MixCounted as counted
+use Rattle.af_told_law.proofs.MixEnds.{fast_mixed, normal_mixed, pipe_still, shared_mixed}
+use Rattle.af_told_law.proofs.MixKnown.{block_known}
+use Rattle.af_told_law.proofs.MixLegal.{FindsTold, entry_legal}
+use Rattle.af_told_law.proofs.KeptAlike.{looks_told}
+use Rattle.af_told_law.proofs.MixLooks.{looked_told}
+use Rattle.af_told_law.proofs.MixPipe.{pipe_mixed}
+use Rattle.af_told_law.proofs.MixSaw.{current_is, mix_is, saw_told}
+use Rattle.af_told_law.proofs.MixSlots.{found_slot, held_after, inside, order_after, shape_same, state_same}
+use Rattle.af_told_law.proofs.MixStates.{few_adopted, same_cold, same_state, state_told}
+use Rattle.af_told_law.proofs.MixStays.{stream_stays, track_still}
+use Rattle.af_told_law.proofs.MixStreams.{stream_mixed}
+use Rattle.af_told_law.proofs.PipeFront.{front_taken}
+
+-- the commands of a track are as they were
+commands_stay : (s : Session) (x : FastState) (e : EntrySeen) (i : ℕ) (t : TrackTold) → (mixed_track s x e i t).commands ≡ t.commands
+commands_stay s x e i t = by_slot (run_of.slot_for x e.entry i)
+  where
+    by_slot : (o : Option ℕ) → (elim o as (λ o. TrackTold) [ None ↦ t | Some k ↦ record t { stream = played (cycle_frames s) e k t.stream } ]).commands ≡ t.commands
+    by_slot None = refl
+    by_slot (Some k) = refl
+
+-- how the parties stand before a mix to g, after the poll and the meetings of its cycle
+record MayMix (links : Links) (s : Session) (run : Run) (x : SessionState) (g : MixerState) : Type 0 where
+  together : AreTogether links x
+  after : AreTogether links (record x { fast = g })
+  lead : LeadAway x.fast.observer.past.state x.normal.tracks
+  histories : HaveHistories x.fast (ends_of x.normal)
+  told : Tells s run x
+
+module _ (links : Links) (s : Session) (marks : Marks) (run : Run) (x : SessionState) (g : MixerState) (may : MayMix links s run x g) (entry : CycleEntry) (adds : AddsCycle x.fast g entry) (sizes : (g.frames ≡ x.fast.frames) × (g.cycles ≡ x.fast.cycles)) (marked : AreMarked marks run) (own : SeesOwn (record x { fast = g })) where
+  abbrev e : EntrySeen
+  e = entry_added x g entry
+
+  abbrev state : FastState
+  state = x.fast.observer.past.state
+
+  abbrev now : FastState
+  now = state_for s run entry.state
+
+  abbrev session : SessionState
+  session = record x { fast = g }
+
+  now_is : now ≡ state
+  now_is = state_told s run x.normal x.fast may.together.fast.0 may.told.normal may.told.fast may.histories.queue entry.state adds.state
+
+  -- ## Streams
+
+  track_of : (i : ℕ) → i < length x.normal.tracks → (p : PartyState) × (slice_get x.clients i ≡ Some p)
+  track_of i low = some_at x.clients i (let c = may.together.count in omega (arith, c, low))
+
+  stream_before : (i : ℕ) → i < length x.normal.tracks → TellsStream x.normal x.fast i (told_at run i).stream
+  stream_before i low = let p = track_of i low in (may.told.tracks i p.0 p.1).stream
+
+  saw : is_mixed entry.cycle ≡ true → SawTold x.fast g e
+  saw mixed = saw_told links x g may.together may.after may.lead entry adds mixed
+
+  -- what is seen at a block that wasn't poked
+  own_at : (i : ℕ) → i < length x.normal.tracks → told_of.is_tame (told_at run i).stream ≡ true → (k : ℕ) (p : ServerState) → slot_for state i ≡ Some k → at g.observer.items k ≡ Some p → SawOwn p
+  own_at i low tame k p found item =
+      let c = track_of i low in
+      own.held i c.0 p c.1 (ap (λ (t : Track). is_lawful t.stream.events) (sym (may.told.tracks i c.0 c.1).client) ∙ tame)
+      (ap (λ (z : FastState). item_at g.observer.items (slot_for z i)) (state_same links x g may.together may.after may.lead adds.takes.observer) ∙ ap (item_at g.observer.items) found ∙ item)
+
+  stream_after : (i : ℕ) → i < length x.normal.tracks → TellsStream x.normal g i (mixed_track s state e i (told_at run i)).stream
+  stream_after i low = by_mixed (is_mixed entry.cycle) refl
+    where
+      by_mixed : (b : Bool) → is_mixed entry.cycle ≡ b → TellsStream x.normal g i (mixed_track s state e i (told_at run i)).stream
+      by_mixed true mixed =
+          stream_mixed links x g may.together may.after e s may.told.fast.frames (current_is links x g may.together may.after may.lead entry adds mixed) mixed adds.takes (saw mixed) may.lead i (told_at run i) low (own_at i low) (stream_before i low)
+      by_mixed false dry =
+          subst (λ (t : TrackTold). TellsStream x.normal g i t.stream) (sym (track_still s state e i (told_at run i) (adds.legal.still dry)))
+          (stream_stays x.normal x.fast g (adds.takes.still dry).0 i (told_at run i).stream (stream_before i low))
+
+  -- ## The proxies of the slots
+
+  abbrev slot_track : ℕ → ℕ
+  slot_track k = (slot_of state k).track
+
+  module _ (k : ℕ) (low : k < slots) (carried : carries state k ≡ true) where
+    here : slot_track k < length x.normal.tracks
+    here = inside links x g may.together may.after may.lead adds.takes.observer k low carried
+
+    found_here : slot_for state (slot_track k) ≡ Some k
+    found_here = found_slot links x g may.together may.after may.lead adds.takes.observer k low carried
+
+    told_before : (p : ServerState) → at x.fast.observer.items k ≡ Some p → TellsServer (stream_of run state k) p
+    told_before p item = ((stream_before (slot_track k) here).away (may.lead k low carried).0).held p (ap (item_at x.fast.observer.items) found_here ∙ item)
+
+    told_after : (p : ServerState) → at g.observer.items k ≡ Some p → TellsServer (mixed_track s state e (slot_track k) (told_at run (slot_track k))).stream p
+    told_after p item =
+        ((stream_after (slot_track k) here).away (may.lead k low carried).0).held p
+        (ap (λ (z : FastState). item_at g.observer.items (slot_for z (slot_track k))) (state_same links x g may.together may.after may.lead adds.takes.observer) ∙ ap (item_at g.observer.items) found_here ∙ item)
+
+    -- the list that is told of the block, and that of the slot's look after it
+    abbrev block : BlockTold
+    block = stream_of run state k
+
+    slot_told : is_mixed entry.cycle ≡ true → (es : List ServerEvent) × TrackSlot (cycle_frames s) (told_of.listed block) es (entry_slot entry k)
+        × (marks.streams (slot_of state k).track ≡ true → es ≡ server_list block ++ cycle_events (cycle_frames s) (told_of.listed block) (entry_slot entry k) (lawful_front (cycle_frames s) (told_of.listed block) (entry_slot entry k)))
+    slot_told mixed =
+        let one : SlotPlayed x.fast.frames (at x.fast.observer.items k) (at g.observer.items k) g.log.frames (entry_slot entry k) = adds.takes.tracks mixed state (current_is links x g may.together may.after may.lead entry adds mixed) k low carried in
+        let old : TellsServer block one.old = told_before one.old one.was in
+        let same = shape_same links x g may.together may.after may.lead adds.takes.observer k one.old one.new low one.was one.is in
+        subst (λ (n : ℕ). (es : List ServerEvent) × TrackSlot n (told_of.listed block) es (entry_slot entry k)
+        × (marks.streams (slot_of state k).track ≡ true → es ≡ server_list block ++ cycle_events n (told_of.listed block) (entry_slot entry k) (lawful_front n (told_of.listed block) (entry_slot entry k)))) may.told.fast.frames (
+          server_list block ++ cycle_events x.fast.frames (told_of.listed block) (entry_slot entry k) one.plays.front,
+          record { front = one.plays.front; looks = looks_told x.fast.frames (listed one.old) (told_of.listed block) (entry_slot entry k) one.plays.front old.shape old.alike one.plays.looks; list = refl },
+          (λ on.
+              let tame = marked (slot_track k) (let c = may.told.count in let n = may.together.count in let i = here in omega (arith, c, n, i)) on in
+              ap (λ (es : List ServerEvent). server_list block ++ es) (looked_told x.fast.frames one.old one.new (entry_slot entry k) same one.plays (own_at (slot_track k) here tame k one.new found_here one.is) block old tame).1),
+        )
+
+    looked_at : told_at (with_looks s e run) (slot_track k) ≡ mixed_track s state e (slot_track k) (told_at run (slot_track k))
+    looked_at =
+        told_each (mixed_track s now e) run (slot_track k) (let c = may.told.count in let n = may.together.count in let i = here in omega (arith, c, n, i))
+        ∙ ap (λ (z : FastState). mixed_track s z e (slot_track k) (told_at run (slot_track k))) now_is
+
+    knows : known g.observer k ≡ known_of (told_of.listed (stream_of (with_looks s e run) state k))
+    knows =
+        let p = held_after links x g may.together may.after may.lead adds.takes.observer k low carried in
+        ap known_at p.1
+        ∙ block_known (mixed_track s state e (slot_track k) (told_at run (slot_track k))).stream p.0 (order_after links x g may.together may.after may.lead adds.takes.observer k p.0 low p.1) (told_after p.0 p.1)
+        ∙ ap (λ (t : TrackTold). known_of (told_of.listed t.stream)) (sym looked_at)
+
+  -- ## The entry
+
+  -- the list of each slot after the mix
+  slot_after : (k : ℕ) → (es : List ServerEvent) × (is_mixed entry.cycle ≡ true → k < slots → carries state k ≡ true → TrackSlot (cycle_frames s) (told_of.listed (stream_of run state k)) es (entry_slot entry k)
+      × (marks.streams (slot_of state k).track ≡ true → es ≡ server_list (stream_of run state k) ++ cycle_events (cycle_frames s) (told_of.listed (stream_of run state k)) (entry_slot entry k) (lawful_front (cycle_frames s) (told_of.listed (stream_of run state k)) (entry_slot entry k))))
+  slot_after k = by_slot (is_mixed entry.cycle) (cases_lt k slots) (carries state k) refl refl
+    where
+      by_slot : (b : Bool) → (k < slots) ⊎ (slots ≤ k) → (c : Bool) → is_mixed entry.cycle ≡ b → carries state k ≡ c
+          → (es : List ServerEvent) × (is_mixed entry.cycle ≡ true → k < slots → carries state k ≡ true → TrackSlot (cycle_frames s) (told_of.listed (stream_of run state k)) es (entry_slot entry k)
+          × (marks.streams (slot_of state k).track ≡ true → es ≡ server_list (stream_of run state k) ++ cycle_events (cycle_frames s) (told_of.listed (stream_of run state k)) (entry_slot entry k) (lawful_front (cycle_frames s) (told_of.listed (stream_of run state k)) (entry_slot entry k))))
+      by_slot true (inl low) true mixed on = let one = slot_told k low on mixed in (one.0, λ _ _ _. (one.1, one.2))
+      by_slot false low c dry on = ([], λ mixed _ _. absurd (true≢false (sym mixed ∙ dry)))
+      by_slot true (inr high) c mixed on = ([], λ _ low _. absurd (omega (arith, low, high)))
+      by_slot true (inl low) false mixed off = ([], λ _ _ on. absurd (true≢false (sym on ∙ off)))
+
+  finds : FindsTold s marks run x.fast e
+  finds = record {
+    few = few_adopted s run x.normal x.fast may.together.fast.0 may.told.normal may.told.fast may.histories.queue;
+    same = same_state s run x.normal x.fast may.together.fast.0 may.told.normal may.told.fast may.histories.queue entry.state (let n = adds.state in omega (arith, n));
+    cold = same_cold s run x.normal x.fast may.together.fast.0 may.told.normal may.told.fast may.histories.queue;
+    servers = (λ i. record { shape = (stream_of run now i).shape; events = (slot_after i).0 });
+    tracks = (λ mixed i low on. subst (λ (z : FastState). carries z i ≡ true → TrackSlot (cycle_frames s) (told_of.listed (stream_of run z i)) (slot_after i).0 (entry_slot entry i)) (sym now_is) (λ (c : carries state i ≡ true). ((slot_after i).1 mixed low c).0) on);
+    lawful = (λ mixed i low on.
+        subst (λ (z : FastState). carries z i ≡ true → marks.streams (slot_of z i).track ≡ true
+        → (slot_after i).0 ≡ server_list (stream_of run z i) ++ cycle_events (cycle_frames s) (told_of.listed (stream_of run z i)) (entry_slot entry i) (lawful_front (cycle_frames s) (told_of.listed (stream_of run z i)) (entry_slot entry i)))
+        (sym now_is) (λ (c : carries state i ≡ true). ((slot_after i).1 mixed low c).1) on);
+  }
+
+  -- ## The ends
+
+  pipe_before : PipeTells run.pipe x.normal.pipe.pass.part.events x.normal.pipe.pass.part.frames x.fast
+  pipe_before = record { puts_are = may.told.shared.puts.told; put_is = may.told.shared.puts.words; takes = may.told.shared.takes; taken = may.told.shared.taken }
+
+  pipe_after : PipeTells (mixed_pipe e run.pipe) x.normal.pipe.pass.part.events x.normal.pipe.pass.part.frames g
+  pipe_after = by_mixed (is_mixed entry.cycle) refl
+    where
+      by_mixed : (b : Bool) → is_mixed entry.cycle ≡ b → PipeTells (mixed_pipe e run.pipe) x.normal.pipe.pass.part.events x.normal.pipe.pass.part.frames g
+      by_mixed true mixed =
+          let submix = (mix_is links x g may.together may.after may.lead entry adds mixed).submix in
+          pipe_mixed x.fast g e run.pipe x.normal.pipe.pass.part.events x.normal.pipe.pass.part.frames pipe_before mixed adds.takes submix
+          (front_taken x.fast g (ends_of x.normal) (entry_slot entry 0) may.histories own.pipe submix) ((saw mixed).frames 0 (omega arith))
+      by_mixed false dry = pipe_still x.fast g e run.pipe x.normal.pipe.pass.part.events x.normal.pipe.pass.part.frames pipe_before dry adds.takes
+
+  pipe_shape : g.pipe.pass.part.shape.frames ≡ x.fast.pipe.pass.part.shape.frames
+  pipe_shape = ap (λ (m : Made). m.shape.frames) (may.after.fast.1.pipe_is ∙ sym may.together.fast.1.pipe_is)
+
+  report_is : adds.report.0 ≡ next_report s (with_looks s e run) entry
+  report_is = counted.report_is s run x.normal x.fast g e may.together.fast.0 may.told.normal may.told.fast may.histories.queue adds knows
+
+  fresh : IsFresh (with_mix s e run)
+  fresh = counted.fresh_mixed s run x.normal x.fast g e may.together.fast.0 may.told.normal may.told.fast may.histories.queue adds knows
+
+  -- ## All
+
+  track_after : (i : ℕ) (p : PartyState) → slice_get x.clients i ≡ Some p → TellsTrack s x.normal g i (mixed_track s state e i (told_at run i)) p
+  track_after i p is =
+      let old = may.told.tracks i p is in
+      let low : i < length x.normal.tracks = (let w = slice_get_within x.clients i p is in let c = may.together.count in omega (arith, w, c)) in
+      record {
+        client = mixed_sides s state e i (told_at run i) ∙ old.client;
+        stream = stream_after i low;
+        commands = subst (λ (b : BlockTold). (c : ServerState) → slice_get x.normal.commands i ≡ Some c → TellsCommands b c) (sym (commands_stay s state e i (told_at run i))) old.commands;
+      }
+
+  -- the run with the mix tells the session
+  told_all : Tells s (with_mix s e run) session
+  unfolding with_mix
+  told_all = record {
+    count = (each_long (mixed_track s now e) 0 run.tracks ∙ may.told.count.0, may.told.count.1);
+    tracks = (λ i p is.
+        subst (λ (t : TrackTold). TellsTrack s x.normal g i t p)
+        (sym (told_each (mixed_track s now e) run i (let w = slice_get_within x.clients i p is in let c = may.told.count in omega (arith, w, c)) ∙ ap (λ (z : FastState). mixed_track s z e i (told_at run i)) now_is))
+        (track_after i p is));
+    shared = shared_mixed s run x.normal x.fast g e may.told.shared may.told.fast adds sizes may.after.fast.0 pipe_after pipe_shape report_is fresh;
+    normal = normal_mixed s run x.normal x.fast g e may.told.shared may.told.fast adds sizes may.after.fast.0 pipe_after pipe_shape report_is fresh may.told.normal;
+    fast = fast_mixed s run x.normal x.fast g e may.told.shared may.told.fast adds sizes may.after.fast.0 pipe_after pipe_shape report_is fresh;
+  }
+
+  -- the entry is legal
+  legal_entry : LegalEntry s marks run e
+  legal_entry = entry_legal s marks run x.normal x.fast g e may.told.shared may.told.fast adds finds (shared_mixed s run x.normal x.fast g e may.told.shared may.told.fast adds sizes may.after.fast.0 pipe_after pipe_shape report_is fresh)
+
+-- the mix of a mixer that isn't over
+pub mix_told : (links : Links) (s : Session) (marks : Marks) (run : Run) (x : SessionState) (g : MixerState) (out : List Frame) (answer : Cycle) (out' : List Frame) → MixIsTold links s marks run x g out answer out'
+mix_told links s marks run x g out answer out' together after lead on mixes sizes histories told marked own =
+    let added = mixes.adds on in
+    let may : MayMix links s run x g = record { together = together; after = after; lead = lead; histories = histories; told = told } in
+    (added.0, added.1, added.2.entries, told_all links s marks run x g may added.0 added.2 sizes marked own, legal_entry links s marks run x g may added.0 added.2 sizes marked own)

@@ -1,0 +1,140 @@
+-- A new session is told by the run before the first round.
+use Rattle.std.proofs.Common.{◌≡◌, ℕ, zero, suc, ◌<◌, true, true≢false, is_some, length, map, replicate, List, [], slice_get, Some, refl, sym, ap, ◌∙◌, subst, arith}
+use Rattle.std.proofs.lemmas.List.{get_or-replicate}
+use Rattle.std.proofs.lemmas.List.FromFn.{get_or-map-range_with_len, length-map-range_with_len}
+use Rattle.std.proofs.lemmas.Option.{get_or_from_slice_get, same_Some, slice_get_within}
+use Rattle.af_base.specs.declared.frame.Frame.{Frame}
+use Rattle.af_cblk.specs.declared.view.ClientPart.{ClientPart}
+use Rattle.af_cblk.specs.declared.view.ServerPart.{ServerPart}
+use Rattle.af_cblk.specs.Sides.{HandSide}
+use Rattle.af_life.specs.declared.kept.TrackKept.{TrackKept}
+use Rattle.af_life.specs.Kept.{NormalKept, is_home, new_track as first_kept, track_at}
+use Rattle.af_model.specs.declared.shape.Shape.{Shape}
+use Rattle.af_normal.specs.LegalTurned.{hand_events}
+use Rattle.af_normal.specs.State.{NormalState}
+use Rattle.af_fast.specs.Mixer.{MixerState}
+use Rattle.af_party.specs.Parties.{PartyState, track_of}
+use Rattle.af_runs.specs.Blocks.{new_block}
+use Rattle.af_runs.specs.LegalRuns.{session_of}
+use Rattle.af_runs.specs.Runs.{TrackTold, new_run, new_track, no_track, sides_of, told_at}
+use Rattle.af_runs.specs.Sessions.{Session, command_shape, spec_of, stream_shape, track_count, no_spec, spec_setting}
+use Rattle.af_script.specs.Data.{ScriptData}
+use Rattle.af_script.specs.declared.op.Op.{Op}
+use Rattle.af_script.specs.declared.track.TrackSpec.{TrackSpec}
+use Rattle.af_server.specs.Order.{ServerState}
+use Rattle.af_session.specs.NewSession.{IsNewSession}
+use Rattle.af_session.specs.NewTracks.{IsNewServer, IsTrackAt}
+use Rattle.af_session.specs.Rounds.{file_at, ops_at, ops_of}
+use Rattle.af_session.specs.Shares.{SharedState}
+use Rattle.af_session.specs.Together.{SessionState}
+use Rattle.af_told_law.specs.Tells.{Tells, TellsCommands, TellsFast, TellsNormal, TellsServer, TellsShared, TellsStream, TellsTrack, given_of, marked_poll, reports_stored}
+use Rattle.af_told_law.proofs.KeptAlike.{strict_told}
+use Rattle.af_runs.specs.KeptLists.{marked_event}
+use Rattle.af_stateq.specs.Laws.{pushed_states}
+use Rattle.af_runs.specs.Clients.{new_client}
+use Rattle.af_base.specs.Log.{slots}
+use Rattle.af_model.specs.Reports.{no_slot}
+
+-- a track of a new run
+told_new : (s : Session) (i : ℕ) → i < track_count s → told_at (new_run s) i ≡ new_track s i
+told_new s i lt = get_or-map-range_with_len (new_track s) 0 (track_count s) i i no_track lt (omega arith)
+
+-- each track of a new mixer is as none that is there
+as_first : (n i : ℕ) → track_at (replicate n first_kept) i ≡ first_kept
+as_first zero i = refl
+as_first (suc n) zero = refl
+as_first (suc n) (suc i) = as_first n i
+
+-- a server that has done nothing
+server_new : (shape : Shape) (s : ServerState) → IsNewServer shape s → TellsServer (new_block shape) s
+server_new shape s new = strict_told (new_block shape) s (ap (λ (p : ServerPart). p.shape) new.part) (ap (λ (p : ServerPart). p.events) new.part) (ap (λ (p : ServerPart). p.frames) new.part)
+
+module _ (script : ScriptData) (files : List (List Frame)) (shared : SharedState) (x : SessionState) (new : IsNewSession script shared x) where
+  abbrev here : Session
+  here = session_of script files
+
+  all_home : (i : ℕ) → is_home (track_at x.normal.tracks i).holder ≡ true
+  all_home i = ap (λ (t : TrackKept). is_home t.holder) (ap (λ (k : NormalKept). track_at k.tracks i) new.kept ∙ as_first (length (map spec_setting script.tracks)) i)
+
+  no_hands : x.normal.hands ≡ []
+  no_hands = ap (λ (m : NormalState). m.hands) new.normal.is
+
+  module _ (i : ℕ) (p : PartyState) (is : slice_get x.clients i ≡ Some p) where
+    below : i < length script.tracks
+    below = let w = slice_get_within x.clients i p is in let n = new.tracks.parties in omega (arith, w, n)
+
+    abbrev at_place : IsTrackAt script.version i script.tracks shared.streams shared.commands x.clients (record { settings = map spec_setting script.tracks; streams = x.normal.streams; commands = x.normal.commands })
+    at_place = new.tracks.each i below
+
+    spec_is : at_place.spec ≡ spec_of here i
+    spec_is = sym (get_or_from_slice_get script.tracks i at_place.spec no_spec at_place.spec_at)
+
+    ops_are : at_place.spec.ops ≡ ops_at (given_of here) i
+    ops_are = sym (ap ops_of at_place.spec_at)
+
+    client_told : sides_of (new_track here i) ≡ track_of (ops_at (given_of here) i) (file_at (given_of here) i) p
+    client_told =
+        let one : at_place.party ≡ p = same_Some at_place.party p (sym at_place.party_at ∙ is) in
+        ap (λ (spec : TrackSpec). sides_of (record (new_track here i) { client = new_client spec.ops; stream = new_block (stream_shape script.version spec) })) (sym spec_is)
+        ∙ sym (at_place.new.party.track (file_at (given_of here) i))
+        ∙ ap (λ (y : List Op × PartyState). track_of y.0 (file_at (given_of here) i) y.1) (λ j. (ops_are j, one j))
+
+    stream_told : TellsStream x.normal x.fast i (new_track here i).stream
+    stream_told = record {
+      home = (λ s found. subst (λ (y : TrackSpec × ServerState). TellsServer (new_block (stream_shape script.version y.0)) y.1) (λ j. (spec_is j, same_Some at_place.setup.stream s (sym at_place.proxy_at ∙ found) j))
+          (server_new (stream_shape script.version at_place.spec) at_place.setup.stream at_place.new.stream_line.server_new));
+      away = (λ not_home. absurd (true≢false (sym (all_home i) ∙ not_home)));
+      hand = ap (λ (hands : List HandSide). hand_events hands i) no_hands;
+    }
+
+    commands_told : (c : ServerState) → slice_get x.normal.commands i ≡ Some c → TellsCommands (new_track here i).commands c
+    commands_told c found = subst (TellsCommands (new_block command_shape)) (same_Some at_place.setup.command c (sym at_place.control_at ∙ found))
+        (record { server = server_new command_shape at_place.setup.command at_place.new.command_line.server_new; whole = at_place.new.command_line.server_new.whole; none = refl })
+
+    track_told : TellsTrack here x.normal x.fast i (told_at (new_run here) i) p
+    track_told = subst (λ (t : TrackTold). TellsTrack here x.normal x.fast i t p) (sym (told_new here i below)) (record { client = client_told; stream = stream_told; commands = commands_told })
+
+  shared_told : TellsShared here (new_run here) x.normal x.fast
+  shared_told = record {
+    first = new.ends.mutator.begins.0;
+    mutator = ap (map marked_event) new.ends.mutator.silent.2;
+    observer = ap (map marked_poll) new.ends.observer.0.silent.1;
+    reader = new.ends.reports.0;
+    writer = new.ends.reports.1;
+    puts = record { told = ap (λ (c : ClientPart). c.events) new.ends.from.0; words = ap (λ (c : ClientPart). c.frames) new.ends.from.0 };
+    takes = ap (λ (c : ServerPart). c.events) new.ends.to.0;
+    taken = ap (λ (c : ServerPart). c.frames) new.ends.to.0;
+    size = ap (λ (c : ServerPart). c.shape.frames) new.ends.to.0 ∙ new.ends.pipe.0;
+  }
+
+  normal_told : TellsNormal here (new_run here) x.normal
+  normal_told = record {
+    setup = new.setup;
+    kept = new.kept;
+    hands = (λ i lt. ap (λ (hands : List HandSide). is_some (slice_get hands i)) no_hands);
+    states = ap pushed_states new.ends.mutator.silent.2;
+    number = new.ends.mutator.silent.0;
+    last = new.ends.mutator.begins.1;
+  }
+
+  fast_told : TellsFast here (new_run here) x.fast
+  fast_told = record {
+    frames = ap (λ (m : MixerState). m.frames) new.fast;
+    cycles = ap (λ (m : MixerState). m.cycles) new.fast;
+    current = new.ends.observer.0.silent.0;
+    state = new.ends.observer.0.begins;
+    entries = ap (λ (m : MixerState). m.log.entries) new.fast;
+    logged = ap (λ (m : MixerState). length m.log.frames) new.fast;
+    exited = ap (λ (m : MixerState). m.exited) new.fast;
+    reports = ap reports_stored new.ends.reports.1;
+    fresh = (λ none i low. get_or-replicate slots i no_slot no_slot low);
+  }
+
+  pub new_told : Tells here (new_run here) x
+  new_told = record {
+    count = (length-map-range_with_len (new_track here) 0 (track_count here), new.tracks.parties);
+    tracks = track_told;
+    shared = shared_told;
+    normal = normal_told;
+    fast = fast_told;
+  }

@@ -1,0 +1,124 @@
+-- A turn of the normal mixer between two rounds loads the last report that was stored.
+use Rattle.std.proofs.Common.{◌≡◌, ⊎_elim, ℕ, suc, fold, List, [], ◌∷◌, ◌++◌, length, refl, sym, ap, subst, ◌∙◌, append_assoc, arith}
+use Rattle.std.specs.Prelude.{max}
+use Rattle.af_base.specs.declared.log.CycleEntry.{CycleEntry}
+use Rattle.af_base.specs.declared.report.Report.{Report}
+use Rattle.af_fast.specs.Mixer.{MixerState}
+use Rattle.af_latest.specs.Laws.{last_of, stores}
+use Rattle.af_link.specs.declared.links.Links.{Links}
+use Rattle.af_link.specs.Reports.{ReaderSide, WriterSide}
+use Rattle.af_model.specs.declared.newest.ReaderEvent.{ReaderEvent}
+use Rattle.af_model.specs.declared.newest.ReaderEvent.TheVariants.{Load}
+use Rattle.af_model.specs.declared.newest.ReaderEvent.TheVariants as reads
+use Rattle.af_model.specs.declared.newest.WriterEvent.{WriterEvent}
+use Rattle.af_model.specs.declared.newest.WriterEvent.TheVariants.{Store}
+use Rattle.af_model.specs.declared.newest.WriterEvent.TheVariants as writes
+use Rattle.af_model.specs.NewestValue as newest
+use Rattle.af_model.specs.NewestValue.{HasHistory}
+use Rattle.af_model.specs.Order.{one, two, ones, twos}
+use Rattle.af_model.specs.Reports.{no_report}
+use Rattle.af_normal.specs.State.{NormalState}
+use Rattle.af_runs.specs.Runs.{Run, last_report, report_of}
+use Rattle.af_runs.specs.Sessions.{Session}
+use Rattle.af_runs.specs.Told.{ReportTold, report_met}
+use Rattle.af_session.specs.Met.{Met}
+use Rattle.af_session.specs.Together.{AreTogether, SessionState}
+use Rattle.af_told_law.specs.QueueTurned.{ReportMet}
+use Rattle.af_told_law.specs.Tells.{Tells, reports_stored}
+use Rattle.af_told_law.proofs.TurnReport.{all_stored, last_told, loads_behind, loads_first}
+
+-- ## The reports of a list
+
+stored_long : (ws : List (WriterEvent Report)) → length (reports_stored ws) ≡ stores ws
+stored_long [] = refl
+stored_long (Store y ∷ ws) = ap suc (stored_long ws)
+stored_long (writes.Learn c ∷ ws) = stored_long ws
+
+last_stored : (ws : List (WriterEvent Report)) (first : Report) → fold (λ (last : Report) (report : Report). report) first (reports_stored ws) ≡ last_of first ws
+last_stored [] first = refl
+last_stored (Store y ∷ ws) first = last_stored ws y
+last_stored (writes.Learn c ∷ ws) first = last_stored ws first
+
+more_learnt : (ws : List (WriterEvent Report)) (c : ℕ) (first : Report) → (stores (ws ++ writes.Learn c ∷ []) ≡ stores ws) × (last_of first (ws ++ writes.Learn c ∷ []) ≡ last_of first ws)
+more_learnt [] c first = (refl, refl)
+more_learnt (Store y ∷ ws) c first = let rest = more_learnt ws c y in (ap suc rest.0, rest.1)
+more_learnt (writes.Learn d ∷ ws) c first = more_learnt ws c first
+
+ones_met : (told : ReportTold) (c d : ℕ) → ones (told ++ one (writes.Learn c) ∷ two (reads.Learn d) ∷ []) ≡ ones told ++ writes.Learn c ∷ []
+ones_met [] c d = refl
+ones_met (one a ∷ told) c d = ap (λ (l : List (WriterEvent Report)). a ∷ l) (ones_met told c d)
+ones_met (two b ∷ told) c d = ones_met told c d
+
+twos_met : (told : ReportTold) (c d : ℕ) → twos (told ++ one (writes.Learn c) ∷ two (reads.Learn d) ∷ []) ≡ twos told ++ reads.Learn d ∷ []
+twos_met [] c d = refl
+twos_met (one a ∷ told) c d = twos_met told c d
+twos_met (two b ∷ told) c d = ap (λ (l : List (ReaderEvent Report)). b ∷ l) (twos_met told c d)
+
+module _ (s : Session) (run : Run) (x : SessionState) (n : NormalState) (z : SessionState) (links : Links) (together : AreTogether links x) (told : Tells s run x) (met_last : ReportMet run) (meets : Met (record x { normal = n }) z)
+    (k : ℕ) (loaded : Report) (reads_are : n.reader.events ≡ x.normal.reader.events ++ Load k loaded ∷ []) where
+  abbrev ws : List (WriterEvent Report)
+  ws = x.fast.writer.events
+
+  history : HasHistory no_report (ws ++ writes.Learn (length n.reader.events) ∷ []) (n.reader.events ++ reads.Learn (length ws) ∷ [])
+  history = subst (λ (q : WriterSide × ReaderSide). HasHistory no_report q.0.events q.1.events) (λ i. (ap (λ (m : MixerState). m.writer) meets.ends.fast i, ap (λ (m : NormalState). m.reader) meets.ends.normal i)) meets.ends.histories.report
+
+  -- the load sees as many as were stored, and the last of them
+  abbrev Seen : Type 0
+  Seen = (k ≡ stores ws) × (loaded ≡ last_of no_report ws)
+
+  seen : Seen
+  seen = ⊎_elim nothing behind met_last
+    where
+      nothing : run.report ≡ [] → Seen
+      nothing none =
+          let no_reads : x.normal.reader.events ≡ [] = told.shared.reader ∙ ap (λ (r : ReportTold). twos r) none in
+          let no_writes : ws ≡ [] = told.shared.writer ∙ ap (λ (r : ReportTold). ones r) none in
+          let all : twos history.order ≡ Load k loaded ∷ reads.Learn (length ws) ∷ [] = history.of_two ∙ ap (λ (l : List (ReaderEvent Report)). l ++ reads.Learn (length ws) ∷ []) (reads_are ∙ ap (λ (l : List (ReaderEvent Report)). l ++ Load k loaded ∷ []) no_reads) in
+          let at = loads_first (newest.start no_report) history.order history.is_legal k loaded (reads.Learn (length ws) ∷ []) all in
+          let parts : writes.Learn (length n.reader.events) ∷ [] ≡ at.front ++ at.back = sym (history.of_one ∙ ap (λ (l : List (WriterEvent Report)). l ++ writes.Learn (length n.reader.events) ∷ []) no_writes) ∙ at.parts in
+          let stored = all_stored no_report [] (writes.Learn (length n.reader.events) ∷ []) at.front at.back parts (omega arith) tt in
+          let none_stored : stores ws ≡ 0 = ap (λ (l : List (WriterEvent Report)). stores l) no_writes in (
+            (let number = at.number in let some = stored.0 in omega (arith, number, some, none_stored)),
+            at.value ∙ stored.1 ∙ sym (ap (λ (l : List (WriterEvent Report)). last_of no_report l) no_writes),
+          )
+
+      behind : (r : ReportTold) × (run.report ≡ report_met r) → Seen
+      behind (r, is) =
+          let c : ℕ = length (ones r) in
+          let before : x.normal.reader.events ≡ twos r ++ reads.Learn c ∷ [] = told.shared.reader ∙ ap (λ (q : ReportTold). twos q) is ∙ twos_met r (length (twos r)) c in
+          let written : ws ≡ ones r ++ writes.Learn (length (twos r)) ∷ [] = told.shared.writer ∙ ap (λ (q : ReportTold). ones q) is ∙ ones_met r (length (twos r)) c in
+          let all : twos history.order ≡ twos r ++ reads.Learn c ∷ Load k loaded ∷ reads.Learn (length ws) ∷ [] =
+          history.of_two ∙ ap (λ (l : List (ReaderEvent Report)). l ++ reads.Learn (length ws) ∷ []) (reads_are ∙ ap (λ (l : List (ReaderEvent Report)). l ++ Load k loaded ∷ []) before)
+          ∙ append_assoc (twos r ++ reads.Learn c ∷ []) (Load k loaded ∷ []) (reads.Learn (length ws) ∷ []) ∙ append_assoc (twos r) (reads.Learn c ∷ []) (Load k loaded ∷ reads.Learn (length ws) ∷ []) in
+          let found = loads_behind (newest.start no_report) history.order history.is_legal (twos r) c k loaded (reads.Learn (length ws) ∷ []) all in
+          let tail : List (WriterEvent Report) = writes.Learn (length (twos r)) ∷ writes.Learn (length n.reader.events) ∷ [] in
+          let parts : ones r ++ tail ≡ found.at.front ++ found.at.back =
+          sym (history.of_one ∙ ap (λ (l : List (WriterEvent Report)). l ++ writes.Learn (length n.reader.events) ∷ []) written ∙ append_assoc (ones r) (writes.Learn (length (twos r)) ∷ []) (writes.Learn (length n.reader.events) ∷ [])) ∙ found.at.parts in
+          let stored = all_stored no_report (ones r) tail found.at.front found.at.back parts (let l = found.learnt in omega (arith, l)) tt in
+          let same = more_learnt (ones r) (length (twos r)) no_report in
+          let many : stores ws ≡ stores (ones r) = ap (λ (l : List (WriterEvent Report)). stores l) written ∙ same.0 in (
+            (let number = found.at.number in let some = stored.0 in omega (arith, number, some, many)),
+            found.at.value ∙ stored.1 ∙ sym (ap (λ (l : List (WriterEvent Report)). last_of no_report l) written ∙ same.1),
+          )
+
+  entries_many : length x.fast.log.entries ≡ length run.entries
+  entries_many = ap (λ (es : List CycleEntry). length es) told.fast.entries
+
+  -- its cycle is the number of entries, and so is that of the load
+  pub cycle_is : loaded.cycle ≡ length run.entries
+  cycle_is = ap (λ (r : Report). r.cycle) seen.1 ∙ together.fast.0.reports.number ∙ entries_many
+
+  pub number_is : k ≡ length run.entries
+  number_is = seen.0 ∙ together.fast.0.reports.many ∙ entries_many
+
+  -- and it is the one that the run tells
+  pub loaded_is : loaded ≡ report_of run.reports (length run.entries)
+  loaded_is =
+      let long : length run.reports ≡ length run.entries = ap (λ (l : List Report). length l) (sym told.fast.reports) ∙ stored_long ws ∙ together.fast.0.reports.many ∙ entries_many in
+      seen.1 ∙ sym (last_stored ws no_report) ∙ ap (λ (l : List Report). last_report l) told.fast.reports ∙ sym (last_told run.reports) ∙ ap (report_of run.reports) long
+
+  -- by the greater of the number of entries and the cycle of the turn's entry
+  pub loaded_found : (cycle : ℕ) → cycle ≡ loaded.cycle → loaded ≡ report_of run.reports (max (length run.entries) cycle)
+  loaded_found cycle is =
+      let same : max (length run.entries) cycle ≡ length run.entries = (let c = cycle_is in let e : cycle ≡ length run.entries = is ∙ c in omega (arith, e)) in
+      loaded_is ∙ ap (report_of run.reports) (sym same)

@@ -1,0 +1,147 @@
+-- Where each front that a server saw in a turn of the normal mixer is its own, the fronts of its looks are those told, by the rule of a journal and by that of a lawful block.
+use Rattle.std.proofs.Common.{◌≡◌, inl, inr, ℕ, ◌==◌, ◌&&◌, not, Bool, true, false, true≢false, if◌then◌else◌, is_some, fold, List, [], ◌∷◌, ◌++◌, Option, Some, None, refl, sym, ap, ◌∙◌, subst, eqb-true}
+use Rattle.std.specs.Prelude.{MatchOption}
+use Rattle.std.specs.List.{AllByRecursion, flat_map}
+use Rattle.std.proofs.lemmas.Grind.{fold-append}
+use Rattle.af_base.specs.declared.event.ServerEvent.{ServerEvent}
+use Rattle.af_base.specs.declared.event.ServerEvent.TheVariants as server
+use Rattle.af_base.specs.declared.log.SlotEntry.{SlotEntry}
+use Rattle.af_base.specs.declared.seen.Seen.TheVariants as seen
+use Rattle.af_base.specs.declared.turn.CommandLook.{CommandLook}
+use Rattle.af_base.specs.Turn.{TakeSeen, Turn}
+use Rattle.af_life.specs.declared.kept.TrackKept.{TrackKept}
+use Rattle.af_life.specs.Heard.{heard, learnt}
+use Rattle.af_life.specs.Kept.{Outside, Setup, asked, is_home, track_at, track_in}
+use Rattle.af_life.specs.Looks.{LegalLooks, all_command_events, as_slot, command_events, did, takes_command}
+use Rattle.af_life.specs.Plays.{LegalTake}
+use Rattle.af_life.specs.Serves.{is_found_shut}
+use Rattle.af_life.specs.TurnEvents.{command_list, invalid, mix_events, status_events, stream_list, takes_from}
+use Rattle.af_model.specs.declared.shape.Shape.{Shape}
+use Rattle.af_model.specs.Cycles.{Listed, LooksBy, after_look, cycle_events, kept}
+use Rattle.af_model.specs.ServerCalls.{ServerKept, look_at, look_events, server_begins, server_keeps}
+use Rattle.af_model.specs.Spelled.{AllSeeOwn, own_front}
+use Rattle.af_normal.specs.LegalTurned.{GoesOnFrom}
+use Rattle.af_normal.specs.Serving.{Adds}
+use Rattle.af_runs.specs.Fronts.{front_by_answer, front_of, fronts_by, is_own_inside, lawful_front, leaves_open}
+use Rattle.af_server.specs.Order.{ServerState}
+use Rattle.af_server.specs.Slot.{listed}
+use Rattle.af_told_law.specs.Outsides.{LooksTold, SameFront, SameFronts, TakeTold}
+use Rattle.af_told_law.specs.Own.{SawOwn}
+use Rattle.af_told_law.proofs.OwnFronts.{own_told}
+use Rattle.af_told_law.proofs.LegalAlike.{command_same}
+
+-- ## One look
+
+-- each front of a list in two parts
+split_own : (k : Shape) (now : ServerKept) (xs ys : List ServerEvent) → AllSeeOwn k now (xs ++ ys) → AllSeeOwn k now xs × AllSeeOwn k (fold (server_keeps k) now xs) ys
+split_own k now [] ys own = (tt, own)
+split_own k now (x ∷ xs) ys own = let rest = split_own k (server_keeps k now x) xs ys own.1 in ((own.0, rest.0), rest.1)
+
+-- where the answer doesn't leave the front open, both rules tell the same
+closed_told : (asked : ℕ) (s : Listed) (slot : SlotEntry) → leaves_open s.shape asked slot.seen ≡ false → front_of asked s slot ≡ lawful_front asked s slot
+closed_told asked s slot closed =
+    ap (λ (b : Bool). if b && is_own_inside s slot.rear then own_front s.shape (kept s) else front_by_answer s.shape slot) closed
+    ∙ sym (ap (λ (b : Bool). if b then own_front s.shape (kept s) else front_by_answer s.shape slot) closed)
+
+-- a look that saw its server's own front, where it was made, saw the one told
+pub look_told : (asked : ℕ) (s : Listed) (slot : SlotEntry) (f : ℕ) → LooksBy asked s slot f → (is_some (kept s).shut ≡ false → f ≡ own_front s.shape (kept s))
+    → SameFront s f (front_of asked s slot) × (front_of asked s slot ≡ lawful_front asked s slot)
+look_told asked s slot f looks own = by_shut (kept s).shut own looks.1
+  where
+    by_shut : (o : Option (ℕ × ℕ)) → (is_some o ≡ false → f ≡ own_front s.shape (kept s))
+        → MatchOption o (slot.seen ≡ look_at s.shape (kept s).flush asked slot.flush slot.rear f) (λ words. (slot.seen ≡ seen.Shut words.0 words.1) × (slot.flush ≡ (kept s).flush) × (slot.rear ≡ words.1))
+        → (is_some o ≡ false → f ≡ front_of asked s slot) × (front_of asked s slot ≡ lawful_front asked s slot)
+    by_shut None own answers = let told = own_told asked s slot f answers (own refl) in ((λ e. sym told.0), told.0 ∙ sym told.1)
+    by_shut (Some words) own answers = ((λ e. absurd (true≢false e)), closed_told asked s slot (ap (leaves_open s.shape asked) answers.0))
+
+-- ## The looks at a command block
+
+command_own : (s : Listed) (look : CommandLook) (f : ℕ) → AllSeeOwn s.shape (kept s) (command_events s look f) → is_some (kept s).shut ≡ false → f ≡ own_front s.shape (kept s)
+command_own s look f own = by_shut (is_some (kept s).shut) own
+  where
+    by_shut : (b : Bool) → AllSeeOwn s.shape (kept s) ((if b then [] else look_events look.seen look.flush look.rear f) ++ takes_command look) → b ≡ false → f ≡ own_front s.shape (kept s)
+    by_shut true own is = absurd (true≢false is)
+    by_shut false own is = own.1.1.0
+
+pub looks_told : (s : Listed) (looks : List CommandLook) (fs : List ℕ) → LegalLooks s looks fs → AllSeeOwn s.shape (kept s) (all_command_events s looks fs)
+    → LooksTold s looks fs
+looks_told s [] [] legal own = (tt, refl)
+looks_told s [] (f ∷ fs) legal own = elim legal [ ]
+looks_told s (look ∷ looks) [] legal own = elim legal [ ]
+looks_told s (look ∷ looks) (f ∷ fs) legal own =
+    let es : List ServerEvent = command_events s look f in
+    let parts = split_own s.shape (kept s) es (all_command_events (did s es) looks fs) own in
+    let one = look_told 2 s (as_slot look) f legal.0 (command_own s look f parts.0) in
+    let after : fold (server_keeps s.shape) (kept s) es ≡ kept (did s es) = sym (fold-append (server_keeps s.shape) (server_begins s.shape) s.events es) in
+    let rest = looks_told (did s es) looks fs legal.2 (subst (λ (k : ServerKept). AllSeeOwn s.shape k (all_command_events (did s es) looks fs)) after parts.1) in
+    let same : es ≡ command_events s look (front_of 2 s (as_slot look)) = command_same s f (front_of 2 s (as_slot look)) one.0 look in
+    let later : fronts_by front_of (did s (command_events s look (front_of 2 s (as_slot look)))) looks ≡ fronts_by lawful_front (did s (command_events s look (lawful_front 2 s (as_slot look)))) looks =
+    ap (λ (xs : List ServerEvent). fronts_by front_of (did s xs) looks) (sym same) ∙ rest.1 ∙ ap (λ (xs : List ServerEvent). fronts_by lawful_front (did s xs) looks) (same ∙ ap (command_events s look) one.1) in
+    ((one.0, subst (λ (xs : List ServerEvent). SameFronts (did s es) looks fs (fronts_by front_of (did s xs) looks)) same rest.0), (λ j. one.1 j ∷ later j))
+
+-- ## The look for a buffer
+
+cycle_own : (many : ℕ) (s : Listed) (slot : SlotEntry) (f : ℕ) → AllSeeOwn s.shape (kept s) (cycle_events many s slot f) → is_some (kept s).shut ≡ false → f ≡ own_front s.shape (kept s)
+cycle_own many s slot f own = by_shut (is_some (kept s).shut) own
+  where
+    by_shut : (b : Bool) → AllSeeOwn s.shape (kept s) (server.SawGain slot.gains ∷ (if b then [] else look_events slot.seen slot.flush slot.rear f) ++ after_look many b slot.seen) → b ≡ false → f ≡ own_front s.shape (kept s)
+    by_shut true own is = absurd (true≢false is)
+    by_shut false own is = own.1.1.1.0
+
+takes_told : (c : Setup) (s : Listed) (f : ℕ) (takes : List TakeSeen) → AllByRecursion (λ (take : TakeSeen). LooksBy (asked c) s take.slot f) takes → AllSeeOwn s.shape (kept s) (flat_map (λ (take : TakeSeen). cycle_events (asked c) s take.slot f) takes) → TakeTold c s f takes
+takes_told c s f [] legal own = (inl refl, refl)
+takes_told c s f (take ∷ takes) legal own =
+    let parts = split_own s.shape (kept s) (cycle_events (asked c) s take.slot f) (flat_map (λ (take : TakeSeen). cycle_events (asked c) s take.slot f) takes) own in
+    let one = look_told (asked c) s take.slot f legal.0 (cycle_own (asked c) s take.slot f parts.0) in
+    (inr one.0, one.1)
+
+-- the takes of a track looked at its stream
+pub taken_looks : (c : Setup) (o : Outside) (i : ℕ) (takes : List TakeSeen) → AllByRecursion (LegalTake c o) takes → AllByRecursion (λ (take : TakeSeen). LooksBy (asked c) (o.streams i) take.slot (o.stream_front i)) (takes_from takes i)
+taken_looks c o i [] legal = tt
+taken_looks c o i (take ∷ takes) legal = by_track (take.track == i) refl (taken_looks c o i takes legal.1)
+  where
+    Looked : List TakeSeen → Type 0
+    Looked takes = AllByRecursion (λ (take : TakeSeen). LooksBy (asked c) (o.streams i) take.slot (o.stream_front i)) takes
+
+    by_track : (b : Bool) → (take.track == i) ≡ b → Looked (takes_from takes i) → Looked (if b then take ∷ takes_from takes i else takes_from takes i)
+    by_track true is rest = (subst (λ (n : ℕ). LooksBy (asked c) (o.streams n) take.slot (o.stream_front n)) (eqb-true take.track i is) legal.0.looks, rest)
+    by_track false is rest = rest
+
+-- ## The proxies after the turn
+
+-- each front of a server that went on from a list
+went_on : (s : Listed) (events : List ServerEvent) (t : ServerState) → t.pass.part.events ≡ s.events ++ events → t.pass.part.shape ≡ s.shape → SawOwn t → AllSeeOwn s.shape (kept s) events
+went_on s events t list shape own =
+    (split_own s.shape (server_begins s.shape) s.events events (subst (λ (x : Shape × List ServerEvent). AllSeeOwn x.0 (server_begins x.0) x.1) (λ j. (shape j, list j)) own)).1
+
+module _ (c : Setup) (o : Outside) (e : Turn) (tracks : List TrackKept) (i : ℕ) (t : ServerState) (runs : e.ended ≡ false) (own : SawOwn t) where
+  -- of a stream that is home, or was lent
+  pub stream_told : AllByRecursion (LegalTake c o) e.mixes → GoesOnFrom (o.streams i) (stream_list c o e tracks i) t → TakeTold c (o.streams i) (o.stream_front i) (takes_from e.mixes i)
+  stream_told legal goes =
+      let s : Listed = o.streams i in
+      let track : TrackKept = track_at tracks i in
+      let found : Bool = not track.life.ended && is_found_shut (heard (learnt o) i track) (track_in e i).looks in
+      let flags : List ServerEvent = if is_home track.holder then (if found then server.SetFlags 4 ∷ [] else []) else [] in
+      let list : stream_list c o e tracks i ≡ flags ++ mix_events c o e.mixes i = ap (λ (b : Bool). if b then [] else flags ++ mix_events c o e.mixes i) runs in
+      let all : AllSeeOwn s.shape (kept s) (flags ++ mix_events c o e.mixes i) = went_on s (flags ++ mix_events c o e.mixes i) t (goes.0 ∙ ap (λ (es : List ServerEvent). s.events ++ es) list) goes.1 own in
+      let parts = split_own s.shape (kept s) flags (mix_events c o e.mixes i) all in
+      takes_told c s (o.stream_front i) (takes_from e.mixes i) (taken_looks c o i e.mixes legal)
+      (subst (λ (k : ServerKept). AllSeeOwn s.shape k (mix_events c o e.mixes i)) (flags_keep s.shape (kept s) (is_home track.holder) found) parts.1)
+    where
+      flags_keep : (shape : Shape) (now : ServerKept) (a b : Bool) → fold (server_keeps shape) now (if a then (if b then server.SetFlags 4 ∷ [] else []) else []) ≡ now
+      flags_keep shape now true true = refl
+      flags_keep shape now true false = refl
+      flags_keep shape now false b = refl
+
+  -- of a command block
+  pub commands_told : (s : ServerState) (words : List ℕ) → o.commands i ≡ listed s → LegalLooks (o.commands i) (track_in e i).looks (o.command_fronts i) → Adds s (command_list c o e tracks i) words t
+      → LooksTold (o.commands i) (track_in e i).looks (o.command_fronts i)
+  commands_told s words is legal adds =
+      let looks : List CommandLook = (track_in e i).looks in
+      let first : List ServerEvent = all_command_events (o.commands i) looks (o.command_fronts i) in
+      let flags : List ServerEvent = invalid (learnt o) (track_in e i) tracks i in
+      let status : List ServerEvent = status_events (track_in e i).status in
+      let list : command_list c o e tracks i ≡ first ++ flags ++ status = ap (λ (b : Bool). if b then [] else first ++ flags ++ status) runs in
+      let all : AllSeeOwn (o.commands i).shape (kept (o.commands i)) (first ++ flags ++ status) = went_on (o.commands i) (first ++ flags ++ status) t (adds.list ∙ (λ j. (sym is j).events ++ list j)) (adds.shape ∙ ap (λ (x : Listed). x.shape) (sym is)) own in
+      let some : AllSeeOwn (o.commands i).shape (kept (o.commands i)) (first ++ flags) = (split_own (o.commands i).shape (kept (o.commands i)) (first ++ flags) status all).0 in
+      looks_told (o.commands i) looks (o.command_fronts i) legal (split_own (o.commands i).shape (kept (o.commands i)) first flags some).0

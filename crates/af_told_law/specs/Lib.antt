@@ -1,0 +1,12 @@
+pub mod Alike
+pub mod Tells
+pub mod Own
+pub mod Sizes
+pub mod Marked
+pub mod Between
+pub mod QueueTurned
+pub mod MixLaws
+pub mod Places
+pub mod Outsides
+pub mod Comers
+pub mod NormalLaws

@@ -1,0 +1,52 @@
+-- What the law of a mix says.
+use Rattle.std.specs.Prelude.{◌≡◌, ℕ, ◌<◌, ◌++◌, true, false, length, drop, take, List, [], ◌∷◌}
+use Rattle.af_base.specs.declared.event.ClientEvent.{ClientEvent}
+use Rattle.af_base.specs.declared.frame.Frame.{Frame}
+use Rattle.af_base.specs.declared.log.Cycle.{Cycle}
+use Rattle.af_base.specs.declared.log.CycleEntry.{CycleEntry}
+use Rattle.af_fast.specs.Meets.{HaveHistories}
+use Rattle.af_fast.specs.Mixer.{MixerState, is_over}
+use Rattle.af_fast.specs.Mixing.{MixesOnce}
+use Rattle.af_link.specs.declared.links.Links.{Links}
+use Rattle.af_model.specs.Journals.{EntrySeen, taken_by}
+use Rattle.af_model.specs.Order.{ones, twos}
+use Rattle.af_runs.specs.Blocks.{Marks, is_tame}
+use Rattle.af_runs.specs.Rounds.{LegalEntry}
+use Rattle.af_runs.specs.Runs.{Run, told_at, with_mix}
+use Rattle.af_runs.specs.Sessions.{Session}
+use Rattle.af_runs.specs.Told.{PipeTold}
+use Rattle.af_rendering.specs.Leads.{LeadAway}
+use Rattle.af_session.specs.Met.{ends_of}
+use Rattle.af_session.specs.Together.{AreTogether, SessionState}
+use Rattle.af_told_law.specs.Own.{SeesOwn}
+use Rattle.af_told_law.specs.Tells.{Tells}
+
+-- an entry as the journal has it, where the log had so many frames before
+abbrev pub entry_told : List Frame → ℕ → CycleEntry → EntrySeen
+entry_told frames place entry = record { entry = entry; frames = take (taken_by entry) (drop place frames) }
+
+-- the entry that a mix from x to g added, as the journal has it
+abbrev pub entry_added : SessionState → MixerState → CycleEntry → EntrySeen
+entry_added x g entry = entry_told g.log.frames (length x.fast.log.frames) entry
+
+-- what the marks call lawful in the whole journal wasn't poked so far
+abbrev pub AreMarked : Marks → Run → Type 0
+AreMarked marks run = (i : ℕ) → i < length run.tracks → marks.streams i ≡ true → is_tame (told_at run i).stream ≡ true
+
+-- After the poll and the meetings of a cycle, a mix of which it is known that each front seen at a block that wasn't poked is a server's own adds an entry, which is legal after what is told, and the run with its mix tells the session. The histories are those of the meetings
+abbrev pub MixIsTold : Links → Session → Marks → Run → SessionState → MixerState → List Frame → Cycle → List Frame → Type 0
+MixIsTold links s marks run x g out answer out' =
+    AreTogether links x → AreTogether links (record x { fast = g }) → LeadAway x.fast.observer.past.state x.normal.tracks → is_over x.fast ≡ false → MixesOnce x.fast out answer g out' → (g.frames ≡ x.fast.frames) × (g.cycles ≡ x.fast.cycles)
+    → HaveHistories x.fast (ends_of x.normal) → Tells s run x → AreMarked marks run → SeesOwn (record x { fast = g })
+    → (entry : CycleEntry) × (answer ≡ entry.cycle) × (g.log.entries ≡ x.fast.log.entries ++ entry ∷ []) × Tells s (with_mix s (entry_added x g entry) run) (record x { fast = g }) × LegalEntry s marks run (entry_added x g entry)
+
+-- each mix is told
+abbrev pub MixesAreTold : Session → Marks → Type 0
+MixesAreTold s marks = (links : Links) (run : Run) (x : SessionState) (g : MixerState) (out : List Frame) (answer : Cycle) (out' : List Frame) → MixIsTold links s marks run x g out answer out'
+
+-- the pipe's ends did and have what is told
+pub record PipeTells (p : PipeTold) (puts : List ClientEvent) (put : List ℕ) (f : MixerState) : Type 0 where
+  pub puts_are : puts ≡ ones p.told
+  pub put_is : put ≡ p.put
+  pub takes : f.pipe.pass.part.events ≡ twos p.told
+  pub taken : f.pipe.pass.part.frames ≡ p.taken

@@ -1,0 +1,66 @@
+-- When a turn of the normal mixer reads the same of two outsides.
+use Rattle.std.specs.Prelude.{◌≡◌, ℕ, ◌⊎◌, ◌<◌, true, false, is_some, length, List, [], ◌∷◌}
+use Rattle.af_base.specs.declared.log.SlotEntry.{SlotEntry}
+use Rattle.af_base.specs.declared.turn.CommandLook.{CommandLook}
+use Rattle.af_base.specs.Turn.{TakeSeen, Turn}
+use Rattle.af_life.specs.declared.kept.TrackKept.{TrackKept}
+use Rattle.af_life.specs.Edits.{after_ack}
+use Rattle.af_life.specs.Kept.{Learnt, NormalKept, Outside, Setup, asked, is_home, track_at, track_in}
+use Rattle.af_life.specs.Looks.{LegalLooks, command_events, did}
+use Rattle.af_life.specs.TurnEvents.{takes_from}
+use Rattle.af_model.specs.Cycles.{Listed, LooksBy, kept}
+use Rattle.af_runs.specs.Blocks.{is_tame, listed}
+use Rattle.af_runs.specs.Found.{TurnFound, take_front}
+use Rattle.af_runs.specs.Fronts.{front_of, fronts_by, lawful_front}
+use Rattle.af_told_law.specs.Alike.{TellAlike}
+
+-- the report, and what each stream proxy knows that is home, are the same
+pub record LearnAlike (tracks : List TrackKept) (k l : Learnt) : Type 0 where
+  pub report : k.report ≡ l.report
+  pub own : (i : ℕ) → i < length tracks → is_home (track_at tracks i).holder ≡ true → k.own i ≡ l.own i
+
+-- the front of a look is the same, where it was made: a server that was shut makes none
+abbrev pub SameFront : Listed → ℕ → ℕ → Type 0
+SameFront s f g = is_some (kept s).shut ≡ false → f ≡ g
+
+-- so are those of looks at a command block
+abbrev pub SameFronts : Listed → List CommandLook → List ℕ → List ℕ → Type 0
+SameFronts s [] [] [] = Unit {0}
+SameFronts s (look ∷ looks) (f ∷ fs) (g ∷ gs) = SameFront s f g × SameFronts (did s (command_events s look f)) looks fs gs
+SameFronts s _ _ _ = ⊥
+
+-- the lists tell alike, of one block
+pub record ListAlike (s t : Listed) : Type 0 where
+  pub shape : s.shape ≡ t.shape
+  pub alike : TellAlike t.shape s.events t.events
+
+-- The report is the same, and the lists of the stream proxies that are home once the acknowledgement was seen, and those of the command proxies, tell alike
+pub record AreAlike (m : NormalKept) (e : Turn) (o p : Outside) : Type 0 where
+  pub report : o.report ≡ p.report
+  pub streams : (i : ℕ) → i < length m.tracks → is_home (track_at (after_ack e.ack m).tracks i).holder ≡ true → ListAlike (o.streams i) (p.streams i)
+  pub commands : (i : ℕ) → i < length m.tracks → ListAlike (o.commands i) (p.commands i)
+
+-- what was answered by the fronts of the one is by those of the other
+pub record AnswerAlike (c : Setup) (m : NormalKept) (e : Turn) (o p : Outside) : Type 0 where
+  pub takes : (i : ℕ) → (takes_from e.mixes i ≡ []) ⊎ ((slot : SlotEntry) → LooksBy (asked c) (o.streams i) slot (o.stream_front i) → LooksBy (asked c) (p.streams i) slot (p.stream_front i))
+  pub looks : (i : ℕ) → i < length m.tracks → LegalLooks (o.commands i) (track_in e i).looks (o.command_fronts i) → LegalLooks (p.commands i) (track_in e i).looks (p.command_fronts i)
+
+-- ## What a run tells of the fronts
+
+-- the front of a stream from which these takes were made is the one told, and both rules tell the same
+abbrev pub TakeTold : Setup → Listed → ℕ → List TakeSeen → Type 0
+TakeTold c s f takes = ((takes ≡ []) ⊎ SameFront s f (take_front (front_of (asked c)) s takes)) × (take_front (front_of (asked c)) s takes ≡ take_front (lawful_front (asked c)) s takes)
+
+-- so are those of looks at a command block
+abbrev pub LooksTold : Listed → List CommandLook → List ℕ → Type 0
+LooksTold s looks fs = SameFronts s looks fs (fronts_by front_of s looks) × (fronts_by front_of s looks ≡ fronts_by lawful_front s looks)
+
+-- What a turn saw is what a run has found: the report, and what the lists of the stream proxies that are home once the acknowledgement was seen, and those of the command proxies, tell. On a block that wasn't poked the lists and the fronts are the same
+pub record IsFound (c : Setup) (m : NormalKept) (e : Turn) (o : Outside) (f : TurnFound) : Type 0 where
+  pub report : o.report ≡ f.report
+  pub streams : (i : ℕ) → i < length m.tracks → is_home (track_at (after_ack e.ack m).tracks i).holder ≡ true → ListAlike (o.streams i) (listed (f.streams i))
+  pub commands : (i : ℕ) → i < length m.tracks → ListAlike (o.commands i) (listed (f.commands i))
+  pub same_streams : (i : ℕ) → i < length m.tracks → is_tame (f.streams i) ≡ true → is_home (track_at (after_ack e.ack m).tracks i).holder ≡ true → o.streams i ≡ listed (f.streams i)
+  pub same_commands : (i : ℕ) → i < length m.tracks → is_tame (f.commands i) ≡ true → o.commands i ≡ listed (f.commands i)
+  pub takes : (i : ℕ) → i < length m.tracks → is_tame (f.streams i) ≡ true → TakeTold c (o.streams i) (o.stream_front i) (takes_from e.mixes i)
+  pub looks : (i : ℕ) → i < length m.tracks → is_tame (f.commands i) ≡ true → LooksTold (o.commands i) (track_in e i).looks (o.command_fronts i)

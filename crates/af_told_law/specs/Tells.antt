@@ -1,0 +1,178 @@
+-- What ties the parties of a session to the run that their journal tells so far.
+use Rattle.std.specs.Prelude.{◌≡◌, ℕ, ◌<◌, ◌&&◌, nat_lt, not, is_some, Bool, true, false, List, [], ◌∷◌, length, map, slice_get, Option, Some, None}
+use Rattle.af_base.specs.declared.report.Report.{Report}
+use Rattle.af_base.specs.declared.state.FastState.{FastState}
+use Rattle.af_base.specs.Log.{entry_slot, frames_taken, slots}
+use Rattle.af_fast.specs.Mixer.{MixerState}
+use Rattle.af_life.specs.Kept.{is_home, pipe_size, slot_number, track_at}
+use Rattle.af_model.specs.declared.newest.WriterEvent.{WriterEvent}
+use Rattle.af_model.specs.declared.newest.WriterEvent.TheVariants as writes
+use Rattle.af_model.specs.declared.states.ObserverEvent.{ObserverEvent}
+use Rattle.af_model.specs.declared.states.ObserverEvent.TheVariants as observer
+use Rattle.af_model.specs.Cycles.{last_used}
+use Rattle.af_model.specs.Draft.{initial}
+use Rattle.af_model.specs.Order.{ones, twos}
+use Rattle.af_model.specs.Reports.{no_slot, report_at}
+use Rattle.af_model.specs.StateQueue.{MutatorPoint, mutated, observed}
+use Rattle.af_normal.specs.LegalTurned.{hand_events}
+use Rattle.af_normal.specs.Mixing.{stream_at}
+use Rattle.af_normal.specs.State.{NormalState, kept_of, setup_of as mixer_setup}
+use Rattle.af_party.specs.Parties.{PartyState, track_of}
+use Rattle.af_runs.specs.Blocks.{BlockTold, hand_list, is_tame, server_list}
+use Rattle.af_model.specs.Journals.{EntrySeen, slot_frames}
+use Rattle.af_runs.specs.KeptLists.{KeepsMutator, KeepsPipe, KeepsReader, marked}
+use Rattle.af_runs.specs.Runs.{Run, TrackTold, fast_ended, frames_before, last_report, sides_of, told_at}
+use Rattle.af_runs.specs.Sessions.{Session, cycle_frames, setup_of, track_count}
+use Rattle.af_runs.specs.Told.{Item, state_at}
+use Rattle.af_server.specs.Order.{ServerState}
+use Rattle.af_stateq.specs.Ends.{acknowledged, took}
+use Rattle.af_stateq.specs.Laws.{pushed_states}
+use Rattle.af_stateq.specs.Mutates.{at}
+use Rattle.af_session.specs.Met.{item_at, slot_for}
+use Rattle.af_session.specs.Rounds.{Given, file_at, ops_at}
+use Rattle.af_session.specs.Together.{SessionState}
+use Rattle.af_told_law.specs.Alike.{TellAlike}
+
+-- ## The proxies of a track
+
+-- The proxy has the sizes of its block, and took what is told. It did what is told while the block is tame; on one that was poked a look may have seen another front than the one told, by which it answered and left the same
+pub record TellsServer (b : BlockTold) (s : ServerState) : Type 0 where
+  pub shape : s.pass.part.shape ≡ b.shape
+  pub events : is_tame b ≡ true → s.pass.part.events ≡ server_list b
+  pub alike : TellAlike b.shape s.pass.part.events (server_list b)
+  pub taken : s.pass.part.frames ≡ b.taken
+
+-- so does one that may be there
+abbrev pub IfThere : BlockTold → Option ServerState → Type 0
+IfThere b o = (s : ServerState) → o ≡ Some s → TellsServer b s
+
+-- a state was pushed that the observer hasn't
+abbrev pub is_going : NormalState → MixerState → Bool
+is_going m f = nat_lt f.observer.past.number m.mutator.past.number
+
+-- what the mutator's list leaves
+abbrev pub mutated_by : NormalState → MutatorPoint ServerState
+mutated_by m = mutated m.mutator.past.first m.mutator.past.events
+
+-- the observer has all, and the mutator hasn't seen it
+abbrev pub is_coming : NormalState → MixerState → Bool
+is_coming m f = not (is_going m f) && not (mutated_by m).clear
+
+-- the items that went with the last push, and those that were given back with the last acknowledgement
+abbrev pub items_sent : NormalState → List (Option ServerState)
+items_sent m = (mutated_by m).items
+
+abbrev pub items_given : MixerState → List (Option ServerState)
+items_given f = (observed f.observer.past.events).given
+
+-- the slot of the observer's state that carries the proxy of a track
+abbrev pub held_slot : MixerState → ℕ → Option ℕ
+held_slot f i = slot_for f.observer.past.state i
+
+-- nothing comes back for this slot
+abbrev pub none_comes : NormalState → MixerState → ℕ → Type 0
+none_comes m f slot = is_coming m f ≡ true → at (items_given f) slot ≡ None
+
+-- The stream proxy of a track that has this slot, and isn't home: the observer holds it; or else it went with the last push, or was given back; or else it waits for a push, or is in the mutator's hand
+pub record TellsAway (m : NormalState) (f : MixerState) (i slot : ℕ) (b : BlockTold) : Type 0 where
+  pub held : IfThere b (item_at f.observer.items (held_slot f i))
+  pub goes : held_slot f i ≡ None → is_going m f ≡ true → IfThere b (at (items_sent m) slot)
+  pub comes : held_slot f i ≡ None → is_coming m f ≡ true → IfThere b (at (items_given f) slot)
+  pub waits : held_slot f i ≡ None → none_comes m f slot → IfThere b (at m.mutator.pending slot)
+  pub back : held_slot f i ≡ None → none_comes m f slot → IfThere b (at m.mutator.returned slot)
+
+-- a stream's proxy, home or away, and its hand
+pub record TellsStream (m : NormalState) (f : MixerState) (i : ℕ) (b : BlockTold) : Type 0 where
+  pub home : IfThere b (stream_at m.streams i)
+  pub away : is_home (track_at m.tracks i).holder ≡ false → TellsAway m f i (slot_number (track_at m.tracks i)) b
+  pub hand : hand_events m.hands i ≡ hand_list b
+
+-- a command proxy, which keeps its hand
+pub record TellsCommands (b : BlockTold) (s : ServerState) : Type 0 where
+  pub server : TellsServer b s
+  pub whole : s.pass.has_hand ≡ true
+  pub none : hand_list b ≡ []
+
+-- what the clients are given
+abbrev pub given_of : Session → Given
+given_of s = record { tracks = s.script.tracks; files = s.files }
+
+-- a track: its client p with both proxies, and their servers
+pub record TellsTrack (s : Session) (m : NormalState) (f : MixerState) (i : ℕ) (t : TrackTold) (p : PartyState) : Type 0 where
+  pub client : sides_of t ≡ track_of (ops_at (given_of s) i) (file_at (given_of s) i) p
+  pub stream : TellsStream m f i t.stream
+  pub commands : (c : ServerState) → slice_get m.commands i ≡ Some c → TellsCommands t.commands c
+
+-- ## The two mixers
+
+-- a poll with its items marked
+abbrev pub marked_poll : ObserverEvent ServerState → ObserverEvent Item
+marked_poll (observer.SawNext k x items) = observer.SawNext k x (marked items)
+marked_poll (observer.Ack k items) = observer.Ack k (marked items)
+marked_poll (observer.Learn count) = observer.Learn count
+
+-- the reports that were stored
+abbrev pub reports_stored : List (WriterEvent Report) → List Report
+reports_stored [] = []
+reports_stored (writes.Store report ∷ events) = report ∷ reports_stored events
+reports_stored (writes.Learn count ∷ events) = reports_stored events
+
+-- the ends of the queue, the report and the pipe
+pub record TellsShared (s : Session) (run : Run) (m : NormalState) (f : MixerState) : Type 0 where
+  pub first : m.mutator.past.first ≡ initial (cycle_frames s)
+  pub mutator : KeepsMutator run m.mutator.past.events
+  pub observer : map marked_poll f.observer.past.events ≡ twos run.queue
+  pub reader : KeepsReader run m.reader.events
+  pub writer : f.writer.events ≡ ones run.report
+  pub puts : KeepsPipe run m.pipe.pass.part.events m.pipe.pass.part.frames
+  pub takes : f.pipe.pass.part.events ≡ twos run.pipe.told
+  pub taken : f.pipe.pass.part.frames ≡ run.pipe.taken
+  pub size : f.pipe.pass.part.shape.frames ≡ pipe_size (setup_of s)
+
+-- what the normal mixer keeps, its hands, and the states that it pushed, of which it keeps the number and the last
+pub record TellsNormal (s : Session) (run : Run) (m : NormalState) : Type 0 where
+  pub setup : mixer_setup m ≡ setup_of s
+  pub kept : kept_of m ≡ run.normal
+  pub hands : (i : ℕ) → i < track_count s → is_some (slice_get m.hands i) ≡ run.handed
+  pub states : pushed_states m.mutator.past.events ≡ run.states
+  pub number : m.mutator.past.number ≡ length run.states
+  pub last : m.mutator.past.last ≡ state_at (cycle_frames s) run.states (length run.states)
+
+-- while no entry used a state the slots of the last report are empty
+abbrev pub IsFresh : Run → Type 0
+IsFresh run = last_used run.entries ≡ 0 → (i : ℕ) → i < slots → report_at (last_report run.reports).slots i ≡ no_slot
+
+-- the state that the fast mixer adopted, its log, and the reports that it stored, which are empty at first
+pub record TellsFast (s : Session) (run : Run) (f : MixerState) : Type 0 where
+  pub frames : f.frames ≡ cycle_frames s
+  pub cycles : f.cycles ≡ s.script.cycles
+  pub current : f.observer.past.number ≡ run.current
+  pub state : f.observer.past.state ≡ state_at (cycle_frames s) run.states run.current
+  pub entries : f.log.entries ≡ run.entries
+  pub logged : length f.log.frames ≡ frames_before run
+  pub exited : f.exited ≡ fast_ended run
+  pub reports : reports_stored f.writer.events ≡ run.reports
+  pub fresh : IsFresh run
+
+-- ## All
+
+-- the run tells what the parties are and did
+pub record Tells (s : Session) (run : Run) (x : SessionState) : Type 0 where
+  pub count : (length run.tracks ≡ track_count s) × (length x.clients ≡ track_count s)
+  pub tracks : (i : ℕ) (p : PartyState) → slice_get x.clients i ≡ Some p → TellsTrack s x.normal x.fast i (told_at run i) p
+  pub shared : TellsShared s run x.normal x.fast
+  pub normal : TellsNormal s run x.normal
+  pub fast : TellsFast s run x.fast
+
+-- ## Polls
+
+-- the poll that led from f to g found the last state that was pushed: a new one is that, with the items that went with it, and the mutator hasn't seen it acknowledged
+pub record FindsLast (m : NormalState) (f g : MixerState) : Type 0 where
+  pub number : g.observer.past.number ≡ m.mutator.past.number
+  pub new : (x : FastState) (came back : List (Option ServerState)) → g.observer.past ≡ acknowledged back (took x came f.observer.past) → (x ≡ m.mutator.past.last) × (came ≡ items_sent m) × ((mutated_by m).clear ≡ false)
+
+-- ## Mixes
+
+-- what the looks of a mix from f to g took is what the run tells of the entry
+pub record SawTold (f g : MixerState) (e : EntrySeen) : Type 0 where
+  pub frames : (k : ℕ) → k < slots → frames_taken g.log.frames (entry_slot e.entry k) ≡ slot_frames e k
