@@ -24,8 +24,8 @@ use Rattle.af_normal.specs.State.{NormalState, kept_of, setup_of as mixer_setup}
 use Rattle.af_party.specs.Parties.{PartyState}
 use Rattle.af_runs.specs.Blocks.{client_list, is_tame, server_list}
 use Rattle.af_runs.specs.ClientTurns.{Track}
-use Rattle.af_runs.specs.Found.{outside_of}
-use Rattle.af_runs.specs.Runs.{Run, found_before, takes_part, told_at}
+use Rattle.af_runs.specs.Found.{TurnFound, outside_of}
+use Rattle.af_runs.specs.Runs.{Run, takes_part, told_at}
 use Rattle.af_runs.specs.Sessions.{Session, setup_of}
 use Rattle.af_session.specs.Met.{item_at, slot_for}
 use Rattle.af_session.specs.Together.{AreTogether, SessionState}
@@ -44,19 +44,20 @@ use Rattle.af_told_law.proofs.NormalFound.{stream_found, turn_alike}
 use Rattle.af_render_law.proofs.RunCalm.{AllOpen}
 use Rattle.af_told_law.proofs.SlotHeld.{is_held}
 use Rattle.af_told_law.proofs.TurnAlike.{learn_alike, served_holder, tracks_same}
+use Rattle.af_told_law.specs.Outsides.{FindsBlocks, HeardAlike}
 
 none_there : {X : Type 0} (o : Option X) → is_some o ≡ false → o ≡ None
 none_there None h = refl
 none_there (Some x) h = absurd (true≢false h)
 
 module _ (links : Links) (s : Session) (run : Run) (x : SessionState) (n : NormalState) (o : Outside) (told : Tells s run x) (before : AreTogether links x) (after : AreTogether links (record x { normal = n })) (legal : IsLegal o x.normal n)
-    (runs : (turn_of n.entry).ended ≡ false) (own : SeesOwn (record x { normal = n })) (report : o.report ≡ (found_before s run [] (turn_of n.entry)).report) (comers : ComersTell run x.normal (turn_of n.entry) legal.lists.back)
-    (aware : KnowsAway x) (kept : InvalidKept run) (is_open : AllOpen run) where
+    (runs : (turn_of n.entry).ended ≡ false) (own : SeesOwn (record x { normal = n })) (f : TurnFound) (finds : FindsBlocks run f) (report : HeardAlike (after_ack (turn_of n.entry).ack (kept_of x.normal)).tracks o.report f.report)
+    (comers : ComersTell run x.normal (turn_of n.entry) legal.lists.back) (aware : KnowsAway x) (kept : InvalidKept run) (is_open : AllOpen run) where
   abbrev e : Turn
   e = turn_of n.entry
 
   abbrev p : Outside
-  p = outside_of (setup_of s) (found_before s run [] e) e
+  p = outside_of (setup_of s) f e
 
   sound : IsSound run.normal.tracks run.normal.draft
   sound = subst (λ (k : NormalKept). IsSound k.tracks k.draft) told.normal.kept before.normal.tied.sound
@@ -77,7 +78,7 @@ module _ (links : Links) (s : Session) (run : Run) (x : SessionState) (n : Norma
 
     -- the list with which the proxy comes home is the one that is told
     list_is : (o.streams i).events ≡ server_list (told_at run i).stream
-    list_is = ap (λ (l : Listed). l.events) (stream_found links s run x n o told before after legal runs own report comers i inside tame came)
+    list_is = ap (λ (l : Listed). l.events) (stream_found links s run x n o told before after legal runs own f finds report comers i inside tame came)
 
     -- who takes part is home or held
     part_is : takes_part s run i ≡ (is_home (track_at run.normal.tracks i).holder || is_some (held_slot x.fast i))
@@ -122,12 +123,12 @@ module _ (links : Links) (s : Session) (run : Run) (x : SessionState) (n : Norma
 
       -- the same by what the mixer saw
       found_then : invalid (learnt o) (track_in e i) (tracks_at (mixer_setup x.normal) (learnt o) (kept_of x.normal) e i) i ≢ []
-      found_then none = found (sym (invalid_same (setup_of s) run.normal e o p sound (turn_alike links s run x n o told before after legal runs own report comers) i (let l = long in let a = inside in let t = ap (λ (k : NormalKept). length k.tracks) told.normal.kept in omega (arith, a, t)))
+      found_then none = found (sym (invalid_same (setup_of s) run.normal e o p sound (turn_alike links s run x n o told before after legal runs own f finds report comers) i (let l = long in let a = inside in let t = ap (λ (k : NormalKept). length k.tracks) told.normal.kept in omega (arith, a, t)))
           ∙ ap (λ (y : Setup × NormalKept). invalid (learnt o) (track_in e i) (tracks_at y.0 (learnt o) y.1 e i) i) (λ j. (sym told.normal.setup j, sym told.normal.kept j)) ∙ none)
 
       home_then : is_home (track_at (tracks_at (mixer_setup x.normal) (learnt o) (kept_of x.normal) e i) i).holder ≡ true
       home_then = ap (λ (y : Setup × NormalKept). is_home (track_at (tracks_at y.0 (learnt o) y.1 e i) i).holder) (λ j. (told.normal.setup j, told.normal.kept j))
-          ∙ ap (λ (ts : List TrackKept). is_home (track_at ts i).holder) (tracks_same (setup_of s) (learnt o) (learnt p) run.normal e sound (learn_alike run.normal e o p (turn_alike links s run x n o told before after legal runs own report comers)) i)
+          ∙ ap (λ (ts : List TrackKept). is_home (track_at ts i).holder) (tracks_same (setup_of s) (learnt o) (learnt p) run.normal e sound (learn_alike run.normal e o p (turn_alike links s run x n o told before after legal runs own f finds report comers)) i)
           ∙ home
 
       -- the hand knew a beginning of the list
@@ -161,5 +162,5 @@ module _ (links : Links) (s : Session) (run : Run) (x : SessionState) (n : Norma
     by_part true is = inr (inl is)
     by_part false is = by_list (invalid (learnt p) (track_in e i) (tracks_at (setup_of s) (learnt p) run.normal e i) i) refl is
 
-  pub shut_unseen : FindsShutUnseen s run (found_before s run [] e) e
+  pub shut_unseen : FindsShutUnseen s run f e
   shut_unseen _ i low tame home = by_part i low tame home (takes_part s run i) refl

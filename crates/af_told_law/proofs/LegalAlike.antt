@@ -5,7 +5,6 @@ use Rattle.std.specs.List.{AllByRecursion, flat_map}
 use Rattle.af_base.specs.declared.event.ServerEvent.{ServerEvent}
 use Rattle.af_base.specs.declared.event.ServerEvent.TheVariants as server
 use Rattle.af_base.specs.declared.log.SlotEntry.{SlotEntry}
-use Rattle.af_base.specs.declared.report.Report.{Report}
 use Rattle.af_base.specs.declared.seen.Seen.TheVariants as seen
 use Rattle.af_base.specs.declared.turn.CommandLook.{CommandLook}
 use Rattle.af_base.specs.Turn.{TakeSeen, Turn}
@@ -106,7 +105,7 @@ module _ (c : Setup) (m : NormalKept) (e : Turn) (o p : Outside) (sound : IsSoun
       goes : GoesOn c o m e → GoesOn c p m e
       goes g = record {
         ack = g.ack;
-        report = g.report ∙ ap (λ (r : Report). r.cycle) alike.report;
+        report = g.report ∙ alike.report.cycle;
         room = g.room;
         whole = g.whole;
         tracks = (λ i low. track_alike i low (g.tracks i low));

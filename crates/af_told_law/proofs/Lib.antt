@@ -75,6 +75,5 @@ pub mod ComersBack
 pub mod ComingTurned
 pub mod StreamsTurned
 pub mod StreamsEnded
-pub mod TracksTurned
 pub mod PartsTold
 pub mod TakesRise

@@ -1,5 +1,5 @@
 -- What a legal turn of a session's normal mixer saw is what its run has found.
-use Rattle.std.proofs.Common.{◌≡◌, inl, inr, ℕ, ◌<◌, ◌≤◌, ◌&&◌, not, Bool, true, false, true≢false, if◌then◌else◌, is_some, [], length, slice_get, Option, Some, None, refl, sym, ap, ◌∙◌, subst, arith}
+use Rattle.std.proofs.Common.{Bool, None, Option, Some, ap, arith, false, if◌then◌else◌, inl, inr, is_some, length, not, refl, slice_get, subst, sym, true, true≢false, ℕ, ◌&&◌, ◌<◌, ◌∙◌, ◌≡◌, ◌≤◌}
 use Rattle.af_base.specs.declared.state.FastState.{FastState}
 use Rattle.af_base.specs.Turn.{Turn, turn_of}
 use Rattle.af_life.specs.declared.kept.Holder.TheVariants.{Home}
@@ -20,9 +20,9 @@ use Rattle.af_normal.specs.Turning.{listed_at}
 use Rattle.af_party.specs.Parties.{PartyState}
 use Rattle.af_runs.specs.Blocks.{BlockTold, Marks, is_tame, listed as told_list}
 use Rattle.af_runs.specs.ClientTurns.{Track}
-use Rattle.af_runs.specs.Found.{LegalTurnBy, outside_of, take_front}
+use Rattle.af_runs.specs.Found.{LegalTurnBy, TurnFound, outside_of, take_front}
 use Rattle.af_runs.specs.Fronts.{front_of, lawful_front}
-use Rattle.af_runs.specs.Runs.{Run, found_before, told_at}
+use Rattle.af_runs.specs.Runs.{Run, told_at}
 use Rattle.af_runs.specs.Sessions.{Session, setup_of}
 use Rattle.af_server.specs.Order.{ServerState}
 use Rattle.af_server.specs.Slot.{listed}
@@ -31,7 +31,7 @@ use Rattle.af_judge.proofs.SoundTurns.{welcomed_at}
 use Rattle.af_turn_law.proofs.MixedHome.{mixed_home}
 use Rattle.af_told_law.specs.Comers.{ComersTell}
 use Rattle.af_told_law.specs.Sizes.{IsMarkedRun}
-use Rattle.af_told_law.specs.Outsides.{AreAlike, IsFound, ListAlike, LooksTold, TakeTold}
+use Rattle.af_told_law.specs.Outsides.{AreAlike, FindsBlocks, HeardAlike, IsFound, ListAlike, LooksTold, TakeTold}
 use Rattle.af_told_law.specs.Own.{SeesOwn}
 use Rattle.af_told_law.specs.Tells.{Tells, TellsServer}
 use Rattle.af_told_law.proofs.AllMeet.{some_at}
@@ -56,7 +56,8 @@ ack_stays true m i stays = welcomed_at m.last m.tracks i ∙ stays_out m.last (t
     stays_out last s is = ap (λ (b : Bool). if b && not (carries last (slot_number s)) then record s { holder = Home } else s) is
 
 module _ (links : Links) (s : Session) (run : Run) (x : SessionState) (n : NormalState) (o : Outside) (told : Tells s run x) (before : AreTogether links x) (after : AreTogether links (record x { normal = n })) (legal : IsLegal o x.normal n)
-    (runs : (turn_of n.entry).ended ≡ false) (own : SeesOwn (record x { normal = n })) (report : o.report ≡ (found_before s run [] (turn_of n.entry)).report) (comers : ComersTell run x.normal (turn_of n.entry) legal.lists.back) where
+    (runs : (turn_of n.entry).ended ≡ false) (own : SeesOwn (record x { normal = n })) (f : TurnFound) (finds : FindsBlocks run f) (report : HeardAlike (after_ack (turn_of n.entry).ack (kept_of x.normal)).tracks o.report f.report)
+    (comers : ComersTell run x.normal (turn_of n.entry) legal.lists.back) where
   abbrev e : Turn
   e = turn_of n.entry
 
@@ -140,18 +141,32 @@ module _ (links : Links) (s : Session) (run : Run) (x : SessionState) (n : Norma
 
   -- ## The turn
 
-  pub is_found : IsFound c m e o (found_before s run [] e)
-  is_found = record { report = report; streams = stream_near; commands = commands_near; same_streams = stream_found; same_commands = commands_found; takes = takes_found; looks = looks_found }
+  pub is_found : IsFound c m e o f
+  is_found = record {
+    report = report;
+    streams = (λ i low home. subst (λ (b : BlockTold). ListAlike (o.streams i) (told_list b)) (sym (finds.streams i)) (stream_near i low home));
+    commands = (λ i low. subst (λ (b : BlockTold). ListAlike (o.commands i) (told_list b)) (sym (finds.commands i)) (commands_near i low));
+    same_streams = (λ i low tame home. stream_found i low (tame_stream i tame) home ∙ ap told_list (sym (finds.streams i)));
+    same_commands = (λ i low tame. commands_found i low (tame_commands i tame) ∙ ap told_list (sym (finds.commands i)));
+    takes = (λ i low tame. takes_found i low (tame_stream i tame));
+    looks = (λ i low tame. looks_found i low (tame_commands i tame));
+  }
+    where
+      tame_stream : (i : ℕ) → is_tame (f.streams i) ≡ true → is_tame (told_at run i).stream ≡ true
+      tame_stream i tame = sym (ap is_tame (finds.streams i)) ∙ tame
+
+      tame_commands : (i : ℕ) → is_tame (f.commands i) ≡ true → is_tame (told_at run i).commands ≡ true
+      tame_commands i tame = sym (ap is_tame (finds.commands i)) ∙ tame
 
   -- what the turn saw is alike what the run tells
-  pub turn_alike : AreAlike run.normal e o (outside_of (setup_of s) (found_before s run [] e) e)
-  turn_alike = subst (λ (y : Setup × NormalKept). AreAlike y.1 e o (outside_of y.0 (found_before s run [] e) e)) (λ j. (told.normal.setup j, told.normal.kept j))
-      (found_alike c m e o (found_before s run [] e) before.normal.tied.sound runs legal.legal is_found)
+  pub turn_alike : AreAlike run.normal e o (outside_of (setup_of s) f e)
+  turn_alike = subst (λ (y : Setup × NormalKept). AreAlike y.1 e o (outside_of y.0 f e)) (λ j. (told.normal.setup j, told.normal.kept j))
+      (found_alike c m e o f before.normal.tied.sound runs legal.legal is_found)
 
   inside : (i : ℕ) → i < length m.tracks → i < length run.tracks
   inside i low = let a = told.count.0 in let b = told.count.1 in let count = before.count in omega (arith, low, a, b, count)
 
-  -- the turn is legal by what the run has found, where its lawful blocks weren't poked
-  pub turn_legal : (marks : Marks) → IsMarkedRun marks run → LegalTurnBy (setup_of s) marks (found_before s run [] e) run.normal e
-  turn_legal marks marked = subst (λ (y : Setup × NormalKept). LegalTurnBy y.0 marks (found_before s run [] e) y.1 e) (λ j. (told.normal.setup j, told.normal.kept j))
-      (found_legal c m e o (found_before s run [] e) before.normal.tied.sound runs legal.legal is_found marks (λ i low. (marked i (inside i low)).stream) (λ i low. (marked i (inside i low)).commands))
+  -- the turn is legal by what was found, where the lawful blocks of the run weren't poked
+  pub turn_legal : (marks : Marks) → IsMarkedRun marks run → LegalTurnBy (setup_of s) marks f run.normal e
+  turn_legal marks marked = subst (λ (y : Setup × NormalKept). LegalTurnBy y.0 marks f y.1 e) (λ j. (told.normal.setup j, told.normal.kept j))
+      (found_legal c m e o f before.normal.tied.sound runs legal.legal is_found marks (λ i low on. ap is_tame (finds.streams i) ∙ (marked i (inside i low)).stream on) (λ i low on. ap is_tame (finds.commands i) ∙ (marked i (inside i low)).commands on))

@@ -26,7 +26,7 @@ use Rattle.af_normal.specs.LegalTurned.{IsLegal}
 use Rattle.af_normal.specs.State.{NormalState, kept_of, setup_of as mixer_setup}
 use Rattle.af_runs.specs.Found.{TurnFound, outside_of}
 use Rattle.af_runs.specs.KeptLists.{KeepsMutator}
-use Rattle.af_runs.specs.Runs.{Run, found_before, pipe_cells, report_of, with_load, with_turn}
+use Rattle.af_runs.specs.Runs.{Run, pipe_cells, report_of, with_load, with_turn}
 use Rattle.af_runs.specs.Sessions.{Session, cycle_frames, setup_of, track_count}
 use Rattle.af_runs.specs.Told.{Item, QueueTold, ReportTold, brought_by, is_pushed, items_of, mutator_does, state_at}
 use Rattle.af_server.specs.Order.{ServerState}
@@ -81,13 +81,10 @@ module _ {A B : Type 0} where
 
 -- ## The turn
 
-module _ (s : Session) (run : Run) (x : SessionState) (n : NormalState) (z : SessionState) (links : Links) (o : Outside) (told : Tells s run x) (together : AreTogether links x) (legal : IsLegal o x.normal n) (meets : Met (record x { normal = n }) z)
+module _ (s : Session) (run : Run) (x : SessionState) (n : NormalState) (z : SessionState) (links : Links) (o : Outside) (f : TurnFound) (told : Tells s run x) (together : AreTogether links x) (legal : IsLegal o x.normal n) (meets : Met (record x { normal = n }) z)
     (known : QueueKnown (cycle_frames s) run x.normal) (met_last : ReportMet run) (lives : x.normal.ended ≡ false) (cells : x.normal.pipe.pass.part.shape.cells ≡ pipe_cells (setup_of s)) where
   abbrev e : Turn
   e = turn_of n.entry
-
-  abbrev f : TurnFound
-  f = found_before s run [] e
 
   abbrev p : Outside
   p = outside_of (setup_of s) f e

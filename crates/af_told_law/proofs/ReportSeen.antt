@@ -16,7 +16,7 @@ use Rattle.af_model.specs.declared.newest.WriterEvent.TheVariants as writes
 use Rattle.af_model.specs.NewestValue as newest
 use Rattle.af_model.specs.NewestValue.{HasHistory}
 use Rattle.af_model.specs.Order.{one, two, ones, twos}
-use Rattle.af_model.specs.Reports.{no_report}
+use Rattle.af_model.specs.Reports.{no_report, report_at}
 use Rattle.af_normal.specs.State.{NormalState}
 use Rattle.af_runs.specs.Runs.{Run, last_report, report_of}
 use Rattle.af_runs.specs.Sessions.{Session}
@@ -26,6 +26,9 @@ use Rattle.af_session.specs.Together.{AreTogether, SessionState}
 use Rattle.af_told_law.specs.QueueTurned.{ReportMet}
 use Rattle.af_told_law.specs.Tells.{Tells, reports_stored}
 use Rattle.af_told_law.proofs.TurnReport.{all_stored, last_told, loads_behind, loads_first}
+use Rattle.af_life.specs.Kept.{slot_number, track_at}
+use Rattle.af_life.specs.declared.kept.TrackKept.{TrackKept}
+use Rattle.af_told_law.specs.Outsides.{HeardAlike}
 
 -- ## The reports of a list
 
@@ -118,7 +121,13 @@ module _ (s : Session) (run : Run) (x : SessionState) (n : NormalState) (z : Ses
       seen.1 ∙ sym (last_stored ws no_report) ∙ ap (λ (l : List Report). last_report l) told.fast.reports ∙ sym (last_told run.reports) ∙ ap (report_of run.reports) long
 
   -- by the greater of the number of entries and the cycle of the turn's entry
-  pub loaded_found : (cycle : ℕ) → cycle ≡ loaded.cycle → loaded ≡ report_of run.reports (max (length run.entries) cycle)
+  loaded_found : (cycle : ℕ) → cycle ≡ loaded.cycle → loaded ≡ report_of run.reports (max (length run.entries) cycle)
   loaded_found cycle is =
       let same : max (length run.entries) cycle ≡ length run.entries = (let c = cycle_is in let e : cycle ≡ length run.entries = is ∙ c in omega (arith, e)) in
       loaded_is ∙ ap (report_of run.reports) (sym same)
+
+  -- so the same is heard by both
+  pub heard_found : (tracks : List TrackKept) (cycle : ℕ) → cycle ≡ loaded.cycle → HeardAlike tracks loaded (report_of run.reports (max (length run.entries) cycle))
+  heard_found tracks cycle is =
+      let same : loaded ≡ report_of run.reports (max (length run.entries) cycle) = loaded_found cycle is in
+      record { cycle = ap (λ (r : Report). r.cycle) same; slots = (λ i low away. ap (λ (r : Report). report_at r.slots (slot_number (track_at tracks i))) same) }

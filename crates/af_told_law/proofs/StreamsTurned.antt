@@ -24,8 +24,8 @@ use Rattle.af_normal.specs.Turning.{listed_at}
 use Rattle.af_normal.proofs.OrderEdits.{away_slot}
 use Rattle.af_model.specs.History.{is_lawful}
 use Rattle.af_runs.specs.Blocks.{BlockTold, server_list}
-use Rattle.af_runs.specs.Found.{outside_of}
-use Rattle.af_runs.specs.Runs.{Run, found_before, stream_turned, told_at, turned_track}
+use Rattle.af_runs.specs.Found.{TurnFound, outside_of}
+use Rattle.af_runs.specs.Runs.{Run, stream_turned, told_at, turned_track}
 use Rattle.af_runs.specs.Sessions.{Session, cycle_frames, setup_of}
 use Rattle.af_runs.specs.Told.{is_pushed}
 use Rattle.af_server.specs.Order.{ServerState}
@@ -46,6 +46,7 @@ use Rattle.af_told_law.proofs.HomeBefore.{enters_before, turned_before}
 use Rattle.af_told_law.proofs.LooksTurned.{again_coming, back_coming, back_same, handed_none, waiting_none}
 use Rattle.af_told_law.proofs.TurnHomes.{turned_home}
 use Rattle.af_told_law.proofs.TurnTracks.{stream_clients, stream_servers, streams_quiet, turned_commands, turned_hand, turned_stream}
+use Rattle.af_told_law.specs.Outsides.{FindsBlocks, HeardAlike}
 
 unpushed : (push : Push) (sent pending : List (Option ServerState)) → is_pushed push ≡ false → in_queue push sent pending ≡ pending
 unpushed (Pushed number) sent pending e = absurd (true≢false e)
@@ -58,7 +59,8 @@ went Clean sent pending e = absurd (true≢false (sym e))
 went (Busy seen expected) sent pending e = absurd (true≢false (sym e))
 
 module _ (links : Links) (s : Session) (run : Run) (x : SessionState) (n : NormalState) (o : Outside) (told : Tells s run x) (before : AreTogether links x) (after : AreTogether links (record x { normal = n })) (legal : IsLegal o x.normal n)
-    (runs : (turn_of n.entry).ended ≡ false) (own : SeesOwn (record x { normal = n })) (report : o.report ≡ (found_before s run [] (turn_of n.entry)).report) (goes : StreamsGo o x.normal n (turn_of n.entry)) (stands : StandsBetween x) (known : QueueKnown (cycle_frames s) run x.normal)
+    (runs : (turn_of n.entry).ended ≡ false) (own : SeesOwn (record x { normal = n })) (f : TurnFound) (finds : FindsBlocks run f) (report : HeardAlike (after_ack (turn_of n.entry).ack (kept_of x.normal)).tracks o.report f.report)
+    (goes : StreamsGo o x.normal n (turn_of n.entry)) (stands : StandsBetween x) (known : QueueKnown (cycle_frames s) run x.normal)
     (c d : ℕ) (later : HasHistory x.normal.mutator.past.first (n.mutator.past.events ++ mutator.Learn c ∷ []) (x.fast.observer.past.events ++ observer.Learn d ∷ [])) where
   abbrev e : Turn
   e = turn_of n.entry
@@ -67,7 +69,7 @@ module _ (links : Links) (s : Session) (run : Run) (x : SessionState) (n : Norma
   k = kept_of x.normal
 
   abbrev seen_by : Outside
-  seen_by = outside_of (setup_of s) (found_before s run [] e) e
+  seen_by = outside_of (setup_of s) f e
 
   -- the stream block of a track before the run's turn, and after it
   abbrev was : ℕ → BlockTold
@@ -95,7 +97,7 @@ module _ (links : Links) (s : Session) (run : Run) (x : SessionState) (n : Norma
   home_turned i t low is =
       let home : is_home (track_at n.tracks i).holder ≡ true = sym (after.normal.tied.proxies.there i (let same = same_count in omega (arith, low, same))) ∙ ap is_some is in
       let left : is_home (track_at (turn_after (mixer_setup x.normal) (learnt o) k e).tracks i).holder ≡ true = sym (ap (λ (l : NormalKept). is_home (track_at l.tracks i).holder) legal.leaves) ∙ home in
-      turned_home links s run x n o told before after legal runs own report comers i t low is
+      turned_home links s run x n o told before after legal runs own f finds report comers i t low is
       (frames_told i t low (turned_before (mixer_setup x.normal) (learnt o) k e i before.normal.tied.sound runs left) (goes.home i t is))
 
   pub lent_turned : (i : ℕ) → i < length k.tracks → must_enter (track_at (served_tracks (mixer_setup x.normal) (learnt o) k e) i) ≡ true → (lent : IsLentBy o goes.back goes.sent x.normal n e i) → TellsServer (block i) lent.item
@@ -104,7 +106,7 @@ module _ (links : Links) (s : Session) (run : Run) (x : SessionState) (n : Norma
       let list : o.streams i ≡ listed_at (Some lent.comes.before) = legal.lists.home runs i ∙ ap (λ (items : List (Option ServerState)). listed_at (home_stream e.ack k items x.normal i)) (sym same_back) ∙ ap listed_at lent.comes.was in
       let goes_on : GoesOnFrom (o.streams i) (stream_list (mixer_setup x.normal) o e (tracks_at (mixer_setup x.normal) (learnt o) k e i) i) lent.item =
       (lent.comes.does.list ∙ ap (λ (l : Listed). l.events ++ events_by o x.normal e i) (sym list), lent.comes.does.shape ∙ ap (λ (l : Listed). l.shape) (sym list)) in
-      turned_stream links s run x n o told before after legal runs own report comers i lent.item low home goes_on (frames_told i lent.item low home lent.comes)
+      turned_stream links s run x n o told before after legal runs own f finds report comers i lent.item low home goes_on (frames_told i lent.item low home lent.comes)
 
   -- ## One that was lent
 
@@ -152,7 +154,7 @@ module _ (links : Links) (s : Session) (run : Run) (x : SessionState) (n : Norma
     same = record {
       shape = refl;
       events = stream_servers (setup_of s) seen_by run.normal e i (was i)
-          ∙ ap (λ (es : List ServerEvent). server_list (was i) ++ es) (streams_quiet links s run x n o told before after legal runs own report comers i low stays.quiet) ∙ append-nil (server_list (was i));
+          ∙ ap (λ (es : List ServerEvent). server_list (was i) ++ es) (streams_quiet links s run x n o told before after legal runs own f finds report comers i low stays.quiet) ∙ append-nil (server_list (was i));
       taken = ap (λ (ws : List ℕ). (was i).taken ++ ws) stays.takes ∙ append-nil (was i).taken;
       tame = (λ h. sym (ap is_lawful (stream_clients (setup_of s) seen_by run.normal e i (was i))) ∙ h);
     }
@@ -225,11 +227,11 @@ module _ (links : Links) (s : Session) (run : Run) (x : SessionState) (n : Norma
   stream_told i low = record {
     home = (λ t is. home_turned i t low is);
     away = (λ gone. away_by i low gone (must_enter (track_at (served_tracks (mixer_setup x.normal) (learnt o) k e) i)) refl);
-    hand = turned_hand links s run x n o told before after legal runs own report comers i low;
+    hand = turned_hand links s run x n o told before after legal runs own f finds report comers i low;
   }
 
   -- and its command proxy
   pub commands_told : (i : ℕ) (t : ServerState) → slice_get n.commands i ≡ Some t → TellsCommands (turned_track (setup_of s) seen_by run.normal e i (told_at run i)).commands t
   commands_told i t is =
       let low : i < length x.normal.tracks = (let w = slice_get_within n.commands i t is in let many = after.normal.tied.sizes.commands_are in let same = same_count in omega (arith, w, many, same)) in
-      turned_commands links s run x n o told before after legal runs own report comers i t low is
+      turned_commands links s run x n o told before after legal runs own f finds report comers i t low is

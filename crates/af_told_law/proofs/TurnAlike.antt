@@ -1,16 +1,15 @@
 -- By alike outsides a turn of the normal mixer serves and edits its tracks alike.
-use Rattle.std.proofs.Common.{◌≡◌, inl, inr, ℕ, zero, suc, ◌<◌, ◌≤◌, ◌&&◌, Bool, true, false, if◌then◌else◌, is_some, min, List, [], ◌∷◌, length, refl, sym, ap, ◌∙◌, arith}
+use Rattle.std.proofs.Common.{Bool, List, [], ap, arith, false, if◌then◌else◌, inl, inr, is_some, length, min, refl, subst, suc, sym, true, zero, ℕ, ◌&&◌, ◌<◌, ◌∙◌, ◌∷◌, ◌≡◌, ◌≤◌}
 use Rattle.std.specs.Prelude.{slice_set}
 use Rattle.std.proofs.lemmas.List.{get_or-set_other}
-use Rattle.af_base.specs.declared.report.Report.{Report}
 use Rattle.af_base.specs.declared.state.FastState.{FastState}
 use Rattle.af_base.specs.declared.turn.CommandLook.{CommandLook}
 use Rattle.af_base.specs.Turn.{Turn, TrackSeen}
 use Rattle.af_life.specs.declared.kept.Heard.{Heard}
 use Rattle.af_life.specs.declared.kept.TrackKept.{TrackKept}
 use Rattle.af_life.specs.Edits.{after_ack, after_push, commanded_by, edited, edited_to, lend, let_go, must_enter, must_leave, mutated}
-use Rattle.af_life.specs.Heard.{heard, heard_at_home, heard_by, heard_elsewhere, heard_with, known_by, learnt, noted, ready, settled_at, slot_reported}
-use Rattle.af_life.specs.Kept.{Learnt, NormalKept, Outside, Setup, is_home, new_track, no_counts, plays, seen_at, slot_number, track_at}
+use Rattle.af_life.specs.Heard.{counts_in, heard, heard_at_home, heard_by, heard_elsewhere, heard_with, is_reported, known_by, learnt, noted, ready, settled_at, slot_reported}
+use Rattle.af_life.specs.Kept.{Learnt, NormalKept, Outside, Setup, is_home, new_track, no_counts, plays, seen_at, track_at}
 use Rattle.af_life.specs.Obeys.{slot_for}
 use Rattle.af_life.specs.Plays.{after_takes}
 use Rattle.af_life.specs.Serves.{after_part, served, served_to}
@@ -21,15 +20,15 @@ use Rattle.af_life.proofs.Lives.{acked_len, not_yet, served_len}
 use Rattle.af_model.specs.Cycles.{Listed}
 use Rattle.af_model.specs.ServerCalls.{ServerKept, flushes_by}
 use Rattle.af_model.specs.declared.shape.Shape.{Shape}
-use Rattle.af_model.specs.Reports.{report_at}
 use Rattle.af_judge.proofs.SoundLives.{goes_served}
 use Rattle.af_judge.proofs.SoundSlots.{at_set, sound_served}
 use Rattle.af_judge.proofs.SoundTurns.{sound_acked}
-use Rattle.af_told_law.specs.Outsides.{AreAlike, LearnAlike, ListAlike}
+use Rattle.af_told_law.specs.Outsides.{AreAlike, LearnAlike, ListAlike, OwnAlike}
+use Rattle.af_base.specs.declared.report.SlotReport.{SlotReport}
 
 -- ## What is heard
 
-module _ (k l : Learnt) (i : ℕ) (s : TrackKept) (report : k.report ≡ l.report) (own : is_home s.holder ≡ true → k.own i ≡ l.own i) where
+module _ (k l : Learnt) (i : ℕ) (s : TrackKept) (elsewhere : is_home s.holder ≡ false → slot_reported k s ≡ slot_reported l s) (own : is_home s.holder ≡ true → k.own i ≡ l.own i) where
   -- the same is heard of a proxy that is home, by what it knows, and of one elsewhere, by the report
   pub heard_same : heard k i s ≡ heard l i s
   unfolding heard_by
@@ -37,10 +36,22 @@ module _ (k l : Learnt) (i : ℕ) (s : TrackKept) (report : k.report ≡ l.repor
     where
       by_home : (b : Bool) → is_home s.holder ≡ b → (if b then heard_at_home (k.own i) s else heard_elsewhere (slot_reported k s) s) ≡ (if b then heard_at_home (l.own i) s else heard_elsewhere (slot_reported l s) s)
       by_home true is = ap (λ (h : Heard). heard_at_home h s) (own is)
-      by_home false is = ap (λ (r : Report). heard_elsewhere (report_at r.slots (slot_number s)) s) report
+      by_home false is = ap (λ (r : SlotReport). heard_elsewhere r s) (elsewhere is)
+
+  -- and the same of it is noted
+  noted_same : noted (slot_reported k s) s ≡ noted (slot_reported l s) s
+  unfolding noted
+  noted_same = by_home (is_home s.holder) refl
+    where
+      after : SlotReport → TrackKept
+      after r = if is_reported r s then record s { reported = counts_in r } else s
+
+      by_home : (b : Bool) → is_home s.holder ≡ b → (if b then record s { own = no_counts } else after (slot_reported k s)) ≡ (if b then record s { own = no_counts } else after (slot_reported l s))
+      by_home true is = refl
+      by_home false is = ap after (elsewhere is)
 
   pub ready_same : ready k i s ≡ ready l i s
-  ready_same = λ j. settled_at (heard_same j).flush_seen (noted (report_at (report j).slots (slot_number s)) s)
+  ready_same = λ j. settled_at (heard_same j).flush_seen (noted_same j)
 
 -- ## The tracks are served
 
@@ -50,10 +61,18 @@ set_same (x ∷ xs) zero a b same = ap (λ (t : TrackKept). t ∷ xs) (same (ome
 set_same (x ∷ xs) (suc n) a b same = ap (λ (ts : List TrackKept). x ∷ ts) (set_same xs n a b (λ low. same (omega (arith, low))))
 
 module _ (c : Setup) (k l : Learnt) where
-  served_same : (looks : List CommandLook) (tracks : List TrackKept) (i : ℕ) → k.report ≡ l.report → (is_home (track_at tracks i).holder ≡ true → k.own i ≡ l.own i) → served c k looks tracks i ≡ served c l looks tracks i
+  served_same : (looks : List CommandLook) (tracks : List TrackKept) (i : ℕ) → (is_home (track_at tracks i).holder ≡ false → slot_reported k (track_at tracks i) ≡ slot_reported l (track_at tracks i)) → (is_home (track_at tracks i).holder ≡ true → k.own i ≡ l.own i)
+      → served c k looks tracks i ≡ served c l looks tracks i
   unfolding served
-  served_same looks tracks i report own = let s : TrackKept = track_at tracks i in
-      (λ j. if s.life.ended then s else after_part (slot_for c tracks i) (heard_same k l i s report own j) looks (ready_same k l i s report own j))
+  served_same looks tracks i elsewhere own = let s : TrackKept = track_at tracks i in
+      (λ j. if s.life.ended then s else after_part (slot_for c tracks i) (heard_same k l i s elsewhere own j) looks (ready_same k l i s elsewhere own j))
+
+  -- a track that is still to be served is as it was, and so is what is reported of it
+  reported_yet : (seen : List TrackSeen) (tracks : List TrackKept) (n : ℕ) → LearnAlike tracks k l → n < length tracks → is_home (track_at (served_to c k seen tracks n) n).holder ≡ false
+      → slot_reported k (track_at (served_to c k seen tracks n) n) ≡ slot_reported l (track_at (served_to c k seen tracks n) n)
+  reported_yet seen tracks n alike low away =
+      let same : track_at (served_to c k seen tracks n) n ≡ track_at tracks n = not_yet c k seen tracks n n (omega arith) in
+      subst (λ (s : TrackKept). slot_reported k s ≡ slot_reported l s) (sym same) (alike.report.slots n low (sym (ap (λ (s : TrackKept). is_home s.holder) same) ∙ away))
 
   pub served_to_same : (seen : List TrackSeen) (tracks : List TrackKept) (n : ℕ) → LearnAlike tracks k l → served_to c k seen tracks n ≡ served_to c l seen tracks n
   served_to_same seen tracks zero alike = refl
@@ -61,8 +80,9 @@ module _ (c : Setup) (k l : Learnt) where
       let now : List TrackKept = served_to c k seen tracks n in
       let before : now ≡ served_to c l seen tracks n = served_to_same seen tracks n alike in
       set_same now n (served c k (seen_at seen n).looks now n) (served c l (seen_at seen n).looks now n)
-      (λ low. served_same (seen_at seen n).looks now n alike.report
-      (λ home. alike.own n (let long : length now ≡ length tracks = served_len c k seen tracks n in omega (arith, low, long)) (sym (ap (λ (s : TrackKept). is_home s.holder) (not_yet c k seen tracks n n (omega arith))) ∙ home)))
+      (λ low. let long : length now ≡ length tracks = served_len c k seen tracks n in
+          served_same (seen_at seen n).looks now n (reported_yet seen tracks n alike (omega (arith, low, long)))
+          (λ home. alike.own n (omega (arith, low, long)) (sym (ap (λ (s : TrackKept). is_home s.holder) (not_yet c k seen tracks n n (omega arith))) ∙ home)))
       ∙ (λ j. slice_set (before j) n (served c l (seen_at seen n).looks (before j) n))
 
 -- serving leaves each proxy where it is
@@ -106,13 +126,13 @@ module _ (c : Setup) (k l : Learnt) where
       by_home true is = ap (λ (h : Heard). if must_leave (track_at m.tracks i) then let_go i m else lend c i h m) (own (first (is_home (track_at m.tracks i).holder) (is_some (track_at m.tracks i).slot && plays (track_at m.tracks i).life) is))
       by_home false is = refl
 
-  edited_to_same : (m : NormalKept) (n : ℕ) → n ≤ length m.tracks → LearnAlike m.tracks k l → edited_to c k m n ≡ edited_to c l m n
+  edited_to_same : (m : NormalKept) (n : ℕ) → n ≤ length m.tracks → OwnAlike m.tracks k l → edited_to c k m n ≡ edited_to c l m n
   edited_to_same m zero few alike = refl
   edited_to_same m (suc n) few alike =
-      edited_same n (edited_to c k m n) (λ home. alike.own n (omega (arith, few)) (sym (ap (λ (s : TrackKept). is_home s.holder) (edits_before c k m n n (omega arith))) ∙ home))
+      edited_same n (edited_to c k m n) (λ home. alike n (omega (arith, few)) (sym (ap (λ (s : TrackKept). is_home s.holder) (edits_before c k m n n (omega arith))) ∙ home))
       ∙ ap (edited c l n) (edited_to_same m n (omega (arith, few)) alike)
 
-  mutated_same : (room : ℕ) (m : NormalKept) → LearnAlike m.tracks k l → mutated c k room m ≡ mutated c l room m
+  mutated_same : (room : ℕ) (m : NormalKept) → OwnAlike m.tracks k l → mutated c k room m ≡ mutated c l room m
   unfolding mutated
   mutated_same room m alike = ap (commanded_by c room) (edited_to_same m (length m.tracks) (omega arith) alike)
 
@@ -134,11 +154,9 @@ module _ (c : Setup) (k l : Learnt) (m : NormalKept) (e : Turn) (sound : IsSound
   pub after_edits_same : after_edits c k e m ≡ after_edits c l e m
   after_edits_same = mutated_same c k l e.room (after_tracks c k e acked) alike_then ∙ ap (mutated c l e.room) after_tracks_same
     where
-      alike_then : LearnAlike (after_tracks c k e acked).tracks k l
-      alike_then = record {
-        report = alike.report;
-        own = (λ i low home. alike.own i (let long : length (after_tracks c k e acked).tracks ≡ length acked.tracks = served_len c k e.tracks acked.tracks (length acked.tracks) in omega (arith, low, long)) (ap is_home (sym (served_holder c k e.tracks acked.draft acked.tracks (length acked.tracks) i (sound_acked e.ack m sound))) ∙ home));
-      }
+      alike_then : OwnAlike (after_tracks c k e acked).tracks k l
+      alike_then i low home = alike.own i (let long : length (after_tracks c k e acked).tracks ≡ length acked.tracks = served_len c k e.tracks acked.tracks (length acked.tracks) in omega (arith, low, long))
+          (ap is_home (sym (served_holder c k e.tracks acked.draft acked.tracks (length acked.tracks) i (sound_acked e.ack m sound))) ∙ home)
 
   -- what the turn leaves
   pub turn_same : turn_after c k m e ≡ turn_after c l m e
@@ -149,12 +167,16 @@ module _ (c : Setup) (k l : Learnt) (m : NormalKept) (e : Turn) (sound : IsSound
   at_home : (i : ℕ) → i < length m.tracks → is_home (track_at (tracks_at c k m e i) i).holder ≡ true → k.own i ≡ l.own i
   at_home i low home = alike.own i (let long : length acked.tracks ≡ length m.tracks = acked_len e.ack m in omega (arith, low, long)) (sym (ap (λ (s : TrackKept). is_home s.holder) (not_yet c k e.tracks acked.tracks i i (omega arith))) ∙ home)
 
+  -- and of one that isn't home the same is reported
+  reported_then : (i : ℕ) → i < length m.tracks → is_home (track_at (tracks_at c k m e i) i).holder ≡ false → slot_reported k (track_at (tracks_at c k m e i) i) ≡ slot_reported l (track_at (tracks_at c k m e i) i)
+  reported_then i low = reported_yet c k l e.tracks acked.tracks i alike (let long : length acked.tracks ≡ length m.tracks = acked_len e.ack m in omega (arith, low, long))
+
   -- what is heard of a track in its part of the turn
   pub heard_then_same : (i : ℕ) → i < length m.tracks → heard k i (track_at (tracks_at c k m e i) i) ≡ heard l i (track_at (tracks_at c l m e i) i)
-  heard_then_same i low = heard_same k l i (track_at (tracks_at c k m e i) i) alike.report (at_home i low) ∙ ap (λ (ts : List TrackKept). heard l i (track_at ts i)) (tracks_same i)
+  heard_then_same i low = heard_same k l i (track_at (tracks_at c k m e i) i) (reported_then i low) (at_home i low) ∙ ap (λ (ts : List TrackKept). heard l i (track_at ts i)) (tracks_same i)
 
   pub ready_then_same : (i : ℕ) → i < length m.tracks → ready k i (track_at (tracks_at c k m e i) i) ≡ ready l i (track_at (tracks_at c l m e i) i)
-  ready_then_same i low = ready_same k l i (track_at (tracks_at c k m e i) i) alike.report (at_home i low) ∙ ap (λ (ts : List TrackKept). ready l i (track_at ts i)) (tracks_same i)
+  ready_then_same i low = ready_same k l i (track_at (tracks_at c k m e i) i) (reported_then i low) (at_home i low) ∙ ap (λ (ts : List TrackKept). ready l i (track_at ts i)) (tracks_same i)
 
 -- what a proxy knows is told by its list, but for its front
 known_alike : (s t : Listed) → ListAlike s t → known_by s ≡ known_by t

@@ -22,14 +22,14 @@ use Rattle.af_normal.specs.Serving.{Adds}
 use Rattle.af_normal.specs.State.{NormalState, kept_of, setup_of as mixer_setup}
 use Rattle.af_runs.specs.Blocks.{BlockTold, client_list, hand_list as told_hand, is_tame, listed, server_list}
 use Rattle.af_runs.specs.Found.{TurnFound, outside_of}
-use Rattle.af_runs.specs.Runs.{Run, commands_turned, found_before, stream_turned, told_at}
+use Rattle.af_runs.specs.Runs.{Run, commands_turned, stream_turned, told_at}
 use Rattle.af_runs.specs.Sessions.{Session, setup_of}
 use Rattle.af_server.specs.Order.{ServerState}
 use Rattle.af_judge.proofs.BlocksTold.{hand-client, server-client}
 use Rattle.af_session.specs.Together.{AreTogether, SessionState}
 use Rattle.af_told_law.specs.Comers.{ComersTell}
 use Rattle.af_told_law.specs.Alike.{TellAlike}
-use Rattle.af_told_law.specs.Outsides.{AreAlike, IsFound, SameFront}
+use Rattle.af_told_law.specs.Outsides.{AreAlike, FindsBlocks, HeardAlike, IsFound, SameFront}
 use Rattle.af_told_law.specs.Own.{SeesOwn}
 use Rattle.af_told_law.specs.Tells.{Tells, TellsCommands, TellsServer}
 use Rattle.af_told_law.proofs.ClientTold.{SameServed}
@@ -76,22 +76,20 @@ module _ (c : Setup) (p : Outside) (m : NormalKept) (e : Turn) (i : ℕ) (b : Bl
   stream_hands = hand_still (fold (λ (sofar : List Moment) (one : Moment). one ∷ sofar) b.told (map by_hand (hand_list e i))) (stream_list c p e (tracks_at c (learnt p) m e i) i) ∙ hand_more b.told (hand_list e i)
 
 module _ (links : Links) (s : Session) (run : Run) (x : SessionState) (n : NormalState) (o : Outside) (told : Tells s run x) (before : AreTogether links x) (after : AreTogether links (record x { normal = n })) (legal : IsLegal o x.normal n)
-    (runs : (turn_of n.entry).ended ≡ false) (own : SeesOwn (record x { normal = n })) (report : o.report ≡ (found_before s run [] (turn_of n.entry)).report) (comers : ComersTell run x.normal (turn_of n.entry) legal.lists.back) where
+    (runs : (turn_of n.entry).ended ≡ false) (own : SeesOwn (record x { normal = n })) (f : TurnFound) (finds : FindsBlocks run f) (report : HeardAlike (after_ack (turn_of n.entry).ack (kept_of x.normal)).tracks o.report f.report)
+    (comers : ComersTell run x.normal (turn_of n.entry) legal.lists.back) where
   abbrev e : Turn
   e = turn_of n.entry
 
   abbrev m : NormalKept
   m = kept_of x.normal
 
-  abbrev f : TurnFound
-  f = found_before s run [] e
-
   -- what the run tells that the turn saw, over either setup
   abbrev seen_by : Setup → Outside
   seen_by c = outside_of c f e
 
   found_now : IsFound (mixer_setup x.normal) m e o f
-  found_now = is_found links s run x n o told before after legal runs own report comers
+  found_now = is_found links s run x n o told before after legal runs own f finds report comers
 
   alike : AreAlike m e o (seen_by (mixer_setup x.normal))
   alike = found_alike (mixer_setup x.normal) m e o f before.normal.tied.sound runs legal.legal found_now
@@ -113,16 +111,16 @@ module _ (links : Links) (s : Session) (run : Run) (x : SessionState) (n : Norma
   commands_list : (i : ℕ) → i < length m.tracks → is_tame (told_at run i).commands ≡ true
       → command_list (mixer_setup x.normal) o e (tracks_at (mixer_setup x.normal) (learnt o) m e i) i ≡ command_list (setup_of s) (seen_by (setup_of s)) e (tracks_at (setup_of s) (learnt (seen_by (setup_of s))) run.normal e i) i
   commands_list i low tame =
-      command_list_same (mixer_setup x.normal) m e o (seen_by (mixer_setup x.normal)) before.normal.tied.sound alike i low (found_now.same_commands i low tame)
-      (looks_same_fronts (mixer_setup x.normal) m e o f before.normal.tied.sound runs legal.legal found_now i low tame)
+      command_list_same (mixer_setup x.normal) m e o (seen_by (mixer_setup x.normal)) before.normal.tied.sound alike i low (found_now.same_commands i low (ap is_tame (finds.commands i) ∙ tame))
+      (looks_same_fronts (mixer_setup x.normal) m e o f before.normal.tied.sound runs legal.legal found_now i low (ap is_tame (finds.commands i) ∙ tame))
       ∙ commands_setup i
 
   pub turned_commands : (i : ℕ) (t : ServerState) → i < length m.tracks → slice_get n.commands i ≡ Some t → TellsCommands (commands_turned (setup_of s) (seen_by (setup_of s)) run.normal e i (told_at run i).commands) t
   turned_commands i t low is =
       let b : BlockTold = (told_at run i).commands in
       let es : List ServerEvent = command_list (setup_of s) (seen_by (setup_of s)) e (tracks_at (setup_of s) (learnt (seen_by (setup_of s))) run.normal e i) i in
-      let here = command_at links s run x n o told before after legal runs own report comers i low in
-      let client = client_at links s run x n o told before after legal runs own report comers i low in
+      let here = command_at links s run x n o told before after legal runs own f finds report comers i low in
+      let client = client_at links s run x n o told before after legal runs own f finds report comers i low in
       let was : TellsCommands b here.0 = (told.tracks i client.0 client.1).commands here.0 here.1 in
       let turned = legal.lists.commands i here.0 here.1 in
       let same : turned.0 ≡ t = same_Some turned.0 t (sym turned.1 ∙ is) in
@@ -138,7 +136,9 @@ module _ (links : Links) (s : Session) (run : Run) (x : SessionState) (n : Norma
                 sym (adds.list ∙ ap (λ (l : Listed). l.events ++ command_list (mixer_setup x.normal) o e (tracks_at (mixer_setup x.normal) (learnt o) m e i) i) (sym (legal.commands i here.0 here.1))) j,
                 (ap (λ (zs : List ServerEvent). server_list b ++ zs) (commands_setup i) ∙ sym (server_more b.told es)) j,
               ))
-              (command_list_alike (mixer_setup x.normal) m e o (seen_by (mixer_setup x.normal)) before.normal.tied.sound alike legal.legal runs i low refl);
+              (subst (λ (d : BlockTold). TellAlike d.shape ((o.commands i).events ++ command_list (mixer_setup x.normal) o e (tracks_at (mixer_setup x.normal) (learnt o) m e i) i)
+              (server_list d ++ command_list (mixer_setup x.normal) (seen_by (mixer_setup x.normal)) e (tracks_at (mixer_setup x.normal) (learnt (seen_by (mixer_setup x.normal))) m e i) i)) (finds.commands i)
+              (command_list_alike (mixer_setup x.normal) m e o (seen_by (mixer_setup x.normal)) before.normal.tied.sound alike legal.legal runs i low refl));
           taken = adds.took ∙ (λ j. was.server.taken j ++ words j);
         };
         whole = legal.lists.whole i here.0 t here.1 is ∙ was.whole;
@@ -169,12 +169,15 @@ module _ (links : Links) (s : Session) (run : Run) (x : SessionState) (n : Norma
       let near = found_now.streams i low home in
       let es : List ServerEvent = stream_list c o e (tracks_at c (learnt o) m e i) i in
       let grown = stream_servers (setup_of s) (seen_by (setup_of s)) run.normal e i b in record {
-        shape = goes.1 ∙ near.shape;
-        events = (λ lawful. let tame : is_tame b ≡ true = sym (ap is_lawful (stream_clients (setup_of s) (seen_by (setup_of s)) run.normal e i b)) ∙ lawful in
-            goes.0 ∙ (λ j. (found_now.same_streams i low tame home j).events ++ streams_list i low (taken_same c m e o f before.normal.tied.sound runs legal.legal found_now i tame) j) ∙ sym grown);
+        shape = goes.1 ∙ near.shape ∙ ap (λ (d : BlockTold). d.shape) (finds.streams i);
+        events = (λ lawful.
+            let tame : is_tame (f.streams i) ≡ true = ap is_tame (finds.streams i) ∙ sym (ap is_lawful (stream_clients (setup_of s) (seen_by (setup_of s)) run.normal e i b)) ∙ lawful in
+            let same : o.streams i ≡ listed b = found_now.same_streams i low tame home ∙ ap listed (finds.streams i) in
+            goes.0 ∙ (λ j. (same j).events ++ streams_list i low (taken_same c m e o f before.normal.tied.sound runs legal.legal found_now i tame) j) ∙ sym grown);
         alike = subst (λ (z : List ServerEvent × List ServerEvent). TellAlike b.shape z.0 z.1)
             (λ j. (sym goes.0 j, (ap (λ (zs : List ServerEvent). server_list b ++ zs) (streams_setup i) ∙ sym grown) j))
-            (stream_list_alike c m e o (seen_by c) before.normal.tied.sound alike legal.legal runs i low near refl);
+            (subst (λ (d : BlockTold). TellAlike d.shape ((o.streams i).events ++ es) (server_list d ++ stream_list c (seen_by c) e (tracks_at c (learnt (seen_by c)) m e i) i)) (finds.streams i)
+            (stream_list_alike c m e o (seen_by c) before.normal.tied.sound alike legal.legal runs i low near refl));
         taken = took;
       }
 
@@ -207,5 +210,5 @@ module _ (links : Links) (s : Session) (run : Run) (x : SessionState) (n : Norma
   -- the hand
   pub turned_hand : (i : ℕ) → i < length m.tracks → hand_events n.hands i ≡ told_hand (stream_turned (setup_of s) (seen_by (setup_of s)) run.normal e i (told_at run i).stream)
   turned_hand i low =
-      let client = client_at links s run x n o told before after legal runs own report comers i low in
+      let client = client_at links s run x n o told before after legal runs own f finds report comers i low in
       legal.lists.hands i ∙ ap (λ (hs : List HandEvent). hs ++ hand_list e i) (told.tracks i client.0 client.1).stream.hand ∙ sym (stream_hands (setup_of s) (seen_by (setup_of s)) run.normal e i (told_at run i).stream)

@@ -5,7 +5,7 @@ use Rattle.af_base.specs.declared.turn.CommandLook.{CommandLook}
 use Rattle.af_base.specs.Turn.{TakeSeen, Turn}
 use Rattle.af_life.specs.declared.kept.TrackKept.{TrackKept}
 use Rattle.af_life.specs.Edits.{after_ack}
-use Rattle.af_life.specs.Kept.{Learnt, NormalKept, Outside, Setup, asked, is_home, track_at, track_in}
+use Rattle.af_life.specs.Kept.{Learnt, NormalKept, Outside, Setup, asked, is_home, slot_number, track_at, track_in}
 use Rattle.af_life.specs.Looks.{LegalLooks, command_events, did}
 use Rattle.af_life.specs.TurnEvents.{takes_from}
 use Rattle.af_model.specs.Cycles.{Listed, LooksBy, kept}
@@ -13,11 +13,23 @@ use Rattle.af_runs.specs.Blocks.{is_tame, listed}
 use Rattle.af_runs.specs.Found.{TurnFound, take_front}
 use Rattle.af_runs.specs.Fronts.{front_of, fronts_by, lawful_front}
 use Rattle.af_told_law.specs.Alike.{TellAlike}
+use Rattle.af_base.specs.declared.report.Report.{Report}
+use Rattle.af_model.specs.Reports.{report_at}
+use Rattle.af_runs.specs.Runs.{Run, told_at}
 
--- the report, and what each stream proxy knows that is home, are the same
+-- the reports are of one cycle, and say the same of the slot of each track whose proxy isn't home
+pub record HeardAlike (tracks : List TrackKept) (r q : Report) : Type 0 where
+  pub cycle : r.cycle ≡ q.cycle
+  pub slots : (i : ℕ) → i < length tracks → is_home (track_at tracks i).holder ≡ false → report_at r.slots (slot_number (track_at tracks i)) ≡ report_at q.slots (slot_number (track_at tracks i))
+
+-- each stream proxy that is home knows the same
+abbrev pub OwnAlike : List TrackKept → Learnt → Learnt → Type 0
+OwnAlike tracks k l = (i : ℕ) → i < length tracks → is_home (track_at tracks i).holder ≡ true → k.own i ≡ l.own i
+
+-- of each stream proxy the same is learnt, by the report or by what it knows
 pub record LearnAlike (tracks : List TrackKept) (k l : Learnt) : Type 0 where
-  pub report : k.report ≡ l.report
-  pub own : (i : ℕ) → i < length tracks → is_home (track_at tracks i).holder ≡ true → k.own i ≡ l.own i
+  pub report : HeardAlike tracks k.report l.report
+  pub own : OwnAlike tracks k l
 
 -- the front of a look is the same, where it was made: a server that was shut makes none
 abbrev pub SameFront : Listed → ℕ → ℕ → Type 0
@@ -34,9 +46,9 @@ pub record ListAlike (s t : Listed) : Type 0 where
   pub shape : s.shape ≡ t.shape
   pub alike : TellAlike t.shape s.events t.events
 
--- The report is the same, and the lists of the stream proxies that are home once the acknowledgement was seen, and those of the command proxies, tell alike
+-- Of the stream proxies that aren't home once the acknowledgement was seen the reports say the same, and the lists of those that are, and those of the command proxies, tell alike
 pub record AreAlike (m : NormalKept) (e : Turn) (o p : Outside) : Type 0 where
-  pub report : o.report ≡ p.report
+  pub report : HeardAlike (after_ack e.ack m).tracks o.report p.report
   pub streams : (i : ℕ) → i < length m.tracks → is_home (track_at (after_ack e.ack m).tracks i).holder ≡ true → ListAlike (o.streams i) (p.streams i)
   pub commands : (i : ℕ) → i < length m.tracks → ListAlike (o.commands i) (p.commands i)
 
@@ -55,9 +67,14 @@ TakeTold c s f takes = ((takes ≡ []) ⊎ SameFront s f (take_front (front_of (
 abbrev pub LooksTold : Listed → List CommandLook → List ℕ → Type 0
 LooksTold s looks fs = SameFronts s looks fs (fronts_by front_of s looks) × (fronts_by front_of s looks ≡ fronts_by lawful_front s looks)
 
--- What a turn saw is what a run has found: the report, and what the lists of the stream proxies that are home once the acknowledgement was seen, and those of the command proxies, tell. On a block that wasn't poked the lists and the fronts are the same
+-- a turn finds the two blocks of each track as a run tells them
+pub record FindsBlocks (run : Run) (f : TurnFound) : Type 0 where
+  pub streams : (i : ℕ) → f.streams i ≡ (told_at run i).stream
+  pub commands : (i : ℕ) → f.commands i ≡ (told_at run i).commands
+
+-- What a turn saw is what was found: what the report says of the stream proxies that aren't home once the acknowledgement was seen, and what the lists of those that are, and those of the command proxies, tell. On a block that wasn't poked the lists and the fronts are the same
 pub record IsFound (c : Setup) (m : NormalKept) (e : Turn) (o : Outside) (f : TurnFound) : Type 0 where
-  pub report : o.report ≡ f.report
+  pub report : HeardAlike (after_ack e.ack m).tracks o.report f.report
   pub streams : (i : ℕ) → i < length m.tracks → is_home (track_at (after_ack e.ack m).tracks i).holder ≡ true → ListAlike (o.streams i) (listed (f.streams i))
   pub commands : (i : ℕ) → i < length m.tracks → ListAlike (o.commands i) (listed (f.commands i))
   pub same_streams : (i : ℕ) → i < length m.tracks → is_tame (f.streams i) ≡ true → is_home (track_at (after_ack e.ack m).tracks i).holder ≡ true → o.streams i ≡ listed (f.streams i)
