@@ -11,6 +11,7 @@ pub mod FastTurnTold
 pub mod FastRound
 pub mod SummaryTold
 pub mod FastStep
+pub mod TurnMet
 pub mod NormalStep
 pub mod RendersTold
 pub mod AwayKnown

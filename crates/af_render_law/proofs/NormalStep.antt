@@ -1,20 +1,20 @@
 -- A turn of the normal mixer that hadn't ended is a step of the run, and the queue is known again.
-use Rattle.std.proofs.Common.{Bool, List, MatchBool, MatchOption, None, Option, Some, [], ap, false, if◌then◌else◌, inr, length, refl, subst, sym, take, true, true≢false, ℕ, ◌++◌, ◌+◌, ◌∙◌, ◌∷◌, ◌≡◌}
+use Rattle.std.proofs.Common.{Bool, List, MatchBool, MatchOption, None, Option, Some, [], ap, false, inr, length, refl, subst, sym, take, true, true≢false, ℕ, ◌++◌, ◌+◌, ◌∙◌, ◌∷◌, ◌≡◌}
 use Rattle.std.proofs.lemmas.Option.{same_Some}
 use Rattle.std.specs.Prelude.{slice_index_or}
 use Rattle.std.proofs.lemmas.Bool.{MatchBool-at_false}
 use Rattle.af_base.specs.Turn.{Turn, turn_of}
-use Rattle.af_life.specs.Kept.{NormalKept, Outside}
+use Rattle.af_life.specs.Kept.{NormalKept}
 use Rattle.af_link.specs.declared.links.Links.{Links}
 use Rattle.af_link.specs.declared.names.StreamNames.{StreamNames}
 use Rattle.af_model.specs.Journals.{EntrySeen, RoundNoted, RoundSeen}
 use Rattle.af_normal.specs.LegalTurned.{IsLegal}
-use Rattle.af_normal.specs.State.{NormalState, kept_of}
+use Rattle.af_normal.specs.State.{NormalState}
 use Rattle.af_normal.specs.TurnMade.{TurnMade, answer_of}
 use Rattle.af_runs.specs.Blocks.{Marks}
 use Rattle.af_runs.specs.Found.{LegalTurnBy, TurnFound}
 use Rattle.af_runs.specs.Rounds.{loaded, turned}
-use Rattle.af_runs.specs.Runs.{Run, found_before, with_ends}
+use Rattle.af_runs.specs.Runs.{Run, found_before, report_of, with_ends, with_load, with_turn}
 use Rattle.af_runs.specs.Runs as run_of
 use Rattle.af_runs.specs.Sessions.{Session, cycle_frames, setup_of}
 use Rattle.af_runs.specs.TurnRuns.{IsMadeBy, OnlyCalls, made_alone, met_alone}
@@ -29,7 +29,7 @@ use Rattle.af_turn_law.specs.Acting.{FindsShutUnseen}
 use Rattle.af_render_law.proofs.Chain.{Holds, NormalTurnIsAStep}
 use Rattle.af_told_law.specs.Sizes.{AreSmall}
 use Rattle.af_render_law.specs.Laws.{StepIsTold, round_of}
-use Rattle.af_told_law.specs.NormalLaws.{HearsFound, PartsAreTold, PartsTold, turned_run}
+use Rattle.af_told_law.specs.NormalLaws.{PartsAreTold, PartsTold, TurnShown}
 use Rattle.af_told_law.specs.Own.{SeesOwn}
 use Rattle.af_told_law.specs.QueueTurned.{QueueKnown}
 use Rattle.af_told_law.specs.Tells.{Tells, given_of}
@@ -44,13 +44,19 @@ use Rattle.af_render_law.proofs.ShutUnseen.{shut_unseen}
 use Rattle.af_told_law.proofs.TameRuns.{small_told}
 use Rattle.af_told_law.proofs.TurnCounts.{turns_made}
 use Rattle.af_model.specs.declared.newest.ReaderEvent.TheVariants.{Load}
-use Rattle.af_life.specs.Edits.{after_ack}
-use Rattle.af_told_law.specs.Outsides.{FindsBlocks}
-use Rattle.af_told_law.proofs.ReportSeen.{heard_found}
+use Rattle.af_base.specs.declared.report.Report.{Report}
+use Rattle.af_life.specs.TurnEvents.{going}
+use Rattle.af_told_law.proofs.LoadTold.{known_loaded, load_told}
+use Rattle.af_render_law.proofs.TurnMet.{load_is, turn_shown}
 
 -- one turn more is counted
 made_turns : (x y : NormalState) → TurnMade (answer_of (turn_of y.entry)) x y → y.turns ≡ x.turns + 1
 made_turns x y made = turns_made (answer_of (turn_of y.entry)) x y made
+
+-- a turn stores no report
+same_reports : (s : Session) (f : TurnFound) (e : Turn) (run : Run) → run.reports ≡ (with_turn s f e run).reports
+unfolding with_turn
+same_reports s f e run = refl
 
 module _ (s : Session) (marks : Marks) (parts : PartsAreTold s) (run : Run) (x : SessionState) (r : RoundNoted) (bytes : List ℕ) (y : SessionState) (entries : List EntrySeen) (left : ℕ) (holds : Holds s marks run x left) (runs : x.normal.ended ≡ false) (w : IsRound (given_of s) makes.Normal x r bytes y) where
   abbrev one : (e : Turn) × (r ≡ normal_round x e) × NormalTurned x w.turned e
@@ -98,32 +104,34 @@ module _ (s : Session) (marks : Marks) (parts : PartsAreTold s) (run : Run) (x :
       (leads_turned links x n w.met one.2.outside w.together.before legal holds.stands meets w.together.met).state
       meets
 
-  -- what the turn finds, which is what the run tells
+  -- what the turn finds, which is what the run tells, and what the meetings show of it
   abbrev found : TurnFound
   found = found_before s run [] e
 
-  finds : FindsBlocks run found
-  finds = record { streams = (λ i. refl); commands = (λ i. refl) }
-
-  hears : HearsFound x.normal n one.2.outside found
-  hears goes =
-      let o : Outside = one.2.outside in
-      let k : ℕ = legal.lists.reader.0 in
-      heard_found s run x n w.met links w.together.before holds.told holds.report meets k o.report
-      (legal.lists.reader.1 ∙ ap (λ (b : Bool). x.normal.reader.events ++ (if b then [] else Load k o.report ∷ [])) goes) (after_ack e.ack (kept_of x.normal)).tracks e.cycle (legal.legal.goes_on goes).report
+  seen : TurnShown s run x n one.2.outside found
+  seen = turn_shown s run x n w.met links one.2.outside w.together.before holds.told holds.report legal made meets
 
   all_parts : PartsTold s run x n one.2.outside found legal
-  all_parts = parts links run x n w.met one.2.outside found w.together.before after w.together.met holds.told holds.stands legal made meets own holds.queue finds hears runs
+  all_parts = parts links run x n one.2.outside found w.together.before after holds.told holds.stands legal made seen own holds.queue runs
 
   -- the number of turns rises
   turns : n.turns ≡ x.normal.turns + 1
   turns = made_turns x.normal n made
 
-  told : Tells s (turned_run s found run e) then_x
-  told = tells_turned s run x n w.met links one.2.outside found holds.told marks holds.marked w.together.before after legal made meets w.together.met holds.stands own finds hears holds.queue holds.report runs holds.cells all_parts turns
+  -- the run after the turn, and after its load
+  abbrev turned_run : Run
+  turned_run = with_turn s found e run
+
+  abbrev then_run : Run
+  then_run = with_load e turned_run
+
+  told : Tells s then_run then_x
+  told = load_told s turned_run then_x x.normal.reader e
+      (tells_turned s run x n links one.2.outside found holds.told marks holds.marked w.together.before after legal made seen holds.stands own holds.queue runs holds.cells all_parts turns)
+      (load_is s run x n w.met links one.2.outside w.together.before holds.told holds.report legal made meets ∙ ap (λ (rs : List Report). x.normal.reader.events ++ going e (Load e.cycle (report_of rs e.cycle) ∷ [])) (same_reports s found e run))
 
   -- the run after the turn of this round
-  run_is : made_alone s run makes.Normal round ≡ turned_run s found run e
+  run_is : made_alone s run makes.Normal round ≡ then_run
   run_is = ap (λ (o : Option Turn). loaded o (turned s (found_before s run []) o run)) (ap (λ (q : RoundNoted). q.turn) is_round)
 
   told_made : Tells s (made_alone s run makes.Normal round) w.turned
@@ -135,7 +143,7 @@ module _ (s : Session) (marks : Marks) (parts : PartsAreTold s) (run : Run) (x :
   legal_turn : IsMadeBy s marks run makes.Normal round
   legal_turn =
       let is : LegalTurnBy (setup_of s) marks (found_before s run [] e) run.normal e =
-      legal_now s run x n w.met links one.2.outside found holds.told marks holds.marked w.together.before after legal made meets w.together.met holds.stands own finds hears holds.queue holds.report runs holds.cells all_parts in
+      legal_now s run x n links one.2.outside found holds.told marks holds.marked w.together.before after legal made seen holds.stands own holds.queue runs holds.cells all_parts in
       let ended : run.normal.ended ≡ false = sym (ap (λ (k : NormalKept). k.ended) holds.told.normal.kept) ∙ runs in (
         only,
         ap (λ (q : RoundNoted). take q.cycles entries) is_round,
@@ -150,7 +158,7 @@ module _ (s : Session) (marks : Marks) (parts : PartsAreTold s) (run : Run) (x :
       by_end : (b : Bool) → e.ended ≡ b → FindsShutUnseen s run (found_before s run [] e) e
       by_end true over = λ goes. absurd (true≢false (sym over ∙ goes))
       by_end false goes =
-          shut_unseen links s run x n one.2.outside holds.told w.together.before after legal goes own found finds (hears goes) (all_parts.comers goes) holds.aware holds.invalid holds.tame.is_open
+          shut_unseen links s run x n one.2.outside holds.told w.together.before after legal goes own found seen.finds (seen.hears goes) (all_parts.comers goes) holds.aware holds.invalid holds.tame.is_open
 
   step : StepIsTold s marks run makes.Normal round y
   step = record {
@@ -161,8 +169,8 @@ module _ (s : Session) (marks : Marks) (parts : PartsAreTold s) (run : Run) (x :
     unseen = unseen;
   }
 
-  known_turned : QueueKnown (cycle_frames s) (turned_run s found run e) n
-  known_turned = known_now s run x n w.met links one.2.outside found holds.told marks holds.marked w.together.before after legal made meets w.together.met holds.stands own finds hears holds.queue holds.report runs holds.cells all_parts
+  known_turned : QueueKnown (cycle_frames s) then_run n
+  known_turned = known_loaded (cycle_frames s) turned_run e n (known_now s run x n links one.2.outside found holds.told marks holds.marked w.together.before after legal made seen holds.stands own holds.queue runs holds.cells all_parts)
 
   known : QueueKnown (cycle_frames s) (with_ends (met_alone s run makes.Normal round)) y.normal
   known =

@@ -20,6 +20,7 @@ pub mod KnownSteps
 pub mod ReportSeen
 pub mod TurnShared
 pub mod EditsPush
+pub mod LoadTold
 pub mod NormalShared
 pub mod LogMore
 pub mod FrontLeaves

@@ -1,5 +1,5 @@
--- A turn of the normal mixer that hadn't ended, with the meetings after it, is a step of the run, and the queue is known again.
-use Rattle.std.proofs.Common.{◌≡◌, ℕ, zero, suc, ◌+◌, ◌&&◌, not, ◌<◌, ◌≤◌, Bool, true, false, true≢false, if◌then◌else◌, is_some, fold, map, List, [], ◌∷◌, ◌++◌, length, Option, Some, slice_get, refl, sym, ap, subst, ◌∙◌, arith}
+-- A turn of the normal mixer that hadn't ended, of which it is known what it found and what was shown of it, is a step of the run but for the load of the report, and the queue is known again.
+use Rattle.std.proofs.Common.{Bool, List, Option, Some, [], ap, arith, false, fold, if◌then◌else◌, is_some, length, map, not, refl, slice_get, subst, suc, sym, true, true≢false, zero, ℕ, ◌&&◌, ◌+◌, ◌<◌, ◌∙◌, ◌∷◌, ◌≡◌, ◌≤◌}
 use Rattle.std.proofs.lemmas.Option.{slice_get_within}
 use Rattle.af_base.specs.declared.event.HandEvent.{HandEvent}
 use Rattle.af_base.specs.Turn.{Turn, turn_of}
@@ -21,17 +21,16 @@ use Rattle.af_party.specs.Parties.{PartyState}
 use Rattle.af_judge.proofs.EachTrack.{each_at, each_long}
 use Rattle.af_runs.specs.Blocks.{Marks}
 use Rattle.af_runs.specs.Found.{LegalTurnBy, TurnFound, outside_of}
-use Rattle.af_runs.specs.Runs.{Run, TrackTold, no_track, pipe_cells, sides_of, told_at, turned_track, with_load, with_turn}
+use Rattle.af_runs.specs.Runs.{Run, TrackTold, no_track, pipe_cells, sides_of, told_at, turned_track, with_turn}
 use Rattle.af_runs.specs.Sessions.{Session, cycle_frames, setup_of, track_count}
 use Rattle.af_runs.specs.Told.{Item, is_pushed, items_of}
-use Rattle.af_session.specs.Met.{Met}
 use Rattle.af_session.specs.Together.{AreTogether, SessionState}
 use Rattle.af_told_law.specs.Between.{StandsBetween}
-use Rattle.af_told_law.specs.NormalLaws.{HearsFound, PartsTold, track_turned, turned_run}
+use Rattle.af_told_law.specs.NormalLaws.{PartsTold, TurnShown, track_turned}
 use Rattle.af_told_law.specs.Sizes.{IsMarkedRun}
 use Rattle.af_told_law.specs.Own.{SeesOwn}
 use Rattle.af_told_law.specs.Places.{StreamsGo, StreamsStay}
-use Rattle.af_told_law.specs.QueueTurned.{MutatorGoes, QueueKnown, ReportMet}
+use Rattle.af_told_law.specs.QueueTurned.{MutatorGoes, QueueKnown}
 use Rattle.af_told_law.specs.Tells.{Tells, TellsTrack}
 use Rattle.af_told_law.proofs.LegalAlike.{mutator_list_same}
 use Rattle.af_told_law.proofs.NormalFound.{turn_alike}
@@ -41,16 +40,16 @@ use Rattle.af_told_law.proofs.TameRuns.{server_client}
 use Rattle.af_told_law.proofs.TurnAlike.{after_edits_same, learn_alike}
 use Rattle.af_told_law.proofs.TurnHomes.{normal_legal}
 use Rattle.af_told_law.proofs.TurnTracks.{turned_kept}
-use Rattle.af_told_law.specs.Outsides.{FindsBlocks}
+use Rattle.af_told_law.proofs.LoadTold.{track_apart}
 
 -- the hand's events are none of the client's
 hand_client : (told : List Moment) (es : List HandEvent) → client_of (fold (λ (sofar : List Moment) (m : Moment). m ∷ sofar) told (map by_hand es)) ≡ client_of told
 hand_client told [] = refl
 hand_client told (e ∷ es) = hand_client (by_hand e ∷ told) es
 
-module _ (s : Session) (run : Run) (x : SessionState) (n : NormalState) (z : SessionState) (links : Links) (o : Outside) (f : TurnFound) (told : Tells s run x) (marks : Marks) (marked : IsMarkedRun marks run) (before : AreTogether links x) (after : AreTogether links (record x { normal = n })) (legal : IsLegal o x.normal n)
-    (made : TurnMade (answer_of (turn_of n.entry)) x.normal n) (meets : Met (record x { normal = n }) z) (still : AreTogether links z) (stands : StandsBetween x) (own : SeesOwn (record x { normal = n })) (finds : FindsBlocks run f) (hears : HearsFound x.normal n o f)
-    (known : QueueKnown (cycle_frames s) run x.normal) (met_last : ReportMet run) (lives : x.normal.ended ≡ false) (cells : x.normal.pipe.pass.part.shape.cells ≡ pipe_cells (setup_of s)) (parts : PartsTold s run x n o f legal) where
+module _ (s : Session) (run : Run) (x : SessionState) (n : NormalState) (links : Links) (o : Outside) (f : TurnFound) (told : Tells s run x) (marks : Marks) (marked : IsMarkedRun marks run) (before : AreTogether links x) (after : AreTogether links (record x { normal = n })) (legal : IsLegal o x.normal n)
+    (made : TurnMade (answer_of (turn_of n.entry)) x.normal n) (seen : TurnShown s run x n o f) (stands : StandsBetween x) (own : SeesOwn (record x { normal = n }))
+    (known : QueueKnown (cycle_frames s) run x.normal) (lives : x.normal.ended ≡ false) (cells : x.normal.pipe.pass.part.shape.cells ≡ pipe_cells (setup_of s)) (parts : PartsTold s run x n o f legal) where
   abbrev e : Turn
   e = turn_of n.entry
 
@@ -64,13 +63,13 @@ module _ (s : Session) (run : Run) (x : SessionState) (n : NormalState) (z : Ses
   m = kept_of x.normal
 
   abbrev then_run : Run
-  then_run = turned_run s f run e
+  then_run = with_turn s f e run
 
   leaves : (e.ended ≡ false → StreamsGo o x.normal n e) × (e.ended ≡ true → StreamsStay o x.normal n e)
   leaves = turn_leaves links o x.normal n before.normal legal made
 
   turn_is_legal : LegalTurnBy (setup_of s) marks f run.normal e
-  turn_is_legal = normal_legal links s run x n o told before after legal f finds (λ runs. (own, hears runs, parts.comers runs)) marks marked
+  turn_is_legal = normal_legal links s run x n o told before after legal f seen.finds (λ runs. (own, seen.hears runs, parts.comers runs)) marks marked
 
   -- ## What the run has
 
@@ -79,7 +78,7 @@ module _ (s : Session) (run : Run) (x : SessionState) (n : NormalState) (z : Ses
   sound = subst (λ (k : NormalKept). IsSound k.tracks k.draft) told.normal.kept before.normal.tied.sound
 
   edits_same : e.ended ≡ false → after_edits c (learnt o) e m ≡ after_edits c (learnt p) e m
-  edits_same runs = let alike = turn_alike links s run x n o told before after legal runs own f finds (hears runs) (parts.comers runs) in
+  edits_same runs = let alike = turn_alike links s run x n o told before after legal runs own f seen.finds (seen.hears runs) (parts.comers runs) in
       subst (λ (k : NormalKept). after_edits c (learnt o) e k ≡ after_edits c (learnt p) e k) (sym told.normal.kept) (after_edits_same c (learnt o) (learnt p) run.normal e sound (learn_alike run.normal e o p alike))
 
   lists_same : (back again sent : List (Option Item)) → mutator_list c (learnt o) m e back again sent ≡ mutator_list c (learnt p) m e back again sent
@@ -91,7 +90,7 @@ module _ (s : Session) (run : Run) (x : SessionState) (n : NormalState) (z : Ses
       by_end : (b : Bool) → e.ended ≡ b → mutator_list c (learnt o) m e back again sent ≡ mutator_list c (learnt p) m e back again sent
       by_end true over = ended_list (learnt o) over ∙ sym (ended_list (learnt p) over)
       by_end false runs = subst (λ (k : NormalKept). mutator_list c (learnt o) k e back again sent ≡ mutator_list c (learnt p) k e back again sent) (sym told.normal.kept)
-          (mutator_list_same c run.normal e o p sound (turn_alike links s run x n o told before after legal runs own f finds (hears runs) (parts.comers runs)) back again sent)
+          (mutator_list_same c run.normal e o p sound (turn_alike links s run x n o told before after legal runs own f seen.finds (seen.hears runs) (parts.comers runs)) back again sent)
 
   -- what the turn did at its end of the queue
   abbrev Pushed : Type 0
@@ -149,7 +148,7 @@ module _ (s : Session) (run : Run) (x : SessionState) (n : NormalState) (z : Ses
       ended_kept k d q over = ap (λ (b : Bool). if b then record q { ended = true } else after_takes d e.mixes (after_push e.push (after_edits d k e q))) over
 
       by_end : (b : Bool) → e.ended ≡ b → kept_of n ≡ turn_after (setup_of s) (learnt p) run.normal e
-      by_end false runs = turned_kept links s run x n o told before after legal runs own f finds (hears runs) (parts.comers runs)
+      by_end false runs = turned_kept links s run x n o told before after legal runs own f seen.finds (seen.hears runs) (parts.comers runs)
       by_end true over = legal.leaves ∙ ended_kept (learnt o) c m over ∙ ap (λ (q : NormalKept). record q { ended = true }) told.normal.kept ∙ sym (ended_kept (learnt p) (setup_of s) run.normal over)
 
   -- each track has a hand after a turn
@@ -167,11 +166,11 @@ module _ (s : Session) (run : Run) (x : SessionState) (n : NormalState) (z : Ses
   -- ## The tracks
 
   then_long : length then_run.tracks ≡ length run.tracks
-  unfolding with_load with_turn
+  unfolding with_turn
   then_long = each_long (turned_track (setup_of s) p run.normal e) 0 run.tracks
 
   then_at : (i : ℕ) → i < length run.tracks → told_at then_run i ≡ track_turned s f run e i
-  unfolding with_load with_turn
+  unfolding with_turn
   then_at i low = each_at (turned_track (setup_of s) p run.normal e) 0 run.tracks i i no_track low (omega arith)
 
   sides_same : (i : ℕ) → sides_of (track_turned s f run e i) ≡ sides_of (told_at run i)
@@ -196,19 +195,19 @@ module _ (s : Session) (run : Run) (x : SessionState) (n : NormalState) (z : Ses
   few_polled : x.fast.observer.past.number ≤ length run.states
   few_polled = let few = stands.step.few in let number = told.normal.number in omega (arith, few, number)
 
-  pub tells_turned : (turns : n.turns ≡ x.normal.turns + 1) → Tells s then_run (record x { normal = n })
+  pub tells_turned : (turns : n.turns ≡ x.normal.turns + 1) → Tells s then_run (record x { normal = record n { reader = x.normal.reader } })
   tells_turned turns =
       let q = at_queue in record {
         count = (then_long ∙ told.count.0, told.count.1);
         tracks = (λ i r is. let low : i < length run.tracks = (let w = slice_get_within x.clients i r is in let a = told.count.0 in let d = told.count.1 in omega (arith, w, a, d)) in
-            subst (λ (t : TrackTold). TellsTrack s n x.fast i t r) (sym (then_at i low)) (track_told i r is));
-        shared = shared_turned s run x n z links o f told before legal meets known met_last lives cells q.goes q.first q.shown q.rested edits_same lists_same;
-        normal = normal_turned s run x n z links o f told before legal meets known met_last lives cells q.goes q.first q.shown q.rested edits_same lists_same kept_now (hands_now turns);
-        fast = fast_turned s run x n z links o f told before legal meets known met_last lives cells q.goes q.first q.shown q.rested edits_same lists_same few_polled;
+            track_apart s n x.normal.reader x.fast i (told_at then_run i) r (subst (λ (t : TrackTold). TellsTrack s n x.fast i t r) (sym (then_at i low)) (track_told i r is)));
+        shared = shared_turned s run x n o f told legal seen.front known lives cells q.goes q.first q.shown q.rested edits_same lists_same;
+        normal = normal_turned s run x n o f told legal seen.front known lives cells q.goes q.first q.shown q.rested edits_same lists_same kept_now (hands_now turns);
+        fast = fast_turned s run x n o f told legal seen.front known lives cells q.goes q.first q.shown q.rested edits_same lists_same few_polled;
       }
 
   pub known_now : QueueKnown (cycle_frames s) then_run n
-  known_now = let q = at_queue in known_turned s run x n z links o f told before legal meets known met_last lives cells q.goes q.first q.shown q.rested edits_same lists_same
+  known_now = let q = at_queue in known_turned s run x n o f told legal seen.front known lives cells q.goes q.first q.shown q.rested edits_same lists_same
 
   pub legal_now : LegalTurnBy (setup_of s) marks f run.normal e
   legal_now = turn_is_legal

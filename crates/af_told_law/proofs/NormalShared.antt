@@ -1,42 +1,35 @@
--- After a turn of the normal mixer the run with this turn tells the ends of the queue, the report and the pipe, and both mixers, and the queue is known again.
-use Rattle.std.proofs.Common.{◌≡◌, ℕ, ◌+◌, ◌*◌, ◌<◌, ◌≤◌, ◌==◌, ◌&&◌, not, Bool, true, false, true≢false, if◌then◌else◌, is_some, map, List, [], ◌∷◌, ◌++◌, length, Option, Some, slice_get, refl, sym, ap, subst, ◌∙◌, append-nil, arith}
+-- After a turn of the normal mixer the run with this turn tells the ends of the queue, the report and the pipe, and both mixers, but for the load of the report, and the queue is known again.
+use Rattle.std.proofs.Common.{Bool, List, Option, Some, [], ap, append-nil, arith, false, if◌then◌else◌, is_some, length, not, refl, slice_get, subst, sym, true, true≢false, ℕ, ◌&&◌, ◌++◌, ◌+◌, ◌<◌, ◌==◌, ◌∙◌, ◌∷◌, ◌≡◌, ◌≤◌}
 use Rattle.std.specs.Prelude.{unwrap_or}
 use Rattle.std.proofs.lemmas.List.{length-append}
-use Rattle.std.proofs.Math.Nat.{mul-le-mul_right}
-use Rattle.af_base.specs.declared.report.Report.{Report}
 use Rattle.af_base.specs.declared.state.FastState.{FastState}
 use Rattle.af_base.specs.declared.state.Push.{Push}
 use Rattle.af_base.specs.declared.state.Push.TheVariants.{Pushed, Clean, Busy}
 use Rattle.af_base.specs.Turn.{Turn, ended_turn, turn_of}
 use Rattle.af_life.specs.Edits.{LegalPush}
 use Rattle.af_life.specs.Heard.{learnt}
-use Rattle.af_life.specs.Kept.{NormalKept, Outside, Setup, pipe_size}
+use Rattle.af_life.specs.Kept.{NormalKept, Outside, Setup}
 use Rattle.af_life.specs.Plays.{put_by}
 use Rattle.af_life.specs.Turn.{after_edits, turn_after}
 use Rattle.af_life.specs.TurnEvents.{going, mutator_list, number_seen, push_list}
-use Rattle.af_link.specs.declared.links.Links.{Links}
 use Rattle.af_model.specs.Cycles.{state_of}
-use Rattle.af_model.specs.declared.newest.ReaderEvent.{ReaderEvent}
-use Rattle.af_model.specs.declared.newest.ReaderEvent.TheVariants.{Load}
 use Rattle.af_model.specs.declared.states.MutatorEvent.{MutatorEvent}
 use Rattle.af_model.specs.declared.states.MutatorEvent.TheVariants as mutator
 use Rattle.af_model.specs.Draft.{initial}
-use Rattle.af_model.specs.Order.{Event, one, two, ones, twos}
+use Rattle.af_model.specs.Order.{ones, twos}
 use Rattle.af_normal.specs.LegalTurned.{IsLegal}
 use Rattle.af_normal.specs.State.{NormalState, kept_of, setup_of as mixer_setup}
 use Rattle.af_runs.specs.Found.{TurnFound, outside_of}
 use Rattle.af_runs.specs.KeptLists.{KeepsMutator}
-use Rattle.af_runs.specs.Runs.{Run, pipe_cells, report_of, with_load, with_turn}
+use Rattle.af_runs.specs.Runs.{Run, pipe_cells, with_turn}
 use Rattle.af_runs.specs.Sessions.{Session, cycle_frames, setup_of, track_count}
-use Rattle.af_runs.specs.Told.{Item, QueueTold, ReportTold, brought_by, is_pushed, items_of, mutator_does, state_at}
+use Rattle.af_runs.specs.Told.{Item, QueueTold, brought_by, is_pushed, items_of, mutator_does, state_at}
 use Rattle.af_server.specs.Order.{ServerState}
 use Rattle.af_stateq.specs.Laws.{pushed_states}
-use Rattle.af_session.specs.Met.{Met}
-use Rattle.af_session.specs.Together.{AreTogether, SessionState}
-use Rattle.af_told_law.specs.QueueTurned.{MutatorGoes, QueueKnown, ReportMet}
+use Rattle.af_session.specs.Together.{SessionState}
+use Rattle.af_told_law.specs.QueueTurned.{MutatorGoes, QueueKnown}
 use Rattle.af_told_law.specs.Tells.{Tells, TellsFast, TellsNormal, TellsShared}
 use Rattle.af_told_law.proofs.EditsPush.{all_push}
-use Rattle.af_told_law.proofs.ReportSeen.{cycle_is, loaded_is, number_is}
 use Rattle.af_told_law.proofs.TurnQueue.{known_after, list_told, state_first}
 use Rattle.af_told_law.proofs.TurnShared.{pipe_puts, pipe_takes, twos_same}
 
@@ -66,23 +59,10 @@ state_next frames states x = ap (λ (o : Option FastState). unwrap_or o (initial
     last (y ∷ []) = refl
     last (y ∷ w ∷ states) = last (w ∷ states)
 
-module _ {A B : Type 0} where
-  twos_more : (told : List (Event A B)) (es : List B) → twos (told ++ map two es) ≡ twos told ++ es
-  twos_more [] [] = refl
-  twos_more [] (e ∷ es) = ap (λ (l : List B). e ∷ l) (twos_more [] es)
-  twos_more (one a ∷ told) es = twos_more told es
-  twos_more (two b ∷ told) es = ap (λ (l : List B). b ∷ l) (twos_more told es)
-
-  ones_same : (told : List (Event A B)) (es : List B) → ones (told ++ map two es) ≡ ones told
-  ones_same [] [] = refl
-  ones_same [] (e ∷ es) = ones_same [] es
-  ones_same (one a ∷ told) es = ap (λ (l : List A). a ∷ l) (ones_same told es)
-  ones_same (two b ∷ told) es = ones_same told es
-
 -- ## The turn
 
-module _ (s : Session) (run : Run) (x : SessionState) (n : NormalState) (z : SessionState) (links : Links) (o : Outside) (f : TurnFound) (told : Tells s run x) (together : AreTogether links x) (legal : IsLegal o x.normal n) (meets : Met (record x { normal = n }) z)
-    (known : QueueKnown (cycle_frames s) run x.normal) (met_last : ReportMet run) (lives : x.normal.ended ≡ false) (cells : x.normal.pipe.pass.part.shape.cells ≡ pipe_cells (setup_of s)) where
+module _ (s : Session) (run : Run) (x : SessionState) (n : NormalState) (o : Outside) (f : TurnFound) (told : Tells s run x) (legal : IsLegal o x.normal n) (front : ShowsFront (setup_of s) x.normal n (turn_of n.entry))
+    (known : QueueKnown (cycle_frames s) run x.normal) (lives : x.normal.ended ≡ false) (cells : x.normal.pipe.pass.part.shape.cells ≡ pipe_cells (setup_of s)) where
   abbrev e : Turn
   e = turn_of n.entry
 
@@ -96,7 +76,11 @@ module _ (s : Session) (run : Run) (x : SessionState) (n : NormalState) (z : Ses
   m = kept_of x.normal
 
   abbrev after : Run
-  after = with_load e (with_turn s f e run)
+  after = with_turn s f e run
+
+  -- the mixer after the turn, but for the load of the report
+  abbrev unread : NormalState
+  unread = record n { reader = x.normal.reader }
 
   abbrev many : ℕ
   many = length run.states
@@ -142,12 +126,12 @@ module _ (s : Session) (run : Run) (x : SessionState) (n : NormalState) (z : Ses
         (items_of edits.draft (state_at (cycle_frames s) run.states many))) run.queue
 
     queue_is : after.queue ≡ queue_told
-    unfolding with_load with_turn
+    unfolding with_turn
     queue_is = λ i. mutator_does (mutator_list (sym told.normal.setup i) (learnt p) (sym told.normal.kept i) e (brought_by (cycle_frames s) run.states (number_seen (sym told.normal.kept i) e.ack) run.queue)
         (if is_pushed e.push && not e.ack then brought_by (cycle_frames s) run.states many run.queue else []) (items_of (after_edits (sym told.normal.setup i) (learnt p) e (sym told.normal.kept i)).draft (state_at (cycle_frames s) run.states many))) run.queue
 
     states_are : after.states ≡ run.states ++ (if is_pushed e.push then edits.draft ∷ [] else [])
-    unfolding with_load with_turn
+    unfolding with_turn
     states_are = λ i. run.states ++ (if is_pushed e.push then (after_edits (sym told.normal.setup i) (learnt p) e (sym told.normal.kept i)).draft ∷ [] else [])
 
     mutator_told : KeepsMutator after n.mutator.past.events
@@ -156,46 +140,7 @@ module _ (s : Session) (run : Run) (x : SessionState) (n : NormalState) (z : Ses
     pub known_turned : QueueKnown (cycle_frames s) after n
     known_turned = known_after (cycle_frames s) run o p x.normal n e goes known told.shared.mutator told.normal.number told.normal.last lives some draft_is lists_same told.normal.kept legal_push still_end (all_push c (learnt p) m e).pushed after states_are queue_is
 
-    -- ## The report
-
-    abbrev loads : List (ReaderEvent Report)
-    loads = going e (Load e.cycle (report_of run.reports e.cycle) ∷ [])
-
-    report_is : after.report ≡ run.report ++ map two loads
-    unfolding with_load with_turn
-    report_is = refl
-
-    reader_told : n.reader.events ≡ twos after.report
-    reader_told = grown ∙ ap (λ (l : List (ReaderEvent Report)). l ++ loads) told.shared.reader ∙ sym (ap (λ (r : ReportTold). twos r) report_is ∙ twos_more run.report loads)
-      where
-        by_end : (b : Bool) → e.ended ≡ b → n.reader.events ≡ x.normal.reader.events ++ loads
-        by_end true over =
-            legal.lists.reader.1 ∙ ap (λ (b : Bool). x.normal.reader.events ++ (if b then [] else Load legal.lists.reader.0 o.report ∷ [])) over
-            ∙ ap (λ (b : Bool). x.normal.reader.events ++ (if b then [] else Load e.cycle (report_of run.reports e.cycle) ∷ [])) (sym over)
-        by_end false is =
-            let k : ℕ = legal.lists.reader.0 in
-            let reads : n.reader.events ≡ x.normal.reader.events ++ Load k o.report ∷ [] = legal.lists.reader.1 ∙ ap (λ (b : Bool). x.normal.reader.events ++ (if b then [] else Load k o.report ∷ [])) is in
-            let cycle : e.cycle ≡ length run.entries = (legal.legal.goes_on is).report ∙ cycle_is s run x n z links together told met_last meets k o.report reads in
-            let number : k ≡ e.cycle = number_is s run x n z links together told met_last meets k o.report reads ∙ sym cycle in
-            let report : o.report ≡ report_of run.reports e.cycle = loaded_is s run x n z links together told met_last meets k o.report reads ∙ ap (report_of run.reports) (sym cycle) in
-            reads ∙ (λ i. x.normal.reader.events ++ Load (number i) (report i) ∷ [])
-            ∙ ap (λ (b : Bool). x.normal.reader.events ++ (if b then [] else Load e.cycle (report_of run.reports e.cycle) ∷ [])) (sym is)
-
-        grown : n.reader.events ≡ x.normal.reader.events ++ loads
-        grown = by_end e.ended refl
-
-    writer_told : x.fast.writer.events ≡ ones after.report
-    writer_told = told.shared.writer ∙ sym (ap (λ (r : ReportTold). ones r) report_is ∙ ones_same run.report loads)
-
     -- ## The pipe
-
-    few : pipe_size (setup_of s) ≤ 65536
-    few =
-        let sizes = together.normal.tied.sizes in
-        let same : pipe_size c ≡ pipe_size (setup_of s) = ap pipe_size told.normal.setup in
-        let most : c.normal * c.frames ≤ 16 * c.frames = mul-le-mul_right c.frames sizes.normal.1 in
-        let frames = sizes.frames.1 in
-        omega (arith, same, most, frames)
 
     none_put : e.ended ≡ true → put_by (setup_of s) e.mixes ≡ []
     none_put over = ap (λ (t : Turn). put_by (setup_of s) t.mixes) (ended_is over)
@@ -203,18 +148,18 @@ module _ (s : Session) (run : Run) (x : SessionState) (n : NormalState) (z : Ses
     observer_same : twos after.queue ≡ twos run.queue
     observer_same = ap (λ (q : QueueTold). twos q) queue_is ∙ twos_same run.queue _
 
-    pub shared_turned : TellsShared s after n x.fast
-    unfolding with_load with_turn
+    pub shared_turned : TellsShared s after unread x.fast
+    unfolding with_turn
     shared_turned =
-        let puts = pipe_puts s run x n z o told legal meets cells few none_put in
+        let puts = pipe_puts s run x n o told legal front cells none_put in
         record {
           first = first ∙ told.shared.first;
           mutator = mutator_told;
           observer = told.shared.observer ∙ sym observer_same;
-          reader = reader_told;
-          writer = writer_told;
+          reader = told.shared.reader;
+          writer = told.shared.writer;
           puts = record { told = puts.0; words = puts.1 };
-          takes = told.shared.takes ∙ sym (pipe_takes s run x n z o told legal meets cells few);
+          takes = told.shared.takes ∙ sym (pipe_takes s run x n o told legal front cells);
           taken = told.shared.taken;
           size = told.shared.size;
         }
@@ -252,8 +197,8 @@ module _ (s : Session) (run : Run) (x : SessionState) (n : NormalState) (z : Ses
         by_end true over = ap (λ (b : Bool). if b then edits.draft ∷ [] else []) (sym (still_end over).0)
         by_end false is = pushed_in (after_edits c (learnt o) e m) e.push goes.again goes.sent ∙ ap (λ (k : NormalKept). if is_pushed e.push then k.draft ∷ [] else []) (edits_same is)
 
-    pub normal_turned : kept_of n ≡ turn_after (setup_of s) (learnt p) run.normal e → ((i : ℕ) → i < track_count s → is_some (slice_get n.hands i) ≡ true) → TellsNormal s after n
-    unfolding with_load with_turn
+    pub normal_turned : kept_of n ≡ turn_after (setup_of s) (learnt p) run.normal e → ((i : ℕ) → i < track_count s → is_some (slice_get n.hands i) ≡ true) → TellsNormal s after unread
+    unfolding with_turn
     normal_turned kept hands = let push = by_push (is_pushed e.push) refl in record {
       setup = legal.setup ∙ told.normal.setup;
       kept = kept;
@@ -264,7 +209,7 @@ module _ (s : Session) (run : Run) (x : SessionState) (n : NormalState) (z : Ses
     }
 
     pub fast_turned : (x.fast.observer.past.number ≤ many) → TellsFast s after x.fast
-    unfolding with_load with_turn
+    unfolding with_turn
     fast_turned few_polled = record {
       frames = told.fast.frames;
       cycles = told.fast.cycles;

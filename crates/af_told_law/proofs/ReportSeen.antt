@@ -1,12 +1,10 @@
 -- A turn of the normal mixer between two rounds loads the last report that was stored.
-use Rattle.std.proofs.Common.{◌≡◌, ⊎_elim, ℕ, suc, fold, List, [], ◌∷◌, ◌++◌, length, refl, sym, ap, subst, ◌∙◌, append_assoc, arith}
+use Rattle.std.proofs.Common.{List, [], ap, append_assoc, arith, fold, length, refl, suc, sym, ℕ, ⊎_elim, ◌++◌, ◌∙◌, ◌∷◌, ◌≡◌}
 use Rattle.std.specs.Prelude.{max}
 use Rattle.af_base.specs.declared.log.CycleEntry.{CycleEntry}
 use Rattle.af_base.specs.declared.report.Report.{Report}
-use Rattle.af_fast.specs.Mixer.{MixerState}
 use Rattle.af_latest.specs.Laws.{last_of, stores}
 use Rattle.af_link.specs.declared.links.Links.{Links}
-use Rattle.af_link.specs.Reports.{ReaderSide, WriterSide}
 use Rattle.af_model.specs.declared.newest.ReaderEvent.{ReaderEvent}
 use Rattle.af_model.specs.declared.newest.ReaderEvent.TheVariants.{Load}
 use Rattle.af_model.specs.declared.newest.ReaderEvent.TheVariants as reads
@@ -21,7 +19,6 @@ use Rattle.af_normal.specs.State.{NormalState}
 use Rattle.af_runs.specs.Runs.{Run, last_report, report_of}
 use Rattle.af_runs.specs.Sessions.{Session}
 use Rattle.af_runs.specs.Told.{ReportTold, report_met}
-use Rattle.af_session.specs.Met.{Met}
 use Rattle.af_session.specs.Together.{AreTogether, SessionState}
 use Rattle.af_told_law.specs.QueueTurned.{ReportMet}
 use Rattle.af_told_law.specs.Tells.{Tells, reports_stored}
@@ -57,13 +54,11 @@ twos_met [] c d = refl
 twos_met (one a ∷ told) c d = twos_met told c d
 twos_met (two b ∷ told) c d = ap (λ (l : List (ReaderEvent Report)). b ∷ l) (twos_met told c d)
 
-module _ (s : Session) (run : Run) (x : SessionState) (n : NormalState) (z : SessionState) (links : Links) (together : AreTogether links x) (told : Tells s run x) (met_last : ReportMet run) (meets : Met (record x { normal = n }) z)
+module _ (s : Session) (run : Run) (x : SessionState) (n : NormalState) (links : Links) (together : AreTogether links x) (told : Tells s run x) (met_last : ReportMet run) (written read : ℕ)
+    (history : HasHistory no_report (x.fast.writer.events ++ writes.Learn read ∷ []) (n.reader.events ++ reads.Learn written ∷ []))
     (k : ℕ) (loaded : Report) (reads_are : n.reader.events ≡ x.normal.reader.events ++ Load k loaded ∷ []) where
   abbrev ws : List (WriterEvent Report)
   ws = x.fast.writer.events
-
-  history : HasHistory no_report (ws ++ writes.Learn (length n.reader.events) ∷ []) (n.reader.events ++ reads.Learn (length ws) ∷ [])
-  history = subst (λ (q : WriterSide × ReaderSide). HasHistory no_report q.0.events q.1.events) (λ i. (ap (λ (m : MixerState). m.writer) meets.ends.fast i, ap (λ (m : NormalState). m.reader) meets.ends.normal i)) meets.ends.histories.report
 
   -- the load sees as many as were stored, and the last of them
   abbrev Seen : Type 0
@@ -76,10 +71,10 @@ module _ (s : Session) (run : Run) (x : SessionState) (n : NormalState) (z : Ses
       nothing none =
           let no_reads : x.normal.reader.events ≡ [] = told.shared.reader ∙ ap (λ (r : ReportTold). twos r) none in
           let no_writes : ws ≡ [] = told.shared.writer ∙ ap (λ (r : ReportTold). ones r) none in
-          let all : twos history.order ≡ Load k loaded ∷ reads.Learn (length ws) ∷ [] = history.of_two ∙ ap (λ (l : List (ReaderEvent Report)). l ++ reads.Learn (length ws) ∷ []) (reads_are ∙ ap (λ (l : List (ReaderEvent Report)). l ++ Load k loaded ∷ []) no_reads) in
-          let at = loads_first (newest.start no_report) history.order history.is_legal k loaded (reads.Learn (length ws) ∷ []) all in
-          let parts : writes.Learn (length n.reader.events) ∷ [] ≡ at.front ++ at.back = sym (history.of_one ∙ ap (λ (l : List (WriterEvent Report)). l ++ writes.Learn (length n.reader.events) ∷ []) no_writes) ∙ at.parts in
-          let stored = all_stored no_report [] (writes.Learn (length n.reader.events) ∷ []) at.front at.back parts (omega arith) tt in
+          let all : twos history.order ≡ Load k loaded ∷ reads.Learn written ∷ [] = history.of_two ∙ ap (λ (l : List (ReaderEvent Report)). l ++ reads.Learn written ∷ []) (reads_are ∙ ap (λ (l : List (ReaderEvent Report)). l ++ Load k loaded ∷ []) no_reads) in
+          let at = loads_first (newest.start no_report) history.order history.is_legal k loaded (reads.Learn written ∷ []) all in
+          let parts : writes.Learn read ∷ [] ≡ at.front ++ at.back = sym (history.of_one ∙ ap (λ (l : List (WriterEvent Report)). l ++ writes.Learn read ∷ []) no_writes) ∙ at.parts in
+          let stored = all_stored no_report [] (writes.Learn read ∷ []) at.front at.back parts (omega arith) tt in
           let none_stored : stores ws ≡ 0 = ap (λ (l : List (WriterEvent Report)). stores l) no_writes in (
             (let number = at.number in let some = stored.0 in omega (arith, number, some, none_stored)),
             at.value ∙ stored.1 ∙ sym (ap (λ (l : List (WriterEvent Report)). last_of no_report l) no_writes),
@@ -89,19 +84,19 @@ module _ (s : Session) (run : Run) (x : SessionState) (n : NormalState) (z : Ses
       behind (r, is) =
           let c : ℕ = length (ones r) in
           let before : x.normal.reader.events ≡ twos r ++ reads.Learn c ∷ [] = told.shared.reader ∙ ap (λ (q : ReportTold). twos q) is ∙ twos_met r (length (twos r)) c in
-          let written : ws ≡ ones r ++ writes.Learn (length (twos r)) ∷ [] = told.shared.writer ∙ ap (λ (q : ReportTold). ones q) is ∙ ones_met r (length (twos r)) c in
-          let all : twos history.order ≡ twos r ++ reads.Learn c ∷ Load k loaded ∷ reads.Learn (length ws) ∷ [] =
-          history.of_two ∙ ap (λ (l : List (ReaderEvent Report)). l ++ reads.Learn (length ws) ∷ []) (reads_are ∙ ap (λ (l : List (ReaderEvent Report)). l ++ Load k loaded ∷ []) before)
-          ∙ append_assoc (twos r ++ reads.Learn c ∷ []) (Load k loaded ∷ []) (reads.Learn (length ws) ∷ []) ∙ append_assoc (twos r) (reads.Learn c ∷ []) (Load k loaded ∷ reads.Learn (length ws) ∷ []) in
-          let found = loads_behind (newest.start no_report) history.order history.is_legal (twos r) c k loaded (reads.Learn (length ws) ∷ []) all in
-          let tail : List (WriterEvent Report) = writes.Learn (length (twos r)) ∷ writes.Learn (length n.reader.events) ∷ [] in
+          let stored_list : ws ≡ ones r ++ writes.Learn (length (twos r)) ∷ [] = told.shared.writer ∙ ap (λ (q : ReportTold). ones q) is ∙ ones_met r (length (twos r)) c in
+          let all : twos history.order ≡ twos r ++ reads.Learn c ∷ Load k loaded ∷ reads.Learn written ∷ [] =
+          history.of_two ∙ ap (λ (l : List (ReaderEvent Report)). l ++ reads.Learn written ∷ []) (reads_are ∙ ap (λ (l : List (ReaderEvent Report)). l ++ Load k loaded ∷ []) before)
+          ∙ append_assoc (twos r ++ reads.Learn c ∷ []) (Load k loaded ∷ []) (reads.Learn written ∷ []) ∙ append_assoc (twos r) (reads.Learn c ∷ []) (Load k loaded ∷ reads.Learn written ∷ []) in
+          let found = loads_behind (newest.start no_report) history.order history.is_legal (twos r) c k loaded (reads.Learn written ∷ []) all in
+          let tail : List (WriterEvent Report) = writes.Learn (length (twos r)) ∷ writes.Learn read ∷ [] in
           let parts : ones r ++ tail ≡ found.at.front ++ found.at.back =
-          sym (history.of_one ∙ ap (λ (l : List (WriterEvent Report)). l ++ writes.Learn (length n.reader.events) ∷ []) written ∙ append_assoc (ones r) (writes.Learn (length (twos r)) ∷ []) (writes.Learn (length n.reader.events) ∷ [])) ∙ found.at.parts in
+          sym (history.of_one ∙ ap (λ (l : List (WriterEvent Report)). l ++ writes.Learn read ∷ []) stored_list ∙ append_assoc (ones r) (writes.Learn (length (twos r)) ∷ []) (writes.Learn read ∷ [])) ∙ found.at.parts in
           let stored = all_stored no_report (ones r) tail found.at.front found.at.back parts (let l = found.learnt in omega (arith, l)) tt in
           let same = more_learnt (ones r) (length (twos r)) no_report in
-          let many : stores ws ≡ stores (ones r) = ap (λ (l : List (WriterEvent Report)). stores l) written ∙ same.0 in (
+          let many : stores ws ≡ stores (ones r) = ap (λ (l : List (WriterEvent Report)). stores l) stored_list ∙ same.0 in (
             (let number = found.at.number in let some = stored.0 in omega (arith, number, some, many)),
-            found.at.value ∙ stored.1 ∙ sym (ap (λ (l : List (WriterEvent Report)). last_of no_report l) written ∙ same.1),
+            found.at.value ∙ stored.1 ∙ sym (ap (λ (l : List (WriterEvent Report)). last_of no_report l) stored_list ∙ same.1),
           )
 
   entries_many : length x.fast.log.entries ≡ length run.entries

@@ -1,26 +1,23 @@
 -- After a turn of the normal mixer the run with this turn tells the ends of the queue, the report and the pipe, and the two mixers.
-use Rattle.std.proofs.Common.{◌≡◌, ◌⊎◌, ⊎_elim, ℕ, ◌≤◌, Bool, true, false, true≢false, if◌then◌else◌, map, List, [], ◌∷◌, ◌++◌, length, refl, sym, ap, subst, ◌∙◌, append_assoc}
-use Rattle.std.proofs.lemmas.List.{length-map}
+use Rattle.std.proofs.Common.{Bool, List, [], ap, false, if◌then◌else◌, length, map, refl, subst, sym, true, true≢false, ℕ, ⊎_elim, ◌++◌, ◌∙◌, ◌∷◌, ◌≡◌, ◌⊎◌}
 use Rattle.af_base.specs.declared.event.ClientEvent.{ClientEvent}
 use Rattle.af_base.specs.declared.event.ClientEvent.TheVariants as client
 use Rattle.af_base.specs.declared.frame.Frame.{Frame}
 use Rattle.af_base.specs.Sample.{packed_word}
 use Rattle.af_base.specs.Turn.{Turn, turn_of}
 use Rattle.af_cblk.specs.declared.view.ClientPart.{ClientPart}
-use Rattle.af_fast.specs.Mixer.{MixerState}
 use Rattle.af_life.specs.Kept.{Outside, Setup, pipe_size}
 use Rattle.af_life.specs.Plays.{put_by}
 use Rattle.af_life.specs.TurnEvents.{front_by_room, going, pipe_list}
 use Rattle.af_model.specs.Order.{Event, one, two, ones, twos}
-use Rattle.af_model.specs.PipeHistory.{HasPipeHistory, releases_of, room_by}
+use Rattle.af_model.specs.PipeHistory.{releases_of, room_by}
 use Rattle.af_normal.specs.LegalTurned.{IsLegal}
 use Rattle.af_normal.specs.State.{NormalState}
 use Rattle.af_runs.specs.Runs.{Run, pipe_cells, pipe_turned}
 use Rattle.af_runs.specs.Sessions.{Session, setup_of}
-use Rattle.af_session.specs.Met.{Met}
 use Rattle.af_session.specs.Together.{SessionState}
 use Rattle.af_told_law.specs.Tells.{Tells}
-use Rattle.af_told_law.proofs.TurnPipe.{front_told}
+use Rattle.af_told_law.specs.NormalLaws.{ShowsFront}
 
 -- ## The lists of two ends after events of the first
 
@@ -39,8 +36,8 @@ module _ {A B : Type 0} where
 
 -- ## The pipe
 
-module _ (s : Session) (run : Run) (x : SessionState) (n : NormalState) (z : SessionState) (o : Outside) (told : Tells s run x) (legal : IsLegal o x.normal n) (meets : Met (record x { normal = n }) z)
-    (cells : x.normal.pipe.pass.part.shape.cells ≡ pipe_cells (setup_of s)) (few : pipe_size (setup_of s) ≤ 65536) where
+module _ (s : Session) (run : Run) (x : SessionState) (n : NormalState) (o : Outside) (told : Tells s run x) (legal : IsLegal o x.normal n) (front : ShowsFront (setup_of s) x.normal n (turn_of n.entry))
+    (cells : x.normal.pipe.pass.part.shape.cells ≡ pipe_cells (setup_of s)) where
   abbrev e : Turn
   e = turn_of n.entry
 
@@ -53,9 +50,6 @@ module _ (s : Session) (run : Run) (x : SessionState) (n : NormalState) (z : Ses
   abbrev put : List Frame
   put = put_by c e.mixes
 
-  words_long : (fs : List Frame) → length (map packed_word fs) ≡ length fs
-  words_long fs = length-map fs packed_word
-
   grows : (front : ℕ) × (n.pipe.pass.part.events ≡ part.events ++ going e (client.SawFront front ∷ releases_of part.shape.cells (length part.frames) (length put))) × ((e.room ≡ room_by (pipe_size c) (length part.frames) front) ⊎ (e.ended ≡ true)) × (n.pipe.pass.part.frames ≡ part.frames ++ map packed_word put)
   grows = subst (λ (d : Setup). (front : ℕ) × (n.pipe.pass.part.events ≡ part.events ++ going e (client.SawFront front ∷ releases_of part.shape.cells (length part.frames) (length (put_by d e.mixes)))) × ((e.room ≡ room_by (pipe_size d) (length part.frames) front) ⊎ (e.ended ≡ true))
       × (n.pipe.pass.part.frames ≡ part.frames ++ map packed_word (put_by d e.mixes))) told.normal.setup legal.lists.pipe
@@ -63,20 +57,12 @@ module _ (s : Session) (run : Run) (x : SessionState) (n : NormalState) (z : Ses
   -- the list of a turn that went on is that told
   list_runs : e.ended ≡ false → n.pipe.pass.part.events ≡ part.events ++ pipe_list c (pipe_cells c) (length run.pipe.put) e
   list_runs runs =
-      let front : ℕ = grows.0 in
+      let seen_front : ℕ = grows.0 in
       let many : length part.frames ≡ length run.pipe.put = ap (λ (l : List ℕ). length l) told.shared.puts.words in
-      let events : n.pipe.pass.part.events ≡ part.events ++ client.SawFront front ∷ releases_of part.shape.cells (length part.frames) (length put) =
-      grows.1 ∙ ap (λ (b : Bool). part.events ++ (if b then [] else client.SawFront front ∷ releases_of part.shape.cells (length part.frames) (length put))) runs in
-      let room : e.room ≡ room_by (pipe_size c) (length part.frames) front = ⊎_elim (λ is. is) (λ over. absurd (true≢false (sym over ∙ runs))) grows.2 in
-      let all : z.normal.pipe.pass.part.events ≡ part.events ++ client.SawFront front ∷ (releases_of part.shape.cells (length part.frames) (length put) ++ client.Learn (length x.fast.pipe.pass.part.events) ∷ []) =
-      ap (λ (m : NormalState). m.pipe.pass.part.events) meets.ends.normal ∙ ap (λ (l : List ClientEvent). l ++ client.Learn (length x.fast.pipe.pass.part.events) ∷ []) events
-      ∙ append_assoc part.events (client.SawFront front ∷ releases_of part.shape.cells (length part.frames) (length put)) (client.Learn (length x.fast.pipe.pass.part.events) ∷ []) in
-      let words : z.normal.pipe.pass.part.frames ≡ part.frames ++ map packed_word put = ap (λ (m : NormalState). m.pipe.pass.part.frames) meets.ends.normal ∙ grows.3 in
-      let size : z.fast.pipe.pass.part.shape.frames ≡ pipe_size c = ap (λ (m : MixerState). m.pipe.pass.part.shape.frames) meets.ends.fast ∙ told.shared.size in
-      let history = subst (λ (q : ℕ × List ClientEvent × List ℕ). HasPipeHistory q.0 q.1 q.2 z.fast.pipe.pass.part.events z.fast.pipe.pass.part.frames) (λ i. (size i, all i, words i)) meets.ends.histories.pipe in
-      let own : front_by_room (pipe_size c) (length part.frames) (room_by (pipe_size c) (length part.frames) front) ≡ front =
-      front_told (pipe_size c) few part.events front part.shape.cells (length put) (length x.fast.pipe.pass.part.events) part.frames (map packed_word put) z.fast.pipe.pass.part.frames z.fast.pipe.pass.part.events (words_long put) history in
-      let seen : front ≡ front_by_room (pipe_size c) (length run.pipe.put) e.room = sym own ∙ (λ i. front_by_room (pipe_size c) (many i) (sym room i)) in
+      let events : n.pipe.pass.part.events ≡ part.events ++ client.SawFront seen_front ∷ releases_of part.shape.cells (length part.frames) (length put) =
+      grows.1 ∙ ap (λ (b : Bool). part.events ++ (if b then [] else client.SawFront seen_front ∷ releases_of part.shape.cells (length part.frames) (length put))) runs in
+      let room : e.room ≡ room_by (pipe_size c) (length part.frames) seen_front = ⊎_elim (λ is. is) (λ over. absurd (true≢false (sym over ∙ runs))) grows.2 in
+      let seen : seen_front ≡ front_by_room (pipe_size c) (length run.pipe.put) e.room = sym (front seen_front events) ∙ (λ i. front_by_room (pipe_size c) (many i) (sym room i)) in
       events
       ∙ (λ i. part.events ++ client.SawFront (seen i) ∷ releases_of (cells i) (many i) (length put))
       ∙ ap (λ (b : Bool). part.events ++ (if b then [] else client.SawFront (front_by_room (pipe_size c) (length run.pipe.put) e.room) ∷ releases_of (pipe_cells c) (length run.pipe.put) (length put))) (sym runs)

@@ -1,16 +1,15 @@
 -- What is told of each track after a turn of the normal mixer.
-use Rattle.std.specs.Prelude.{Some, false, slice_get, ℕ, ◌<◌, ◌≡◌}
+use Rattle.std.specs.Prelude.{Some, [], false, length, slice_get, ℕ, ◌++◌, ◌<◌, ◌∷◌, ◌≡◌}
 use Rattle.af_base.specs.Turn.{Turn, turn_of}
-use Rattle.af_life.specs.Kept.{Outside}
+use Rattle.af_life.specs.Kept.{Outside, Setup, pipe_size}
 use Rattle.af_normal.specs.LegalTurned.{IsLegal}
 use Rattle.af_normal.specs.State.{NormalState, kept_of}
 use Rattle.af_normal.specs.TurnMade.{TurnMade, answer_of}
 use Rattle.af_link.specs.declared.links.Links.{Links}
 use Rattle.af_runs.specs.Found.{TurnFound, outside_of}
-use Rattle.af_runs.specs.Runs.{Run, TrackTold, told_at, turned_track, with_load, with_turn}
+use Rattle.af_runs.specs.Runs.{Run, TrackTold, told_at, turned_track}
 use Rattle.af_runs.specs.Sessions.{Session, cycle_frames, setup_of, track_count}
 use Rattle.af_server.specs.Order.{ServerState}
-use Rattle.af_session.specs.Met.{Met}
 use Rattle.af_session.specs.Together.{AreTogether, SessionState}
 use Rattle.af_told_law.specs.Between.{StandsBetween}
 use Rattle.af_told_law.specs.Own.{SeesOwn}
@@ -19,17 +18,35 @@ use Rattle.af_told_law.specs.Comers.{ComersTell}
 use Rattle.af_told_law.specs.Tells.{Tells, TellsCommands, TellsStream}
 use Rattle.af_told_law.specs.Outsides.{FindsBlocks, HeardAlike}
 use Rattle.af_life.specs.Edits.{after_ack}
+use Rattle.af_model.specs.StateQueue.{HasHistory}
+use Rattle.af_life.specs.TurnEvents.{front_by_room}
+use Rattle.af_model.specs.PipeHistory.{releases_of, room_by}
+use Rattle.af_life.specs.Plays.{put_by}
+use Rattle.af_model.specs.declared.states.MutatorEvent.TheVariants as mutator
+use Rattle.af_base.specs.declared.event.ClientEvent.TheVariants as client
+use Rattle.af_model.specs.declared.states.ObserverEvent.TheVariants as observer
 
--- the run after a turn that found this, and what that turn makes of a track
-abbrev pub turned_run : Session → TurnFound → Run → Turn → Run
-turned_run s f run e = with_load e (with_turn s f e run)
-
+-- what a turn that found this makes of a track
 abbrev pub track_turned : Session → TurnFound → Run → Turn → ℕ → TrackTold
 track_turned s f run e i = turned_track (setup_of s) (outside_of (setup_of s) f e) run.normal e i (told_at run i)
 
 -- of the proxies that aren't home a turn that goes on heard what was found
 abbrev pub HearsFound : NormalState → NormalState → Outside → TurnFound → Type 0
 HearsFound m n o f = (turn_of n.entry).ended ≡ false → HeardAlike (after_ack (turn_of n.entry).ack (kept_of m)).tracks o.report f.report
+
+-- a turn that looked at the pipe saw the front that its room tells
+abbrev pub ShowsFront : Setup → NormalState → NormalState → Turn → Type 0
+ShowsFront c m n e = let part = m.pipe.pass.part in (front : ℕ) → n.pipe.pass.part.events ≡ part.events ++ client.SawFront front ∷ releases_of part.shape.cells (length part.frames) (length (put_by c e.mixes))
+    → front_by_room (pipe_size c) (length part.frames) (room_by (pipe_size c) (length part.frames) front) ≡ front
+
+-- What is known, once all have met, of a turn of the normal mixer from x to n that saw o and found f: the blocks are found as they are told, of what isn't home the same was heard, the ends of the queue have a history just behind the turn, and the room tells the front of the pipe
+pub record TurnShown (s : Session) (run : Run) (x : SessionState) (n : NormalState) (o : Outside) (f : TurnFound) : Type 0 where
+  pub finds : FindsBlocks run f
+  pub hears : HearsFound x.normal n o f
+  pub polled : ℕ
+  pub pushed : ℕ
+  pub later : HasHistory x.normal.mutator.past.first (n.mutator.past.events ++ mutator.Learn polled ∷ []) (x.fast.observer.past.events ++ observer.Learn pushed ∷ [])
+  pub front : ShowsFront (setup_of s) x.normal n (turn_of n.entry)
 
 -- the proxies that came home are told, and after the turn each track's stream and command proxy
 pub record PartsTold (s : Session) (run : Run) (x : SessionState) (n : NormalState) (o : Outside) (f : TurnFound) (legal : IsLegal o x.normal n) : Type 0 where
@@ -39,6 +56,6 @@ pub record PartsTold (s : Session) (run : Run) (x : SessionState) (n : NormalSta
 
 -- so they are for each turn
 abbrev pub PartsAreTold : Session → Type 0
-PartsAreTold s = (links : Links) (run : Run) (x : SessionState) (n : NormalState) (z : SessionState) (o : Outside) (f : TurnFound) → AreTogether links x → AreTogether links (record x { normal = n }) → AreTogether links z → Tells s run x → StandsBetween x
-    → (legal : IsLegal o x.normal n) → TurnMade (answer_of (turn_of n.entry)) x.normal n → Met (record x { normal = n }) z → SeesOwn (record x { normal = n }) → QueueKnown (cycle_frames s) run x.normal → FindsBlocks run f → HearsFound x.normal n o f → x.normal.ended ≡ false
+PartsAreTold s = (links : Links) (run : Run) (x : SessionState) (n : NormalState) (o : Outside) (f : TurnFound) → AreTogether links x → AreTogether links (record x { normal = n }) → Tells s run x → StandsBetween x
+    → (legal : IsLegal o x.normal n) → TurnMade (answer_of (turn_of n.entry)) x.normal n → TurnShown s run x n o f → SeesOwn (record x { normal = n }) → QueueKnown (cycle_frames s) run x.normal → x.normal.ended ≡ false
     → PartsTold s run x n o f legal

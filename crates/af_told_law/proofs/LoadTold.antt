@@ -1,0 +1,91 @@
+-- The load of the report is a step of its own: the reader's list grows by it, and nothing else does.
+use Rattle.std.proofs.Common.{◌≡◌, ℕ, map, List, [], ◌∷◌, ◌++◌, refl, sym, ap, ◌∙◌}
+use Rattle.af_base.specs.declared.report.Report.{Report}
+use Rattle.af_base.specs.Turn.{Turn}
+use Rattle.af_fast.specs.Mixer.{MixerState}
+use Rattle.af_life.specs.TurnEvents.{going}
+use Rattle.af_link.specs.Reports.{ReaderSide}
+use Rattle.af_model.specs.declared.newest.ReaderEvent.{ReaderEvent}
+use Rattle.af_model.specs.declared.newest.ReaderEvent.TheVariants.{Load}
+use Rattle.af_model.specs.Order.{Event, one, two, ones, twos}
+use Rattle.af_normal.specs.State.{NormalState}
+use Rattle.af_party.specs.Parties.{PartyState}
+use Rattle.af_runs.specs.Blocks.{BlockTold}
+use Rattle.af_runs.specs.Runs.{Run, TrackTold, report_of, told_at, with_load}
+use Rattle.af_runs.specs.Sessions.{Session}
+use Rattle.af_session.specs.Together.{SessionState}
+use Rattle.af_told_law.specs.QueueTurned.{QueueKnown}
+use Rattle.af_told_law.specs.Tells.{Tells, TellsStream, TellsTrack}
+
+-- ## The lists of two ends after events of the second
+
+module _ {A B : Type 0} where
+  twos_more : (told : List (Event A B)) (es : List B) → twos (told ++ map two es) ≡ twos told ++ es
+  twos_more [] [] = refl
+  twos_more [] (e ∷ es) = ap (λ (l : List B). e ∷ l) (twos_more [] es)
+  twos_more (one a ∷ told) es = twos_more told es
+  twos_more (two b ∷ told) es = ap (λ (l : List B). b ∷ l) (twos_more told es)
+
+  ones_same : (told : List (Event A B)) (es : List B) → ones (told ++ map two es) ≡ ones told
+  ones_same [] [] = refl
+  ones_same [] (e ∷ es) = ones_same [] es
+  ones_same (one a ∷ told) es = ap (λ (l : List A). a ∷ l) (ones_same told es)
+  ones_same (two b ∷ told) es = ones_same told es
+
+-- ## What the reader of the report has no part in
+
+stream_apart : (m : NormalState) (r : ReaderSide) (f : MixerState) (i : ℕ) (b : BlockTold) → TellsStream m f i b → TellsStream (record m { reader = r }) f i b
+stream_apart m r f i b h = record {
+  home = h.home;
+  away = (λ gone. let a = h.away gone in record { held = a.held; goes = a.goes; comes = a.comes; waits = a.waits; back = a.back });
+  hand = h.hand;
+}
+
+pub track_apart : (s : Session) (m : NormalState) (r : ReaderSide) (f : MixerState) (i : ℕ) (t : TrackTold) (p : PartyState) → TellsTrack s m f i t p → TellsTrack s (record m { reader = r }) f i t p
+track_apart s m r f i t p h = record { client = h.client; stream = stream_apart m r f i t.stream h.stream; commands = h.commands }
+
+-- ## The load
+
+-- the reader had this before the load
+module _ (s : Session) (run : Run) (y : SessionState) (before : ReaderSide) (e : Turn) where
+  abbrev loads : List (ReaderEvent Report)
+  loads = going e (Load e.cycle (report_of run.reports e.cycle) ∷ [])
+
+  abbrev unread : NormalState
+  unread = record y.normal { reader = before }
+
+  -- the run with the load tells the session with it
+  pub load_told : Tells s run (record y { normal = unread }) → y.normal.reader.events ≡ before.events ++ loads → Tells s (with_load e run) y
+  unfolding with_load
+  load_told told grows = record {
+    count = told.count;
+    tracks = (λ i p is. track_apart s unread y.normal.reader y.fast i (told_at run i) p (told.tracks i p is));
+    shared = record {
+      first = told.shared.first;
+      mutator = told.shared.mutator;
+      observer = told.shared.observer;
+      reader = grows ∙ ap (λ (l : List (ReaderEvent Report)). l ++ loads) told.shared.reader ∙ sym (twos_more run.report loads);
+      writer = told.shared.writer ∙ sym (ones_same run.report loads);
+      puts = record { told = told.shared.puts.told; words = told.shared.puts.words };
+      takes = told.shared.takes;
+      taken = told.shared.taken;
+      size = told.shared.size;
+    };
+    normal = record { setup = told.normal.setup; kept = told.normal.kept; hands = told.normal.hands; states = told.normal.states; number = told.normal.number; last = told.normal.last };
+    fast = record {
+      frames = told.fast.frames;
+      cycles = told.fast.cycles;
+      current = told.fast.current;
+      state = told.fast.state;
+      entries = told.fast.entries;
+      logged = told.fast.logged;
+      exited = told.fast.exited;
+      reports = told.fast.reports;
+      fresh = told.fast.fresh;
+    };
+  }
+
+-- the queue is known as before
+pub known_loaded : (frames : ℕ) (run : Run) (e : Turn) (m : NormalState) → QueueKnown frames run m → QueueKnown frames (with_load e run) m
+unfolding with_load
+known_loaded frames run e m known = record { clear = known.clear; beyond = known.beyond; before = known.before }
