@@ -23,15 +23,15 @@ use Rattle.af_session.specs.FastTurns.{IsCycle}
 use Rattle.af_rendering.specs.Leads.{InStep, LeadAway}
 use Rattle.af_session.specs.Together.{AreTogether, SessionState}
 use Rattle.af_told_law.specs.Sizes.{AreSmall, IsMarkedRun}
-use Rattle.af_told_law.specs.MixLaws.{MixesAreTold}
-use Rattle.af_render_law.specs.Laws.{IsBetween}
 use Rattle.af_told_law.specs.MixLaws.{entry_told}
+use Rattle.af_render_law.specs.Laws.{IsBetween}
 use Rattle.af_told_law.specs.Own.{SeesOwn}
 use Rattle.af_told_law.specs.Tells.{Tells}
 use Rattle.af_told_law.proofs.FastGrows.{adds, same_frames, still_on}
 use Rattle.af_render_law.proofs.IdlePoll.{between_met, caught_met}
 use Rattle.af_told_law.proofs.PollFinds.{poll_met}
 use Rattle.af_told_law.proofs.TameRuns.{met_marked, mix_marked, poll_marked, small_told}
+use Rattle.af_told_law.proofs.PipeFront.{took_counted}
 
 -- the last of two lists that are the same up to it
 same_last : (xs : List CycleEntry) (a b : CycleEntry) → xs ++ a ∷ [] ≡ xs ++ b ∷ [] → a ≡ b
@@ -93,7 +93,8 @@ module _ (s : Session) (run : Run) (x next : SessionState) (out out' : List Fram
   module _ (mixes : MixesAreTold s marks) (own : SeesOwn next) where
     mixed : (e : CycleEntry) × (answer ≡ e.cycle) × (next.fast.log.entries ≡ c.met.fast.log.entries ++ e ∷ []) × Tells s (with_mix s (entry_told next.fast.log.frames (length c.met.fast.log.frames) e) then_met) (record c.met { fast = next.fast })
         × LegalEntry s marks then_met (entry_told next.fast.log.frames (length c.met.fast.log.frames) e)
-    mixed = mixes links then_met c.met next.fast out answer out' c.together.met (subst (AreTogether links) c.others c.mixed) met_between.state (still_on x next out out' answer c on) c.mixes c.sizes c.meets.ends.histories met_told (λ i low. (then_tame i low).stream) (subst SeesOwn c.others own)
+    mixed = mixes links then_met c.met next.fast out answer out' c.together.met (subst (AreTogether links) c.others c.mixed) met_between.state (still_on x next out out' answer c on) c.mixes c.sizes c.meets.ends.histories.queue
+        (took_counted c.met.fast c.met.normal.pipe.pass.part.events c.met.normal.pipe.pass.part.frames c.meets.ends.histories.pipe) own.pipe met_told (λ i low. (then_tame i low).stream) (subst SeesOwn c.others own)
 
     same_entry : mixed.0 ≡ entry
     same_entry = same_last c.met.fast.log.entries mixed.0 entry (sym mixed.2 ∙ (adds x next out out' answer c on).2.entries)

@@ -48,6 +48,7 @@ use Rattle.af_base.specs.declared.report.Report.{Report}
 use Rattle.af_life.specs.TurnEvents.{going}
 use Rattle.af_told_law.proofs.LoadTold.{known_loaded, load_told}
 use Rattle.af_render_law.proofs.TurnMet.{load_is, turn_shown}
+use Rattle.af_told_law.specs.Between.{StandsBefore}
 
 -- one turn more is counted
 made_turns : (x y : NormalState) → TurnMade (answer_of (turn_of y.entry)) x y → y.turns ≡ x.turns + 1
@@ -96,6 +97,9 @@ module _ (s : Session) (marks : Marks) (parts : PartsAreTold s) (run : Run) (x :
   made : TurnMade (answer_of e) x.normal n
   made = subst (λ (t : Turn). TurnMade (answer_of t) x.normal n) one.2.told one.2.made
 
+  before_turn : StandsBefore x
+  before_turn = let step = holds.stands.step in record { step = record { tells = step.tells; few = step.few; same = step.same }; history = holds.stands.history; leads = holds.stands.leads; quiet = holds.stands.quiet }
+
   -- the meetings show that each front was a server's own
   own : SeesOwn then_x
   own =
@@ -112,7 +116,7 @@ module _ (s : Session) (marks : Marks) (parts : PartsAreTold s) (run : Run) (x :
   seen = turn_shown s run x n w.met links one.2.outside w.together.before holds.told holds.report legal made meets
 
   all_parts : PartsTold s run x n one.2.outside found legal
-  all_parts = parts links run x n one.2.outside found w.together.before after holds.told holds.stands legal made seen own holds.queue runs
+  all_parts = parts links run x n one.2.outside found w.together.before after holds.told before_turn legal made seen own holds.queue runs
 
   -- the number of turns rises
   turns : n.turns ≡ x.normal.turns + 1
@@ -127,7 +131,7 @@ module _ (s : Session) (marks : Marks) (parts : PartsAreTold s) (run : Run) (x :
 
   told : Tells s then_run then_x
   told = load_told s turned_run then_x x.normal.reader e
-      (tells_turned s run x n links one.2.outside found holds.told marks holds.marked w.together.before after legal made seen holds.stands own holds.queue runs holds.cells all_parts turns)
+      (tells_turned s run x n links one.2.outside found holds.told marks holds.marked w.together.before after legal made seen before_turn own holds.queue runs holds.cells all_parts turns)
       (load_is s run x n w.met links one.2.outside w.together.before holds.told holds.report legal made meets ∙ ap (λ (rs : List Report). x.normal.reader.events ++ going e (Load e.cycle (report_of rs e.cycle) ∷ [])) (same_reports s found e run))
 
   -- the run after the turn of this round
@@ -143,7 +147,7 @@ module _ (s : Session) (marks : Marks) (parts : PartsAreTold s) (run : Run) (x :
   legal_turn : IsMadeBy s marks run makes.Normal round
   legal_turn =
       let is : LegalTurnBy (setup_of s) marks (found_before s run [] e) run.normal e =
-      legal_now s run x n links one.2.outside found holds.told marks holds.marked w.together.before after legal made seen holds.stands own holds.queue runs holds.cells all_parts in
+      legal_now s run x n links one.2.outside found holds.told marks holds.marked w.together.before after legal made seen before_turn own holds.queue runs holds.cells all_parts in
       let ended : run.normal.ended ≡ false = sym (ap (λ (k : NormalKept). k.ended) holds.told.normal.kept) ∙ runs in (
         only,
         ap (λ (q : RoundNoted). take q.cycles entries) is_round,
@@ -170,7 +174,7 @@ module _ (s : Session) (marks : Marks) (parts : PartsAreTold s) (run : Run) (x :
   }
 
   known_turned : QueueKnown (cycle_frames s) then_run n
-  known_turned = known_loaded (cycle_frames s) turned_run e n (known_now s run x n links one.2.outside found holds.told marks holds.marked w.together.before after legal made seen holds.stands own holds.queue runs holds.cells all_parts)
+  known_turned = known_loaded (cycle_frames s) turned_run e n (known_now s run x n links one.2.outside found holds.told marks holds.marked w.together.before after legal made seen before_turn own holds.queue runs holds.cells all_parts)
 
   known : QueueKnown (cycle_frames s) (with_ends (met_alone s run makes.Normal round)) y.normal
   known =

@@ -23,7 +23,7 @@ use Rattle.af_stateq.specs.Mutates.{at}
 use Rattle.af_judge.proofs.SoundTurns.{welcomed_at}
 use Rattle.af_session.specs.Met.{slot_for}
 use Rattle.af_session.specs.Together.{AreTogether, SessionState}
-use Rattle.af_told_law.specs.Between.{StandsBetween}
+use Rattle.af_told_law.specs.Between.{StandsBefore}
 use Rattle.af_told_law.specs.Comers.{ComersTell, ComesBy}
 use Rattle.af_told_law.specs.Places.{StreamsGo}
 use Rattle.af_told_law.specs.Tells.{Tells, TellsServer, held_slot, is_coming, items_given}
@@ -49,7 +49,7 @@ off_comes : (last : FastState) (s : TrackKept) → is_returning s.holder ≡ tru
 unfolding welcomed
 off_comes last s returning off = let comes : comes_home last s ≡ true = (λ j. returning j && not (off j)) in ap (λ (b : Bool). is_home (if b then record s { holder = Home } else s).holder) comes
 
-module _ (links : Links) (x : SessionState) (n : NormalState) (o : Outside) (legal : IsLegal o x.normal n) (runs : (turn_of n.entry).ended ≡ false) (goes : StreamsGo o x.normal n (turn_of n.entry)) (before : AreTogether links x) (stands : StandsBetween x) (c d : ℕ)
+module _ (links : Links) (x : SessionState) (n : NormalState) (o : Outside) (legal : IsLegal o x.normal n) (runs : (turn_of n.entry).ended ≡ false) (goes : StreamsGo o x.normal n (turn_of n.entry)) (before : AreTogether links x) (stands : StandsBefore x) (c d : ℕ)
     (later : HasHistory x.normal.mutator.past.first (n.mutator.past.events ++ mutator.Learn c ∷ []) (x.fast.observer.past.events ++ observer.Learn d ∷ [])) where
   abbrev e : Turn
   e = turn_of n.entry

@@ -26,7 +26,7 @@ use Rattle.af_session.specs.Met.{slot_for}
 use Rattle.af_session.specs.Together.{AreTogether, SessionState}
 use Rattle.af_rendering.proofs.NormalSteps.{turned_leads}
 use Rattle.af_rendering.proofs.QueueSeen.{SawUpTo, few_seen}
-use Rattle.af_told_law.specs.Between.{StandsBetween}
+use Rattle.af_told_law.specs.Between.{StandsBefore}
 use Rattle.af_told_law.specs.Places.{IsLentBy, StreamsGo, slot_in, told_by}
 use Rattle.af_told_law.specs.QueueTurned.{QueueKnown}
 use Rattle.af_told_law.specs.Tells.{Tells, held_slot, is_coming, is_going, items_given}
@@ -39,7 +39,7 @@ first_of true b is = refl
 first_of false b is = absurd (true≢false is)
 
 module _ (links : Links) (x : SessionState) (n : NormalState) (o : Outside) (legal : IsLegal o x.normal n) (runs : (turn_of n.entry).ended ≡ false) (goes : StreamsGo o x.normal n (turn_of n.entry)) (before : AreTogether links x) (after : AreTogether links (record x { normal = n }))
-    (stands : StandsBetween x) (c d : ℕ) (later : HasHistory x.normal.mutator.past.first (n.mutator.past.events ++ mutator.Learn c ∷ []) (x.fast.observer.past.events ++ observer.Learn d ∷ [])) where
+    (stands : StandsBefore x) (c d : ℕ) (later : HasHistory x.normal.mutator.past.first (n.mutator.past.events ++ mutator.Learn c ∷ []) (x.fast.observer.past.events ++ observer.Learn d ∷ [])) where
   abbrev e : Turn
   e = turn_of n.entry
 

@@ -26,19 +26,19 @@ use Rattle.af_runs.specs.Told.{is_pushed}
 use Rattle.af_server.specs.Order.{ServerState}
 use Rattle.af_stateq.specs.Ends.{Polls, Pushes}
 use Rattle.af_stateq.specs.Mutates.{at}
-use Rattle.af_rendering.specs.Leads.{InStep}
 use Rattle.af_session.specs.Together.{SessionState}
 use Rattle.af_told_law.specs.Places.{StreamsGo, told_by}
 use Rattle.af_told_law.specs.Tells.{is_coming, is_going, items_given, none_comes}
 use Rattle.af_told_law.proofs.AckPlaces.{none_of}
 use Rattle.af_told_law.proofs.QueueLooks.{IsSane, Looked, history_sane, looked_at, point_of}
+use Rattle.af_told_law.specs.Between.{InReach}
 
 -- two looks that begin the same events brought the same
 one_look : (n : ℕ) (a b : List (Option ServerState)) (xs ys : List (MutatorEvent ServerState)) → mutator.SawAck n a ∷ xs ≡ mutator.SawAck n b ∷ ys → a ≡ b
 one_look n a b xs ys e = cc
 
 module _ (x : SessionState) (n : NormalState) (o : Outside) (legal : IsLegal o x.normal n) (runs : (turn_of n.entry).ended ≡ false) (goes : StreamsGo o x.normal n (turn_of n.entry))
-    (order : IsInOrder x.fast) (step : InStep x.normal.mutator.past x.fast.observer.past) (before : HasHistory x.normal.mutator.past.first x.normal.mutator.past.events x.fast.observer.past.events) (c d : ℕ)
+    (order : IsInOrder x.fast) (step : InReach x.normal.mutator.past x.fast.observer.past) (before : HasHistory x.normal.mutator.past.first x.normal.mutator.past.events x.fast.observer.past.events) (c d : ℕ)
     (later : HasHistory x.normal.mutator.past.first (n.mutator.past.events ++ mutator.Learn c ∷ []) (x.fast.observer.past.events ++ observer.Learn d ∷ [])) where
   abbrev e : Turn
   e = turn_of n.entry

@@ -8,7 +8,6 @@ use Rattle.af_base.specs.declared.state.FastState.{FastState}
 use Rattle.af_base.specs.Log.{entry_slot, slots}
 use Rattle.af_cblk.specs.Sides.{Made}
 use Rattle.af_fast.specs.Known.{known, known_at}
-use Rattle.af_fast.specs.Meets.{HaveHistories}
 use Rattle.af_fast.specs.Mixer.{MixerState}
 use Rattle.af_fast.specs.Mixing.{AddsCycle}
 use Rattle.af_fast.specs.Slots.{SlotPlayed}
@@ -16,7 +15,7 @@ use Rattle.af_link.specs.declared.links.Links.{Links}
 use Rattle.af_model.specs.Cycles.{TrackSlot, cycle_events, is_mixed}
 use Rattle.af_model.specs.History.{is_lawful}
 use Rattle.af_model.specs.Journals.{EntrySeen}
-use Rattle.af_model.specs.StateQueue.{carries, slot_of}
+use Rattle.af_model.specs.StateQueue.{HasHistory, carries, slot_of}
 use Rattle.af_party.specs.Parties.{PartyState}
 use Rattle.af_runs.specs.Blocks.{BlockTold, Marks, server_list}
 use Rattle.af_runs.specs.Blocks as told_of
@@ -34,10 +33,9 @@ use Rattle.std.proofs.lemmas.Bool.{cases_lt}
 use Rattle.af_base.specs.declared.event.ServerEvent.{ServerEvent}
 use Rattle.af_stateq.specs.Mutates.{at}
 use Rattle.af_rendering.specs.Leads.{LeadAway}
-use Rattle.af_session.specs.Met.{ends_of, item_at, slot_for}
+use Rattle.af_session.specs.Met.{item_at, slot_for}
 use Rattle.af_session.specs.Together.{AreTogether, SessionState}
-use Rattle.af_told_law.specs.MixLaws.{PipeTells}
-use Rattle.af_told_law.specs.MixLaws.{AreMarked, MixIsTold, entry_added}
+use Rattle.af_told_law.specs.MixLaws.{AreMarked, MixIsTold, TookCounted, entry_added}
 use Rattle.af_told_law.specs.Own.{SawOwn, SeesOwn}
 use Rattle.af_told_law.specs.Tells.{IsFresh, SawTold, Tells, TellsCommands, TellsServer, TellsStream, TellsTrack}
 use Rattle.af_told_law.proofs.AllMeet.{some_at}
@@ -54,6 +52,7 @@ use Rattle.af_told_law.proofs.MixStates.{few_adopted, same_cold, same_state, sta
 use Rattle.af_told_law.proofs.MixStays.{stream_stays, track_still}
 use Rattle.af_told_law.proofs.MixStreams.{stream_mixed}
 use Rattle.af_told_law.proofs.PipeFront.{front_taken}
+use Rattle.af_link.specs.PipeEnds.{SeesTaken}
 
 -- the commands of a track are as they were
 commands_stay : (s : Session) (x : FastState) (e : EntrySeen) (i : ℕ) (t : TrackTold) → (mixed_track s x e i t).commands ≡ t.commands
@@ -68,7 +67,9 @@ record MayMix (links : Links) (s : Session) (run : Run) (x : SessionState) (g : 
   together : AreTogether links x
   after : AreTogether links (record x { fast = g })
   lead : LeadAway x.fast.observer.past.state x.normal.tracks
-  histories : HaveHistories x.fast (ends_of x.normal)
+  queue : HasHistory x.normal.mutator.past.first x.normal.mutator.past.events x.fast.observer.past.events
+  counted : TookCounted x.fast
+  sees : SeesTaken 0 g.pipe.pass.part.events
   told : Tells s run x
 
 module _ (links : Links) (s : Session) (marks : Marks) (run : Run) (x : SessionState) (g : MixerState) (may : MayMix links s run x g) (entry : CycleEntry) (adds : AddsCycle x.fast g entry) (sizes : (g.frames ≡ x.fast.frames) × (g.cycles ≡ x.fast.cycles)) (marked : AreMarked marks run) (own : SeesOwn (record x { fast = g })) where
@@ -85,7 +86,7 @@ module _ (links : Links) (s : Session) (marks : Marks) (run : Run) (x : SessionS
   session = record x { fast = g }
 
   now_is : now ≡ state
-  now_is = state_told s run x.normal x.fast may.together.fast.0 may.told.normal may.told.fast may.histories.queue entry.state adds.state
+  now_is = state_told s run x.normal x.fast may.together.fast.0 may.told.normal may.told.fast may.queue entry.state adds.state
 
   -- ## Streams
 
@@ -183,9 +184,9 @@ module _ (links : Links) (s : Session) (marks : Marks) (run : Run) (x : SessionS
 
   finds : FindsTold s marks run x.fast e
   finds = record {
-    few = few_adopted s run x.normal x.fast may.together.fast.0 may.told.normal may.told.fast may.histories.queue;
-    same = same_state s run x.normal x.fast may.together.fast.0 may.told.normal may.told.fast may.histories.queue entry.state (let n = adds.state in omega (arith, n));
-    cold = same_cold s run x.normal x.fast may.together.fast.0 may.told.normal may.told.fast may.histories.queue;
+    few = few_adopted s run x.normal x.fast may.together.fast.0 may.told.normal may.told.fast may.queue;
+    same = same_state s run x.normal x.fast may.together.fast.0 may.told.normal may.told.fast may.queue entry.state (let n = adds.state in omega (arith, n));
+    cold = same_cold s run x.normal x.fast may.together.fast.0 may.told.normal may.told.fast may.queue;
     servers = (λ i. record { shape = (stream_of run now i).shape; events = (slot_after i).0 });
     tracks = (λ mixed i low on. subst (λ (z : FastState). carries z i ≡ true → TrackSlot (cycle_frames s) (told_of.listed (stream_of run z i)) (slot_after i).0 (entry_slot entry i)) (sym now_is) (λ (c : carries state i ≡ true). ((slot_after i).1 mixed low c).0) on);
     lawful = (λ mixed i low on.
@@ -206,17 +207,17 @@ module _ (links : Links) (s : Session) (marks : Marks) (run : Run) (x : SessionS
       by_mixed true mixed =
           let submix = (mix_is links x g may.together may.after may.lead entry adds mixed).submix in
           pipe_mixed x.fast g e run.pipe x.normal.pipe.pass.part.events x.normal.pipe.pass.part.frames pipe_before mixed adds.takes submix
-          (front_taken x.fast g (ends_of x.normal) (entry_slot entry 0) may.histories own.pipe submix) ((saw mixed).frames 0 (omega arith))
+          (front_taken x.fast g (entry_slot entry 0) may.counted may.sees submix) ((saw mixed).frames 0 (omega arith))
       by_mixed false dry = pipe_still x.fast g e run.pipe x.normal.pipe.pass.part.events x.normal.pipe.pass.part.frames pipe_before dry adds.takes
 
   pipe_shape : g.pipe.pass.part.shape.frames ≡ x.fast.pipe.pass.part.shape.frames
   pipe_shape = ap (λ (m : Made). m.shape.frames) (may.after.fast.1.pipe_is ∙ sym may.together.fast.1.pipe_is)
 
   report_is : adds.report.0 ≡ next_report s (with_looks s e run) entry
-  report_is = counted.report_is s run x.normal x.fast g e may.together.fast.0 may.told.normal may.told.fast may.histories.queue adds knows
+  report_is = counted.report_is s run x.normal x.fast g e may.together.fast.0 may.told.normal may.told.fast may.queue adds knows
 
   fresh : IsFresh (with_mix s e run)
-  fresh = counted.fresh_mixed s run x.normal x.fast g e may.together.fast.0 may.told.normal may.told.fast may.histories.queue adds knows
+  fresh = counted.fresh_mixed s run x.normal x.fast g e may.together.fast.0 may.told.normal may.told.fast may.queue adds knows
 
   -- ## All
 
@@ -250,7 +251,7 @@ module _ (links : Links) (s : Session) (marks : Marks) (run : Run) (x : SessionS
 
 -- the mix of a mixer that isn't over
 pub mix_told : (links : Links) (s : Session) (marks : Marks) (run : Run) (x : SessionState) (g : MixerState) (out : List Frame) (answer : Cycle) (out' : List Frame) → MixIsTold links s marks run x g out answer out'
-mix_told links s marks run x g out answer out' together after lead on mixes sizes histories told marked own =
+mix_told links s marks run x g out answer out' together after lead on mixes sizes queue counted sees told marked own =
     let added = mixes.adds on in
-    let may : MayMix links s run x g = record { together = together; after = after; lead = lead; histories = histories; told = told } in
+    let may : MayMix links s run x g = record { together = together; after = after; lead = lead; queue = queue; counted = counted; sees = sees; told = told } in
     (added.0, added.1, added.2.entries, told_all links s marks run x g may added.0 added.2 sizes marked own, legal_entry links s marks run x g may added.0 added.2 sizes marked own)

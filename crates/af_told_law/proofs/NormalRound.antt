@@ -25,7 +25,7 @@ use Rattle.af_runs.specs.Runs.{Run, TrackTold, no_track, pipe_cells, sides_of, t
 use Rattle.af_runs.specs.Sessions.{Session, cycle_frames, setup_of, track_count}
 use Rattle.af_runs.specs.Told.{Item, is_pushed, items_of}
 use Rattle.af_session.specs.Together.{AreTogether, SessionState}
-use Rattle.af_told_law.specs.Between.{StandsBetween}
+use Rattle.af_told_law.specs.Between.{StandsBefore}
 use Rattle.af_told_law.specs.NormalLaws.{PartsTold, TurnShown, track_turned}
 use Rattle.af_told_law.specs.Sizes.{IsMarkedRun}
 use Rattle.af_told_law.specs.Own.{SeesOwn}
@@ -48,7 +48,7 @@ hand_client told [] = refl
 hand_client told (e ∷ es) = hand_client (by_hand e ∷ told) es
 
 module _ (s : Session) (run : Run) (x : SessionState) (n : NormalState) (links : Links) (o : Outside) (f : TurnFound) (told : Tells s run x) (marks : Marks) (marked : IsMarkedRun marks run) (before : AreTogether links x) (after : AreTogether links (record x { normal = n })) (legal : IsLegal o x.normal n)
-    (made : TurnMade (answer_of (turn_of n.entry)) x.normal n) (seen : TurnShown s run x n o f) (stands : StandsBetween x) (own : SeesOwn (record x { normal = n }))
+    (made : TurnMade (answer_of (turn_of n.entry)) x.normal n) (seen : TurnShown s run x n o f) (stands : StandsBefore x) (own : SeesOwn (record x { normal = n }))
     (known : QueueKnown (cycle_frames s) run x.normal) (lives : x.normal.ended ≡ false) (cells : x.normal.pipe.pass.part.shape.cells ≡ pipe_cells (setup_of s)) (parts : PartsTold s run x n o f legal) where
   abbrev e : Turn
   e = turn_of n.entry

@@ -10,7 +10,7 @@ use Rattle.af_runs.specs.Runs.{Run}
 use Rattle.af_runs.specs.Sessions.{Session, cycle_frames, setup_of, track_count}
 use Rattle.af_server.specs.Order.{ServerState}
 use Rattle.af_session.specs.Together.{AreTogether, SessionState}
-use Rattle.af_told_law.specs.Between.{StandsBetween}
+use Rattle.af_told_law.specs.Between.{StandsBefore}
 use Rattle.af_told_law.specs.Comers.{ComersTell}
 use Rattle.af_told_law.specs.NormalLaws.{PartsAreTold, PartsTold, TurnShown, track_turned}
 use Rattle.af_told_law.specs.Own.{SeesOwn}
@@ -23,7 +23,7 @@ use Rattle.af_told_law.proofs.StreamsEnded.{commands_ended, stream_ended}
 use Rattle.af_told_law.proofs.StreamsTurned.{commands_told, stream_told}
 use Rattle.af_runs.specs.Found.{TurnFound, outside_of}
 
-module _ (s : Session) (links : Links) (run : Run) (x : SessionState) (n : NormalState) (o : Outside) (f : TurnFound) (before : AreTogether links x) (after : AreTogether links (record x { normal = n })) (told : Tells s run x) (stands : StandsBetween x) (legal : IsLegal o x.normal n)
+module _ (s : Session) (links : Links) (run : Run) (x : SessionState) (n : NormalState) (o : Outside) (f : TurnFound) (before : AreTogether links x) (after : AreTogether links (record x { normal = n })) (told : Tells s run x) (stands : StandsBefore x) (legal : IsLegal o x.normal n)
     (made : TurnMade (answer_of (turn_of n.entry)) x.normal n) (shown : TurnShown s run x n o f) (own : SeesOwn (record x { normal = n })) (known : QueueKnown (cycle_frames s) run x.normal) (lives : x.normal.ended ≡ false) where
   abbrev e : Turn
   e = turn_of n.entry

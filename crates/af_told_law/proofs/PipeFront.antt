@@ -1,47 +1,60 @@
--- Where each look at the pipe saw the number of frames taken before, a look after events that have a history saw as many as they took.
-use Rattle.std.proofs.Common.{◌≡◌, ℕ, List, [], ◌∷◌, ◌++◌, length, sym, ap, ◌∙◌, subst}
+-- Where each look at the pipe saw the number of frames taken before, the look of a mix saw as many as its end has.
+use Rattle.std.proofs.Common.{List, [], ap, arith, length, refl, subst, sym, ℕ, ◌++◌, ◌+◌, ◌∙◌, ◌∷◌, ◌≡◌}
 use Rattle.af_base.specs.declared.event.ClientEvent.{ClientEvent}
 use Rattle.af_base.specs.declared.event.ClientEvent.TheVariants as client
 use Rattle.af_base.specs.declared.event.ServerEvent.{ServerEvent}
 use Rattle.af_base.specs.declared.event.ServerEvent.TheVariants as server
 use Rattle.af_base.specs.declared.log.SlotEntry.{SlotEntry}
-use Rattle.af_fast.specs.Meets.{HaveHistories, Others}
 use Rattle.af_fast.specs.Mixer.{MixerState}
 use Rattle.af_link.specs.PipeEnds.{SeesTaken}
 use Rattle.af_model.specs.Cycles.{SubmixSlot, takes_shown}
 use Rattle.af_model.specs.Order.{Event, after, one, two, twos}
-use Rattle.af_model.specs.PipeHistory.{PipePoint, legal, next, start}
+use Rattle.af_model.specs.PipeHistory.{HasPipeHistory, PipePoint, legal, next, start}
 use Rattle.af_model.specs.Point.{wrapped}
+use Rattle.af_enough_law.specs.Seen.{frames_taken}
+use Rattle.af_told_law.specs.MixLaws.{TookCounted}
 
-module _ (size : ℕ) (more : List ServerEvent) where
-  -- what stands after the events of an order sees what they took
-  seen_after : (p : PipePoint) (es : List (Event ClientEvent ServerEvent)) → SeesTaken p.taken (twos es ++ more) → SeesTaken (after (legal size) next p es).taken more
-  seen_after p [] s = s
-  seen_after p (one (client.Release count) ∷ es) s = seen_after (next p (one (client.Release count))) es s
-  seen_after p (one client.Flush ∷ es) s = seen_after (next p (one client.Flush)) es s
-  seen_after p (one (client.SetGain word) ∷ es) s = seen_after (next p (one (client.SetGain word))) es s
-  seen_after p (one (client.ClearFlags old) ∷ es) s = seen_after (next p (one (client.ClearFlags old))) es s
-  seen_after p (one (client.SawFlags flags) ∷ es) s = seen_after (next p (one (client.SawFlags flags))) es s
-  seen_after p (one (client.SawFront front) ∷ es) s = seen_after (next p (one (client.SawFront front))) es s
-  seen_after p (one (client.SawStatus word) ∷ es) s = seen_after (next p (one (client.SawStatus word))) es s
-  seen_after p (one (client.Poke word value) ∷ es) s = seen_after (next p (one (client.Poke word value))) es s
-  seen_after p (one (client.Learn count) ∷ es) s = seen_after (next p (one (client.Learn count))) es s
-  seen_after p (two (server.SawRear rear) ∷ es) s = seen_after (next p (two (server.SawRear rear))) es s
-  seen_after p (two (server.SawFront front) ∷ es) s = seen_after (next p (two (server.SawFront front))) es s.1
-  seen_after p (two (server.Take count) ∷ es) s = seen_after (next p (two (server.Take count))) es s
-  seen_after p (two (server.Learn count) ∷ es) s = seen_after (next p (two (server.Learn count))) es s
-  seen_after p (two (server.SawGain word) ∷ es) s = seen_after (next p (two (server.SawGain word))) es s
-  seen_after p (two (server.SawFlush flush) ∷ es) s = seen_after (next p (two (server.SawFlush flush))) es s
-  seen_after p (two (server.Drop to) ∷ es) s = seen_after (next p (two (server.Drop to))) es s
-  seen_after p (two (server.Tally missing) ∷ es) s = seen_after (next p (two (server.Tally missing))) es s
-  seen_after p (two (server.SetFlags bits) ∷ es) s = seen_after (next p (two (server.SetFlags bits))) es s
-  seen_after p (two (server.SetStatus word) ∷ es) s = seen_after (next p (two (server.SetStatus word))) es s
+-- what stands after some events sees what they took
+seen_after : (taken : ℕ) (es more : List ServerEvent) → SeesTaken taken (es ++ more) → SeesTaken (taken + frames_taken es) more
+seen_after taken [] more s = subst (λ (n : ℕ). SeesTaken n more) (let z : taken ≡ taken + 0 = omega arith in z) s
+seen_after taken (server.Take count ∷ es) more s = subst (λ (n : ℕ). SeesTaken n more) (let z : (taken + count) + frames_taken es ≡ taken + (count + frames_taken es) = omega arith in z) (seen_after (taken + count) es more s)
+seen_after taken (server.SawFront front ∷ es) more s = seen_after taken es more s.1
+seen_after taken (server.SawRear rear ∷ es) more s = seen_after taken es more s
+seen_after taken (server.SawGain word ∷ es) more s = seen_after taken es more s
+seen_after taken (server.SawFlush flush ∷ es) more s = seen_after taken es more s
+seen_after taken (server.Drop to ∷ es) more s = seen_after taken es more s
+seen_after taken (server.Tally missing ∷ es) more s = seen_after taken es more s
+seen_after taken (server.SetFlags bits ∷ es) more s = seen_after taken es more s
+seen_after taken (server.SetStatus word ∷ es) more s = seen_after taken es more s
+seen_after taken (server.Learn count ∷ es) more s = seen_after taken es more s
 
 -- the look of a mix at the pipe
-pub front_taken : (f g : MixerState) (o : Others) (slot : SlotEntry) → HaveHistories f o → SeesTaken 0 g.pipe.pass.part.events → (submix : SubmixSlot f.frames f.pipe.pass.part.events g.pipe.pass.part.events slot) → submix.front ≡ wrapped (length f.pipe.pass.part.frames)
-front_taken f g o slot h sees submix =
+pub front_taken : (f g : MixerState) (slot : SlotEntry) → TookCounted f → SeesTaken 0 g.pipe.pass.part.events → (submix : SubmixSlot f.frames f.pipe.pass.part.events g.pipe.pass.part.events slot) → submix.front ≡ wrapped (length f.pipe.pass.part.frames)
+front_taken f g slot counted sees submix =
     let more : List ServerEvent = server.SawRear slot.rear ∷ server.SawFront submix.front ∷ takes_shown slot.seen in
-    let size : ℕ = f.pipe.pass.part.shape.frames in
-    let list : g.pipe.pass.part.events ≡ twos h.pipe.history.order ++ more = submix.list ∙ ap (λ (es : List ServerEvent). es ++ more) (sym h.pipe.history.of_two) in
-    let seen : SeesTaken (after (legal size) next start h.pipe.history.order).taken more = seen_after size more start h.pipe.history.order (subst (λ (es : List ServerEvent). SeesTaken 0 es) list sees) in
-    seen.0 ∙ ap wrapped h.pipe.taken_is
+    let seen : SeesTaken (0 + frames_taken f.pipe.pass.part.events) more = seen_after 0 f.pipe.pass.part.events more (subst (λ (es : List ServerEvent). SeesTaken 0 es) submix.list sees) in
+    seen.0 ∙ ap wrapped ((let z : 0 + frames_taken f.pipe.pass.part.events ≡ frames_taken f.pipe.pass.part.events = omega arith in z) ∙ sym counted)
+
+-- ## By a history
+
+module _ (size : ℕ) where
+  took_one : (p : PipePoint) (e : ClientEvent) → (next p (one e)).taken ≡ p.taken
+  took_one p (client.Release count) = refl
+  took_one p e = refl
+
+  took_two : (p : PipePoint) (e : ServerEvent) → (next p (two e)).taken ≡ p.taken + frames_taken (e ∷ [])
+  took_two p (server.Take count) = omega arith
+  took_two p (server.SawRear rear) = omega arith
+  took_two p e = omega arith
+
+  took_first : (e : ServerEvent) (es : List ServerEvent) → frames_taken (e ∷ es) ≡ frames_taken (e ∷ []) + frames_taken es
+  took_first e es = omega arith
+
+  took_after : (p : PipePoint) (es : List (Event ClientEvent ServerEvent)) → (after (legal size) next p es).taken ≡ p.taken + frames_taken (twos es)
+  took_after p [] = omega arith
+  took_after p (one e ∷ es) = let rest = took_after (next p (one e)) es in let now = took_one p e in omega arith
+  took_after p (two e ∷ es) = let rest = took_after (next p (two e)) es in let now = took_two p e in let all = took_first e (twos es) in omega arith
+
+-- an end whose pipe has a history has as many frames as it took
+pub took_counted : (f : MixerState) (puts : List ClientEvent) (put : List ℕ) → HasPipeHistory f.pipe.pass.part.shape.frames puts put f.pipe.pass.part.events f.pipe.pass.part.frames → TookCounted f
+took_counted f puts put h = let size : ℕ = f.pipe.pass.part.shape.frames in sym h.taken_is ∙ took_after size start h.history.order ∙ ap frames_taken h.history.of_two

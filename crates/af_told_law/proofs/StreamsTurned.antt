@@ -32,7 +32,7 @@ use Rattle.af_server.specs.Order.{ServerState}
 use Rattle.af_stateq.specs.Mutates.{at}
 use Rattle.af_session.specs.Met.{item_at}
 use Rattle.af_session.specs.Together.{AreTogether, SessionState}
-use Rattle.af_told_law.specs.Between.{StandsBetween}
+use Rattle.af_told_law.specs.Between.{StandsBefore}
 use Rattle.af_told_law.specs.Comers.{ComersTell}
 use Rattle.af_told_law.specs.Own.{SeesOwn}
 use Rattle.af_told_law.specs.Places.{ComesFrom, IsLentBy, StaysAway, StreamsGo, events_by, slot_in, words_by}
@@ -60,7 +60,7 @@ went (Busy seen expected) sent pending e = absurd (true≢false (sym e))
 
 module _ (links : Links) (s : Session) (run : Run) (x : SessionState) (n : NormalState) (o : Outside) (told : Tells s run x) (before : AreTogether links x) (after : AreTogether links (record x { normal = n })) (legal : IsLegal o x.normal n)
     (runs : (turn_of n.entry).ended ≡ false) (own : SeesOwn (record x { normal = n })) (f : TurnFound) (finds : FindsBlocks run f) (report : HeardAlike (after_ack (turn_of n.entry).ack (kept_of x.normal)).tracks o.report f.report)
-    (goes : StreamsGo o x.normal n (turn_of n.entry)) (stands : StandsBetween x) (known : QueueKnown (cycle_frames s) run x.normal)
+    (goes : StreamsGo o x.normal n (turn_of n.entry)) (stands : StandsBefore x) (known : QueueKnown (cycle_frames s) run x.normal)
     (c d : ℕ) (later : HasHistory x.normal.mutator.past.first (n.mutator.past.events ++ mutator.Learn c ∷ []) (x.fast.observer.past.events ++ observer.Learn d ∷ [])) where
   abbrev e : Turn
   e = turn_of n.entry

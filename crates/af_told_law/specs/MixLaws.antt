@@ -4,7 +4,6 @@ use Rattle.af_base.specs.declared.event.ClientEvent.{ClientEvent}
 use Rattle.af_base.specs.declared.frame.Frame.{Frame}
 use Rattle.af_base.specs.declared.log.Cycle.{Cycle}
 use Rattle.af_base.specs.declared.log.CycleEntry.{CycleEntry}
-use Rattle.af_fast.specs.Meets.{HaveHistories}
 use Rattle.af_fast.specs.Mixer.{MixerState, is_over}
 use Rattle.af_fast.specs.Mixing.{MixesOnce}
 use Rattle.af_link.specs.declared.links.Links.{Links}
@@ -16,10 +15,12 @@ use Rattle.af_runs.specs.Runs.{Run, told_at, with_mix}
 use Rattle.af_runs.specs.Sessions.{Session}
 use Rattle.af_runs.specs.Told.{PipeTold}
 use Rattle.af_rendering.specs.Leads.{LeadAway}
-use Rattle.af_session.specs.Met.{ends_of}
 use Rattle.af_session.specs.Together.{AreTogether, SessionState}
 use Rattle.af_told_law.specs.Own.{SeesOwn}
 use Rattle.af_told_law.specs.Tells.{Tells}
+use Rattle.af_model.specs.StateQueue.{HasHistory}
+use Rattle.af_link.specs.PipeEnds.{SeesTaken}
+use Rattle.af_enough_law.specs.Seen.{frames_taken}
 
 -- an entry as the journal has it, where the log had so many frames before
 abbrev pub entry_told : List Frame → ℕ → CycleEntry → EntrySeen
@@ -33,11 +34,15 @@ entry_added x g entry = entry_told g.log.frames (length x.fast.log.frames) entry
 abbrev pub AreMarked : Marks → Run → Type 0
 AreMarked marks run = (i : ℕ) → i < length run.tracks → marks.streams i ≡ true → is_tame (told_at run i).stream ≡ true
 
--- After the poll and the meetings of a cycle, a mix of which it is known that each front seen at a block that wasn't poked is a server's own adds an entry, which is legal after what is told, and the run with its mix tells the session. The histories are those of the meetings
+-- the end of the pipe has as many frames as its list takes
+abbrev pub TookCounted : MixerState → Type 0
+TookCounted f = length f.pipe.pass.part.frames ≡ frames_taken f.pipe.pass.part.events
+
+-- After the poll of a cycle, a mix of which it is known that each front seen at a block that wasn't poked is a server's own, and each front of the pipe the number of frames taken, adds an entry, which is legal after what is told, and the run with its mix tells the session
 abbrev pub MixIsTold : Links → Session → Marks → Run → SessionState → MixerState → List Frame → Cycle → List Frame → Type 0
 MixIsTold links s marks run x g out answer out' =
     AreTogether links x → AreTogether links (record x { fast = g }) → LeadAway x.fast.observer.past.state x.normal.tracks → is_over x.fast ≡ false → MixesOnce x.fast out answer g out' → (g.frames ≡ x.fast.frames) × (g.cycles ≡ x.fast.cycles)
-    → HaveHistories x.fast (ends_of x.normal) → Tells s run x → AreMarked marks run → SeesOwn (record x { fast = g })
+    → HasHistory x.normal.mutator.past.first x.normal.mutator.past.events x.fast.observer.past.events → TookCounted x.fast → SeesTaken 0 g.pipe.pass.part.events → Tells s run x → AreMarked marks run → SeesOwn (record x { fast = g })
     → (entry : CycleEntry) × (answer ≡ entry.cycle) × (g.log.entries ≡ x.fast.log.entries ++ entry ∷ []) × Tells s (with_mix s (entry_added x g entry) run) (record x { fast = g }) × LegalEntry s marks run (entry_added x g entry)
 
 -- each mix is told

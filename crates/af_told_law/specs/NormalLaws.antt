@@ -11,7 +11,7 @@ use Rattle.af_runs.specs.Runs.{Run, TrackTold, told_at, turned_track}
 use Rattle.af_runs.specs.Sessions.{Session, cycle_frames, setup_of, track_count}
 use Rattle.af_server.specs.Order.{ServerState}
 use Rattle.af_session.specs.Together.{AreTogether, SessionState}
-use Rattle.af_told_law.specs.Between.{StandsBetween}
+use Rattle.af_told_law.specs.Between.{StandsBefore}
 use Rattle.af_told_law.specs.Own.{SeesOwn}
 use Rattle.af_told_law.specs.QueueTurned.{QueueKnown}
 use Rattle.af_told_law.specs.Comers.{ComersTell}
@@ -56,6 +56,6 @@ pub record PartsTold (s : Session) (run : Run) (x : SessionState) (n : NormalSta
 
 -- so they are for each turn
 abbrev pub PartsAreTold : Session → Type 0
-PartsAreTold s = (links : Links) (run : Run) (x : SessionState) (n : NormalState) (o : Outside) (f : TurnFound) → AreTogether links x → AreTogether links (record x { normal = n }) → Tells s run x → StandsBetween x
+PartsAreTold s = (links : Links) (run : Run) (x : SessionState) (n : NormalState) (o : Outside) (f : TurnFound) → AreTogether links x → AreTogether links (record x { normal = n }) → Tells s run x → StandsBefore x
     → (legal : IsLegal o x.normal n) → TurnMade (answer_of (turn_of n.entry)) x.normal n → TurnShown s run x n o f → SeesOwn (record x { normal = n }) → QueueKnown (cycle_frames s) run x.normal → x.normal.ended ≡ false
     → PartsTold s run x n o f legal
