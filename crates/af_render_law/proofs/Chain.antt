@@ -13,9 +13,9 @@ use Rattle.af_session.specs.Together.{SessionState}
 use Rattle.af_render_law.specs.Aware.{KnowsAway}
 use Rattle.af_told_law.specs.Between.{StandsBetween}
 use Rattle.af_told_law.specs.Sizes.{IsMarkedRun, IsSmallRun}
-use Rattle.af_render_law.specs.Laws.{StepIsTold, round_of}
+use Rattle.af_render_law.specs.Laws.{StepIsTold, ToldBy, round_of}
 use Rattle.af_told_law.specs.QueueTurned.{QueueKnown, ReportMet}
-use Rattle.af_told_law.specs.Tells.{Tells, given_of}
+use Rattle.af_told_law.specs.Tells.{given_of}
 use Rattle.af_render_law.proofs.InvalidKept.{InvalidKept}
 use Rattle.af_render_law.proofs.TameRounds.{TameReady}
 
@@ -29,7 +29,7 @@ AreCounted x = (i : ℕ) (p : PartyState) → slice_get x.clients i ≡ Some p �
 
 -- the run tells the session, no lawful block was poked so far, blocks and pipe have their sizes, the ends of the queue and the report are known, the hands know what proxies on their way did, INVALID was set for none of them, and the log has room for so many cycles
 pub record Holds (s : Session) (marks : Marks) (run : Run) (x : SessionState) (left : ℕ) : Type 0 where
-  pub told : Tells s run x
+  pub told : ToldBy s run x
   pub stands : StandsBetween x
   pub marked : IsMarkedRun marks run
   pub small : IsSmallRun run

@@ -15,11 +15,11 @@ use Rattle.af_runs.specs.TurnRuns.{IsMadeBy, OnlyCalls, calls_alone}
 use Rattle.af_script.specs.declared.op.TurnSpec.TheVariants as makes
 use Rattle.af_session.specs.Rounds.{ClientTurned, IsRound, client_round, no_calls}
 use Rattle.af_session.specs.Together.{AreTogether, SessionState}
-use Rattle.af_render_law.specs.Laws.{StepIsTold, round_of}
+use Rattle.af_render_law.specs.Laws.{StepIsTold, ToldBy, round_of}
 use Rattle.af_told_law.specs.Tells.{Tells, given_of}
-use Rattle.af_told_law.proofs.AllMeet.{met_histories, tells_met}
 use Rattle.af_told_law.proofs.ClientTold.{client_told}
-use Rattle.af_told_law.proofs.EndsTold.{ends_told}
+use Rattle.af_render_law.proofs.OwnKept.{left_histories, left_met, saw_calls}
+use Rattle.af_told_law.specs.Deeds.{Deeds, SawOwnBy, tame_marks}
 
 pub none_else : (n j : ℕ) → slice_index_or (replicate n (let none : List ClientCall = [] in none)) j [] ≡ []
 none_else zero j = refl
@@ -61,14 +61,14 @@ module _ (links : Links) (s : Session) (marks : Marks) (run : Run) (i : ℕ) (x 
     subst (λ (z : Track × List ClientCall). LegalClientTurn z.0 z.1) (λ j. (sym (h.tracks i turn.before turn.was).client j, sym here j)) turn.legal,
   )
 
-  told : Tells s (calls_alone i round run) w.turned
-  told = client_told s run i round x w.turned h (subst (ClientTurned (given_of s) i x w.turned) (sym here) turn)
+  left : ToldBy s (calls_alone i round run) w.turned
+  left = record { deeds = d; told = client_told s run i round x w.turned h (subst (ClientTurned (given_of s) i x w.turned) (sym here) turn); saw = saw_calls run d i round saw }
 
   -- it is made legally, leaves the histories, and is told
   pub client_step : StepIsTold s marks run (makes.Client i) round y
   client_step = record {
     made = made;
-    histories = met_histories links s (calls_alone i round run) w.turned w.met turned met told w.meets;
-    told = subst (Tells s _) (sym w.ends) (ends_told s _ w.met (tells_met links s (calls_alone i round run) w.turned w.met turned met told w.meets));
+    histories = left_histories links s (calls_alone i round run) w.turned w.met turned met w.meets left;
+    left = subst (ToldBy s _) (sym w.ends) (left_met links s (calls_alone i round run) w.turned w.met turned met w.meets left);
     unseen = λ e is. absurd (none-some e (sym made.1 ∙ is));
   }

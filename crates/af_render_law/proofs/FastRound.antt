@@ -18,16 +18,15 @@ use Rattle.af_session.specs.Rounds as rounds
 use Rattle.af_session.specs.Together.{SessionState}
 use Rattle.af_told_law.specs.Sizes.{IsMarkedRun}
 use Rattle.af_told_law.specs.MixLaws.{MixesAreTold}
-use Rattle.af_render_law.specs.Laws.{IsBetween, StepIsTold, round_of}
-use Rattle.af_told_law.specs.Tells.{Tells, given_of}
-use Rattle.af_told_law.proofs.AllMeet.{met_histories, tells_met}
+use Rattle.af_render_law.specs.Laws.{IsBetween, StepIsTold, ToldBy, round_of}
+use Rattle.af_told_law.specs.Tells.{given_of}
 use Rattle.af_render_law.proofs.ClientRound.{none_else}
-use Rattle.af_told_law.proofs.EndsTold.{ends_told}
 use Rattle.af_told_law.proofs.FastForm.{form_seen}
 use Rattle.af_render_law.proofs.FastTurnTold.{TurnTold, turn_told}
 use Rattle.af_render_law.proofs.IdlePoll.{between_after}
+use Rattle.af_render_law.proofs.OwnKept.{left_histories, left_met}
 
-module _ (s : Session) (marks : Marks) (run : Run) (count : ℕ) (x : SessionState) (r : RoundNoted) (bytes : List ℕ) (y : SessionState) (entries : List EntrySeen) (mixes : MixesAreTold s marks) (h : Tells s run x) (tame : IsMarkedRun marks run)
+module _ (s : Session) (marks : Marks) (run : Run) (count : ℕ) (x : SessionState) (r : RoundNoted) (bytes : List ℕ) (y : SessionState) (entries : List EntrySeen) (mixes : MixesAreTold s) (h : ToldBy s run x) (tame : IsMarkedRun marks run)
     (between : IsBetween x) (runs : x.fast.exited ≡ false) (some : 1 ≤ count) (room : length run.entries + count ≤ s.script.cycles) (w : IsRound (given_of s) (makes.Fast count) x r bytes y)
     (dealt : take r.cycles entries ≡ entries_seen (drop (length x.fast.log.frames) w.turned.fast.log.frames) (drop (length x.fast.log.entries) w.turned.fast.log.entries)) where
   abbrev round : RoundSeen
@@ -38,8 +37,8 @@ module _ (s : Session) (marks : Marks) (run : Run) (count : ℕ) (x : SessionSta
 
   still_room : length x.fast.log.entries + count ≤ x.fast.cycles
   still_room =
-      let cycles = h.fast.cycles in
-      let many : length x.fast.log.entries ≡ length run.entries = ap (λ (es : List CycleEntry). length es) h.fast.entries in
+      let cycles = h.told.fast.cycles in
+      let many : length x.fast.log.entries ≡ length run.entries = ap (λ (es : List CycleEntry). length es) h.told.fast.entries in
       omega (arith, cycles, many, room)
 
   turn : TurnTold w.together.links w.turned w.met w.together.turned w.together.met w.meets s marks mixes count run x
@@ -56,7 +55,7 @@ module _ (s : Session) (marks : Marks) (run : Run) (count : ℕ) (x : SessionSta
   form = subst (λ (es : List EntrySeen). IsFastTurn count false es × LegalAlone s marks run es) (sym entries_are) (form_seen count (drop (length x.fast.log.frames) w.turned.fast.log.frames) turn.entries some turn.are, turn.legal)
 
   not_over : fast_ended run ≡ false
-  not_over = sym h.fast.exited ∙ runs
+  not_over = sym h.told.fast.exited ∙ runs
 
   made : IsMadeBy s marks run (makes.Fast count) round
   made = (
@@ -65,15 +64,15 @@ module _ (s : Session) (marks : Marks) (run : Run) (count : ℕ) (x : SessionSta
     subst (λ (b : Bool). MatchBool b (round.entries ≡ []) (IsFastTurn count false round.entries × LegalAlone s marks run round.entries)) (sym not_over) form,
   )
 
-  told : Tells s (fold (cycle_alone s) run round.entries) w.turned
-  told = subst (λ (es : List EntrySeen). Tells s (fold (cycle_alone s) run es) w.turned) (sym entries_are) turn.told
+  left : ToldBy s (fold (cycle_alone s) run round.entries) w.turned
+  left = subst (λ (es : List EntrySeen). ToldBy s (fold (cycle_alone s) run es) w.turned) (sym entries_are) turn.told
 
   -- it is made legally, leaves the histories, and is told
   pub fast_step : StepIsTold s marks run (makes.Fast count) round y
   fast_step = record {
     made = made;
-    histories = met_histories w.together.links s (fold (cycle_alone s) run round.entries) w.turned w.met w.together.turned w.together.met told w.meets;
-    told = subst (Tells s _) (sym w.ends) (ends_told s _ w.met (tells_met w.together.links s (fold (cycle_alone s) run round.entries) w.turned w.met w.together.turned w.together.met told w.meets));
+    histories = left_histories w.together.links s (fold (cycle_alone s) run round.entries) w.turned w.met w.together.turned w.together.met w.meets left;
+    left = subst (ToldBy s _) (sym w.ends) (left_met w.together.links s (fold (cycle_alone s) run round.entries) w.turned w.met w.together.turned w.together.met w.meets left);
     unseen = λ e is. absurd (none-some e (sym made.1 ∙ is));
   }
 

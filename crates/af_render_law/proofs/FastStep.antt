@@ -44,8 +44,8 @@ fast_turns_step s marks run count x r bytes y entries left holds runs some room 
     let log : y.fast.log ≡ w.turned.fast.log = log_turned (given_of s) (makes.Fast count) x r bytes y w in
     let seen : take r.cycles entries ≡ entries_grown x.fast.log w.turned.fast.log = grown ∙ ap (entries_grown x.fast.log) log in
     let between = between_by x holds.stands in
-    let step = fast_step s marks run count x r bytes y entries (λ links run x g out answer out'. mix_told links s marks run x g out answer out') holds.told holds.marked between runs some room w seen in
-    let after : IsBetween y = fast_between s marks run count x r bytes y entries (λ links run x g out answer out'. mix_told links s marks run x g out answer out') holds.told holds.marked between runs some room w seen in
+    let step = fast_step s marks run count x r bytes y entries (λ links run d x g out answer out'. mix_told links s run d x g out answer out') holds.told holds.marked between runs some room w seen in
+    let after : IsBetween y = fast_between s marks run count x r bytes y entries (λ links run d x g out answer out'. mix_told links s run d x g out answer out') holds.told holds.marked between runs some room w seen in
     let kept : kept_of y.normal ≡ kept_of x.normal =
     ap kept_of (ap (λ (z : SessionState). z.normal) w.ends ∙ (ends_keep w.met).normal ∙ w.meets.ends.normal) ∙ fast_kept count x bytes w.turned turns.1 in (
       step,

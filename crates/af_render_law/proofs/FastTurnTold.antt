@@ -16,11 +16,9 @@ use Rattle.af_session.specs.FastTurns.{IsCycle, IsFastTurn, WritesCycle}
 use Rattle.af_session.specs.Met.{Met}
 use Rattle.af_session.specs.Together.{AreTogether, SessionState}
 use Rattle.af_told_law.specs.Sizes.{AreSmall, IsMarkedRun}
-use Rattle.af_told_law.specs.MixLaws.{MixesAreTold}
-use Rattle.af_render_law.specs.Laws.{IsBetween}
 use Rattle.af_told_law.specs.MixLaws.{entry_told}
+use Rattle.af_render_law.specs.Laws.{IsBetween, ToldBy}
 use Rattle.af_told_law.specs.Own.{SeesOwn}
-use Rattle.af_told_law.specs.Tells.{Tells}
 use Rattle.af_render_law.proofs.FastCycle.{cycle_legal, cycle_tame, cycle_told, next_between, next_caught, next_small}
 use Rattle.af_told_law.proofs.FastForm.{AreTurn, mixed_entry}
 use Rattle.af_told_law.proofs.FastGrows.{adds, frames_grow, frames_more, goes_on, one_more, still_room, still_runs, taken, taken_long}
@@ -46,17 +44,17 @@ module _ (links : Links) (t z : SessionState) (together : AreTogether links t) (
       let c = turn.4.cycle in
       idle_meetings_show c.together.links x c.polled c.met c.together.turned c.together.met c.adopts (goes_on x.fast runs (omega (arith, room))) c.meets between caught small
 
-  module _ (s : Session) (marks : Marks) (mixes : MixesAreTold s marks) where
+  module _ (s : Session) (marks : Marks) (mixes : MixesAreTold s) where
     -- the entries that the turn added from x on, with their frames in the log that it left
     pub record TurnTold (left : ℕ) (run : Run) (x : SessionState) : Type 0 where
       pub entries : List CycleEntry
       pub added : t.fast.log.entries ≡ x.fast.log.entries ++ entries
       pub are : AreTurn mixed_entry left entries
       pub legal : LegalAlone s marks run (entries_seen (drop (length x.fast.log.frames) t.fast.log.frames) entries)
-      pub told : Tells s (fold (cycle_alone s) run (entries_seen (drop (length x.fast.log.frames) t.fast.log.frames) entries)) t
+      pub told : ToldBy s (fold (cycle_alone s) run (entries_seen (drop (length x.fast.log.frames) t.fast.log.frames) entries)) t
       pub between : IsBetween t
 
-    module _ (left : ℕ) (run : Run) (x next : SessionState) (answer : Cycle) (bytes : List ℕ) (w : WritesCycle x answer bytes next) (h : Tells s run x) (between : IsBetween x) (tame : IsMarkedRun marks run) (on : is_over x.fast ≡ false) (own : SeesOwn next) where
+    module _ (left : ℕ) (run : Run) (x next : SessionState) (answer : Cycle) (bytes : List ℕ) (w : WritesCycle x answer bytes next) (h : ToldBy s run x) (between : IsBetween x) (tame : IsMarkedRun marks run) (on : is_over x.fast ≡ false) (own : SeesOwn next) where
       abbrev c : IsCycle x w.before answer next w.after
       c = w.cycle
 
@@ -97,13 +95,13 @@ module _ (links : Links) (t z : SessionState) (together : AreTogether links t) (
 
         -- a cycle and the rest of the turn
         one_and : (es : List CycleEntry) → t.fast.log.entries ≡ next.fast.log.entries ++ es → AreTurn mixed_entry (suc left) (e ∷ es) → LegalAlone s marks (cycle_alone s run seen) (entries_seen (drop (length next.fast.log.frames) t.fast.log.frames) es)
-            → Tells s (fold (cycle_alone s) (cycle_alone s run seen) (entries_seen (drop (length next.fast.log.frames) t.fast.log.frames) es)) t → IsBetween t → TurnTold (suc left) run x
+            → ToldBy s (fold (cycle_alone s) (cycle_alone s run seen) (entries_seen (drop (length next.fast.log.frames) t.fast.log.frames) es)) t → IsBetween t → TurnTold (suc left) run x
         one_and es added are legal told_t between_t = record {
           entries = e ∷ es;
           added = added ∙ ap (λ (l : List CycleEntry). l ++ es) (one_more x next w.before w.after answer c on) ∙ append_assoc x.fast.log.entries (e ∷ []) es;
           are = are;
           legal = subst (LegalAlone s marks run) (seen_first es) (cycle_legal s run x next w.before w.after answer c h between marks tame on mixes own, legal);
-          told = subst (λ (l : List EntrySeen). Tells s (fold (cycle_alone s) run l) t) (seen_first es) told_t;
+          told = subst (λ (l : List EntrySeen). ToldBy s (fold (cycle_alone s) run l) t) (seen_first es) told_t;
           between = between_t;
         }
 
@@ -117,11 +115,11 @@ module _ (links : Links) (t z : SessionState) (together : AreTogether links t) (
       ends_told is over =
           one_and [] (ap (λ (y : SessionState). y.fast.log.frames) over ∙ sym (append-nil next.fast.log.frames)) [] (ap (λ (y : SessionState). y.fast.log.entries) over ∙ sym (append-nil next.fast.log.entries))
           ((λ mixed. absurd (true≢false (sym mixed ∙ sym (ap is_mixed (adds x next w.before w.after answer c on).1) ∙ is))), (λ _. refl)) tt
-          (subst (Tells s (cycle_alone s run seen)) (sym over) (cycle_told s run x next w.before w.after answer c h between marks tame on mixes own))
+          (subst (ToldBy s (cycle_alone s run seen)) (sym over) (cycle_told s run x next w.before w.after answer c h between marks tame on mixes own))
           (subst IsBetween (sym over) (next_between s run x next w.before w.after answer c h between marks tame on))
 
     -- a cycle, and what follows it
-    module _ (left : ℕ) (run : Run) (x next : SessionState) (answer : Cycle) (front back : List ℕ) (w : WritesCycle x answer front next) (h : Tells s run x) (between : IsBetween x) (tame : IsMarkedRun marks run) (runs : x.fast.exited ≡ false) (room : length x.fast.log.entries + suc left ≤ x.fast.cycles) where
+    module _ (left : ℕ) (run : Run) (x next : SessionState) (answer : Cycle) (front back : List ℕ) (w : WritesCycle x answer front next) (h : ToldBy s run x) (between : IsBetween x) (tame : IsMarkedRun marks run) (runs : x.fast.exited ≡ false) (room : length x.fast.log.entries + suc left ≤ x.fast.cycles) where
       on : is_over x.fast ≡ false
       on = goes_on x.fast runs (omega (arith, room))
 
@@ -135,7 +133,7 @@ module _ (links : Links) (t z : SessionState) (together : AreTogether links t) (
       small_next = next_small s run x next w.before w.after answer w.cycle h between marks tame on
 
       by_mix : (b : Bool) → is_mixed answer ≡ b → (is_mixed answer ≡ true → IsFastTurn left next back t) → (is_mixed answer ≡ false → t ≡ next)
-          → ((now : Run) → IsFastTurn left next back t → Tells s now next → IsMarkedRun marks now → next.fast.exited ≡ false → length next.fast.log.entries + left ≤ next.fast.cycles → TurnTold left now next) → TurnTold (suc left) run x
+          → ((now : Run) → IsFastTurn left next back t → ToldBy s now next → IsMarkedRun marks now → next.fast.exited ≡ false → length next.fast.log.entries + left ≤ next.fast.cycles → TurnTold left now next) → TurnTold (suc left) run x
       by_mix true is goes stops rest =
           let runs' = still_runs x next w.before w.after answer w.cycle on is in
           let room' = still_room x next w.before w.after answer w.cycle on left room in
@@ -149,13 +147,13 @@ module _ (links : Links) (t z : SessionState) (together : AreTogether links t) (
           ends_told left run x next answer front w h between tame on own is over
 
     -- the turn from x on
-    pub turn_told : (left : ℕ) (run : Run) (x : SessionState) (bytes : List ℕ) → IsFastTurn left x bytes t → Tells s run x → IsBetween x → IsMarkedRun marks run → x.fast.exited ≡ false → length x.fast.log.entries + left ≤ x.fast.cycles → TurnTold left run x
+    pub turn_told : (left : ℕ) (run : Run) (x : SessionState) (bytes : List ℕ) → IsFastTurn left x bytes t → ToldBy s run x → IsBetween x → IsMarkedRun marks run → x.fast.exited ≡ false → length x.fast.log.entries + left ≤ x.fast.cycles → TurnTold left run x
     turn_told zero run x bytes turn h between tame runs room = record {
       entries = [];
       added = ap (λ (y : SessionState). y.fast.log.entries) turn.1 ∙ sym (append-nil x.fast.log.entries);
       are = refl;
       legal = tt;
-      told = subst (Tells s run) (sym turn.1) h;
+      told = subst (ToldBy s run) (sym turn.1) h;
       between = subst IsBetween (sym turn.1) between;
     }
     turn_told (suc left) run x bytes turn h between tame runs room =

@@ -5,6 +5,7 @@ pub mod BetweenRounds
 pub mod EntriesDealt
 pub mod TurnChain
 pub mod RenderTold
+pub mod OwnKept
 pub mod IdlePoll
 pub mod FastCycle
 pub mod FastTurnTold

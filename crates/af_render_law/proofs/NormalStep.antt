@@ -1,5 +1,5 @@
 -- A turn of the normal mixer that hadn't ended is a step of the run, and the queue is known again.
-use Rattle.std.proofs.Common.{Bool, List, MatchBool, MatchOption, None, Option, Some, [], ap, false, inr, length, refl, subst, sym, take, true, true≢false, ℕ, ◌++◌, ◌+◌, ◌∙◌, ◌∷◌, ◌≡◌}
+use Rattle.std.proofs.Common.{Bool, List, MatchBool, MatchOption, None, Option, Some, [], ap, arith, false, inr, length, refl, subst, sym, take, true, true≢false, ℕ, ◌++◌, ◌+◌, ◌<◌, ◌∙◌, ◌∷◌, ◌≡◌}
 use Rattle.std.proofs.lemmas.Option.{same_Some}
 use Rattle.std.specs.Prelude.{slice_index_or}
 use Rattle.std.proofs.lemmas.Bool.{MatchBool-at_false}
@@ -14,7 +14,7 @@ use Rattle.af_normal.specs.TurnMade.{TurnMade, answer_of}
 use Rattle.af_runs.specs.Blocks.{Marks}
 use Rattle.af_runs.specs.Found.{LegalTurnBy, TurnFound}
 use Rattle.af_runs.specs.Rounds.{loaded, turned}
-use Rattle.af_runs.specs.Runs.{Run, found_before, report_of, with_ends, with_load, with_turn}
+use Rattle.af_runs.specs.Runs.{Run, TrackTold, found_before, report_of, side_of, sides_of, told_at, with_ends, with_load, with_turn}
 use Rattle.af_runs.specs.Runs as run_of
 use Rattle.af_runs.specs.Sessions.{Session, cycle_frames, setup_of}
 use Rattle.af_runs.specs.TurnRuns.{IsMadeBy, OnlyCalls, made_alone, met_alone}
@@ -28,18 +28,16 @@ use Rattle.af_stateq.specs.Ends.{Pushes}
 use Rattle.af_turn_law.specs.Acting.{FindsShutUnseen}
 use Rattle.af_render_law.proofs.Chain.{Holds, NormalTurnIsAStep}
 use Rattle.af_told_law.specs.Sizes.{AreSmall}
-use Rattle.af_render_law.specs.Laws.{StepIsTold, round_of}
-use Rattle.af_told_law.specs.NormalLaws.{PartsAreTold, PartsTold, TurnShown}
+use Rattle.af_render_law.specs.Laws.{StepIsTold, ToldBy, round_of}
+use Rattle.af_told_law.specs.NormalLaws.{PartsAreTold, PartsTold, TurnShown, did_by}
 use Rattle.af_told_law.specs.Own.{SeesOwn}
 use Rattle.af_told_law.specs.QueueTurned.{QueueKnown}
 use Rattle.af_told_law.specs.Tells.{Tells, given_of}
-use Rattle.af_told_law.proofs.AllMeet.{met_histories, tells_met}
 use Rattle.af_render_law.proofs.BetweenRounds.{leads_turned}
 use Rattle.af_render_law.proofs.ClientRound.{none_else}
-use Rattle.af_told_law.proofs.EndsTold.{ends_told}
 use Rattle.af_told_law.proofs.KnownSteps.{Quiet, known_same, quiet_ends, quiet_met, quiet_then}
 use Rattle.af_told_law.proofs.MeetsShow.{meetings_show}
-use Rattle.af_told_law.proofs.NormalRound.{known_now, legal_now, tells_turned}
+use Rattle.af_told_law.proofs.NormalRound.{known_now, legal_now, sides_same, tells_turned, then_at, then_long}
 use Rattle.af_render_law.proofs.ShutUnseen.{shut_unseen}
 use Rattle.af_told_law.proofs.TameRuns.{small_told}
 use Rattle.af_told_law.proofs.TurnCounts.{turns_made}
@@ -49,10 +47,22 @@ use Rattle.af_life.specs.TurnEvents.{going}
 use Rattle.af_told_law.proofs.LoadTold.{known_loaded, load_told}
 use Rattle.af_render_law.proofs.TurnMet.{load_is, turn_shown}
 use Rattle.af_told_law.specs.Between.{StandsBefore}
+use Rattle.af_runs.specs.ClientTurns.{Track}
+use Rattle.af_render_law.proofs.OwnKept.{left_histories, left_met, saw_loaded, saw_now, saw_sides, turned_own}
+use Rattle.af_told_law.specs.Deeds.{Deeds, SawOwnBy, tame_marks}
 
 -- one turn more is counted
 made_turns : (x y : NormalState) → TurnMade (answer_of (turn_of y.entry)) x y → y.turns ≡ x.turns + 1
 made_turns x y made = turns_made (answer_of (turn_of y.entry)) x y made
+
+-- a load changes no track
+same_track : (e : Turn) (run : Run) (i : ℕ) → told_at (with_load e run) i ≡ told_at run i
+unfolding with_load
+same_track e run i = refl
+
+same_many : (e : Turn) (run : Run) → length (with_load e run).tracks ≡ length run.tracks
+unfolding with_load
+same_many e run = refl
 
 -- a turn stores no report
 same_reports : (s : Session) (f : TurnFound) (e : Turn) (run : Run) → run.reports ≡ (with_turn s f e run).reports
@@ -103,7 +113,7 @@ module _ (s : Session) (marks : Marks) (parts : PartsAreTold s) (run : Run) (x :
   -- the meetings show that each front was a server's own
   own : SeesOwn then_x
   own =
-      let small : AreSmall x = small_told s run x holds.told holds.small in
+      let small : AreSmall x = small_told s run x holds.told.told holds.small in
       meetings_show links then_x w.met (record { streams = small.streams; commands = small.commands }) after w.together.met
       (leads_turned links x n w.met one.2.outside w.together.before legal holds.stands meets w.together.met).state
       meets
@@ -113,10 +123,10 @@ module _ (s : Session) (marks : Marks) (parts : PartsAreTold s) (run : Run) (x :
   found = found_before s run [] e
 
   seen : TurnShown s run x n one.2.outside found
-  seen = turn_shown s run x n w.met links one.2.outside w.together.before holds.told holds.report legal made meets
+  seen = turn_shown s run x n w.met links one.2.outside w.together.before holds.told.told holds.report legal made meets
 
-  all_parts : PartsTold s run x n one.2.outside found legal
-  all_parts = parts links run x n one.2.outside found w.together.before after holds.told before_turn legal made seen own holds.queue runs
+  all_parts : PartsTold s run holds.told.deeds x n one.2.outside found legal
+  all_parts = parts links run holds.told.deeds x n one.2.outside found w.together.before after holds.told.told before_turn legal made seen holds.queue runs
 
   -- the number of turns rises
   turns : n.turns ≡ x.normal.turns + 1
@@ -129,17 +139,51 @@ module _ (s : Session) (marks : Marks) (parts : PartsAreTold s) (run : Run) (x :
   abbrev then_run : Run
   then_run = with_load e turned_run
 
-  told : Tells s then_run then_x
-  told = load_told s turned_run then_x x.normal.reader e
-      (tells_turned s run x n links one.2.outside found holds.told marks holds.marked w.together.before after legal made seen before_turn own holds.queue runs holds.cells all_parts turns)
-      (load_is s run x n w.met links one.2.outside w.together.before holds.told holds.report legal made meets ∙ ap (λ (rs : List Report). x.normal.reader.events ++ going e (Load e.cycle (report_of rs e.cycle) ∷ [])) (same_reports s found e run))
+  -- what the servers did up to its end
+  abbrev then_deeds : Deeds
+  then_deeds = did_by one.2.outside x n holds.told.deeds
+
+  told_turned : Tells s turned_run then_deeds (record x { normal = record n { reader = x.normal.reader } })
+  told_turned = tells_turned s run x n links one.2.outside found holds.told.told w.together.before after legal made seen before_turn holds.queue runs holds.cells all_parts turns
+
+  told : Tells s then_run then_deeds then_x
+  told = load_told s turned_run then_x x.normal.reader e told_turned
+      (load_is s run x n w.met links one.2.outside w.together.before holds.told.told holds.report legal made meets ∙ ap (λ (rs : List Report). x.normal.reader.events ++ going e (Load e.cycle (report_of rs e.cycle) ∷ [])) (same_reports s found e run))
+
+  -- the turn leaves the clients' sides
+  many_turned : length turned_run.tracks ≡ length run.tracks
+  many_turned = then_long s run x n links one.2.outside found holds.told.told w.together.before after legal made seen before_turn holds.queue runs holds.cells all_parts
+
+  turned_sides : (i : ℕ) → i < length run.tracks → sides_of (told_at turned_run i) ≡ sides_of (told_at run i)
+  turned_sides i low =
+      ap sides_of (then_at s run x n links one.2.outside found holds.told.told w.together.before after legal made seen before_turn holds.queue runs holds.cells all_parts i low)
+      ∙ sides_same s run x n links one.2.outside found holds.told.told w.together.before after legal made seen before_turn holds.queue runs holds.cells all_parts i
+
+  same_sides : (i : ℕ) → i < length run.tracks → (side_of (told_at turned_run i).stream ≡ side_of (told_at run i).stream) × (side_of (told_at turned_run i).commands ≡ side_of (told_at run i).commands)
+  same_sides i low = (ap (λ (y : Track). y.stream) (turned_sides i low), ap (λ (y : Track). y.commands) (turned_sides i low))
+
+  -- each front seen up to its end is a server's own: one whose proxy isn't home was not looked at
+  old_saw : SawOwnBy (tame_marks then_run) then_run holds.told.deeds
+  old_saw = saw_loaded e turned_run holds.told.deeds (saw_sides run turned_run holds.told.deeds many_turned same_sides holds.told.saw)
+
+  then_saw : SawOwnBy (tame_marks then_run) then_run then_deeds
+  then_saw = saw_now links s then_run then_x after told own (λ i low gone none tame. turned_own links x n one.2.outside w.together.before legal i (told_at then_run i).stream.shape (holds.told.deeds.streams i) gone (old_saw.streams i low tame))
+
+  -- by the run before it
+  before_saw : SawOwnBy marks run then_deeds
+  before_saw =
+      let loaded_many : length then_run.tracks ≡ length turned_run.tracks = same_many e turned_run in
+      let same : (i : ℕ) → i < length then_run.tracks → (side_of (told_at run i).stream ≡ side_of (told_at then_run i).stream) × (side_of (told_at run i).commands ≡ side_of (told_at then_run i).commands) =
+      (λ i low. let both = same_sides i (let a = many_turned in omega (arith, low, a, loaded_many)) in (sym (ap (λ (t : TrackTold). side_of t.stream) (same_track e turned_run i) ∙ both.0), sym (ap (λ (t : TrackTold). side_of t.commands) (same_track e turned_run i) ∙ both.1))) in
+      let saw = saw_sides then_run run then_deeds (let a = many_turned in omega (arith, a, loaded_many)) same then_saw in
+      record { streams = (λ i low on. saw.streams i low ((holds.marked i low).stream on)); commands = (λ i low on. saw.commands i low ((holds.marked i low).commands on)) }
 
   -- the run after the turn of this round
   run_is : made_alone s run makes.Normal round ≡ then_run
   run_is = ap (λ (o : Option Turn). loaded o (turned s (found_before s run []) o run)) (ap (λ (q : RoundNoted). q.turn) is_round)
 
-  told_made : Tells s (made_alone s run makes.Normal round) w.turned
-  told_made = subst (λ (q : Run × SessionState). Tells s q.0 q.1) (λ i. (sym run_is i, sym leaves i)) told
+  left_made : ToldBy s (made_alone s run makes.Normal round) w.turned
+  left_made = subst (λ (q : Run × SessionState). ToldBy s q.0 q.1) (λ i. (sym run_is i, sym leaves i)) (record { deeds = then_deeds; told = told; saw = then_saw })
 
   only : OnlyCalls (λ t. ⊥) round
   only j = inr (ap (λ (q : RoundNoted). slice_index_or q.calls j []) is_round ∙ none_else (length x.clients) j)
@@ -147,8 +191,8 @@ module _ (s : Session) (marks : Marks) (parts : PartsAreTold s) (run : Run) (x :
   legal_turn : IsMadeBy s marks run makes.Normal round
   legal_turn =
       let is : LegalTurnBy (setup_of s) marks (found_before s run [] e) run.normal e =
-      legal_now s run x n links one.2.outside found holds.told marks holds.marked w.together.before after legal made seen before_turn own holds.queue runs holds.cells all_parts in
-      let ended : run.normal.ended ≡ false = sym (ap (λ (k : NormalKept). k.ended) holds.told.normal.kept) ∙ runs in (
+      legal_now s run x n links one.2.outside found holds.told.told w.together.before after legal made seen before_turn holds.queue runs holds.cells all_parts marks before_saw in
+      let ended : run.normal.ended ≡ false = sym (ap (λ (k : NormalKept). k.ended) holds.told.told.normal.kept) ∙ runs in (
         only,
         ap (λ (q : RoundNoted). take q.cycles entries) is_round,
         subst (λ (b : Bool). MatchBool b (round.turn ≡ None) (MatchOption round.turn ⊥ (λ e. LegalTurnBy (setup_of s) marks (found_before s run [] e) run.normal e))) (sym ended)
@@ -162,19 +206,18 @@ module _ (s : Session) (marks : Marks) (parts : PartsAreTold s) (run : Run) (x :
       by_end : (b : Bool) → e.ended ≡ b → FindsShutUnseen s run (found_before s run [] e) e
       by_end true over = λ goes. absurd (true≢false (sym over ∙ goes))
       by_end false goes =
-          shut_unseen links s run x n one.2.outside holds.told w.together.before after legal goes own found seen.finds (seen.hears goes) (all_parts.comers goes) holds.aware holds.invalid holds.tame.is_open
+          shut_unseen links s run x n one.2.outside holds.told.told holds.told.saw w.together.before legal goes found seen.finds (seen.hears goes) (all_parts.comers goes) holds.aware holds.invalid holds.tame.is_open
 
   step : StepIsTold s marks run makes.Normal round y
   step = record {
     made = legal_turn;
-    histories = met_histories links s (made_alone s run makes.Normal round) w.turned w.met w.together.turned w.together.met told_made w.meets;
-    told = subst (Tells s (with_ends (met_alone s run makes.Normal round))) (sym w.ends)
-        (ends_told s (met_alone s run makes.Normal round) w.met (tells_met links s (made_alone s run makes.Normal round) w.turned w.met w.together.turned w.together.met told_made w.meets));
+    histories = left_histories links s (made_alone s run makes.Normal round) w.turned w.met w.together.turned w.together.met w.meets left_made;
+    left = subst (ToldBy s (with_ends (met_alone s run makes.Normal round))) (sym w.ends) (left_met links s (made_alone s run makes.Normal round) w.turned w.met w.together.turned w.together.met w.meets left_made);
     unseen = unseen;
   }
 
   known_turned : QueueKnown (cycle_frames s) then_run n
-  known_turned = known_loaded (cycle_frames s) turned_run e n (known_now s run x n links one.2.outside found holds.told marks holds.marked w.together.before after legal made seen before_turn own holds.queue runs holds.cells all_parts)
+  known_turned = known_loaded (cycle_frames s) turned_run e n (known_now s run x n links one.2.outside found holds.told.told w.together.before after legal made seen before_turn holds.queue runs holds.cells all_parts)
 
   known : QueueKnown (cycle_frames s) (with_ends (met_alone s run makes.Normal round)) y.normal
   known =

@@ -1,5 +1,5 @@
 -- The journal of a render is by itself a turn run, and the run that it tells tells the parties.
-use Rattle.std.proofs.Common.{◌≡◌, ℕ, ◌+◌, ◌<◌, inl, true, List, [], ◌∷◌, length, refl, sym, ap, subst, ◌∙◌, arith, slice_get}
+use Rattle.std.proofs.Common.{List, [], ap, arith, inl, length, refl, slice_get, subst, sym, ℕ, ◌+◌, ◌<◌, ◌∙◌, ◌∷◌, ◌≡◌}
 use Rattle.std.proofs.lemmas.Option.{none-some, same_Some, slice_get_within}
 use Rattle.af_base.specs.declared.frame.Frame.{Frame}
 use Rattle.af_base.specs.Log.{Logged}
@@ -26,15 +26,14 @@ use Rattle.af_normal.specs.State.{NormalState}
 use Rattle.af_judge.proofs.StatesRuns.{scales_of}
 use Rattle.af_render_law.specs.Aware.{KnowsAway}
 use Rattle.af_render_law.proofs.Chain.{AreCounted, FastTurnIsAStep, Holds, NormalTurnIsAStep, entries_grown}
-use Rattle.af_render_law.specs.Laws.{AreSteps}
+use Rattle.af_render_law.specs.Laws.{AreSteps, ToldBy}
 use Rattle.af_told_law.specs.Marked.{AreRoundsMarked}
-use Rattle.af_told_law.specs.Tells.{Tells}
 use Rattle.af_render_law.proofs.BetweenRounds.{stands_first}
 use Rattle.af_render_law.proofs.InvalidKept.{invalid_new}
 use Rattle.af_told_law.proofs.KnownSteps.{known_new}
 use Rattle.af_told_law.proofs.LogMore.{all_asked}
 use Rattle.af_told_law.proofs.MarkedRuns.{marks_free, new_marked}
-use Rattle.af_told_law.proofs.NewTold.{new_told}
+use Rattle.af_told_law.proofs.NewTold.{new_told, no_deeds}
 use Rattle.af_told_law.proofs.PipeCells.{cells_new}
 use Rattle.af_told_law.proofs.SmallRuns.{new_small}
 use Rattle.af_render_law.proofs.StepTurns.{steps_turns}
@@ -77,7 +76,7 @@ module _ (script : ScriptData) (files : List (List Frame)) (form : IsScript scri
 
     holds_first : Holds s marks (new_run s) rendered.start (all_asked script.turns)
     holds_first = record {
-      told = new_told script files rendered.shared rendered.start rendered.new;
+      told = record { deeds = no_deeds; told = new_told script files rendered.shared rendered.start rendered.new; saw = record { streams = (λ i low tame. tt); commands = (λ i low tame. tt) } };
       stands = stands_first script rendered.shared rendered.start rendered.new;
       marked = new_marked marks s (new_small script files rendered.shared rendered.start rendered.new);
       queue = known_new script files rendered.shared rendered.start rendered.new;
@@ -101,7 +100,7 @@ module _ (script : ScriptData) (files : List (List Frame)) (form : IsScript scri
     chained = subst (λ (es : List EntrySeen). AreSteps s marks (new_run s) script.turns (rounds_seen es rounds) t × AreCounted t) all_grown
         (chain s marks (scales_of s form) (normal_step marks) (fast_step marks) (length script.tracks) script.turns (new_run s) rendered.start rounds rendered.bytes t form.turns free holds_first rendered.run)
 
-    turns : AreListTurns s marks (new_run s) script.turns seen × FindShutUnseen s (new_run s) script.turns seen × Tells s (run_alone s (new_run s) script.turns seen) t
+    turns : AreListTurns s marks (new_run s) script.turns seen × FindShutUnseen s (new_run s) script.turns seen × ToldBy s (run_alone s (new_run s) script.turns seen) t
     turns = steps_turns s marks (new_run s) script.turns seen t chained.0
 
   module _ (j : JournalData) (ends : EndsState) (back : HandsBack script files j ends) where
@@ -117,8 +116,8 @@ module _ (script : ScriptData) (files : List (List Frame)) (form : IsScript scri
     }
 
     -- and the run that it tells tells the parties
-    pub parties_told : Tells s (run_alone s (new_run s) script.turns j.rounds) back.parties
-    parties_told = subst (λ (rs : List RoundSeen). Tells s (run_alone s (new_run s) script.turns rs) back.parties) (sym rounds_are) (turns back.rounds back.parties back.rendered).2
+    pub parties_told : ToldBy s (run_alone s (new_run s) script.turns j.rounds) back.parties
+    parties_told = subst (λ (rs : List RoundSeen). ToldBy s (run_alone s (new_run s) script.turns rs) back.parties) (sym rounds_are) (turns back.rounds back.parties back.rendered).2
 
     pub parties_counted : AreCounted back.parties
     parties_counted = (chained back.rounds back.parties back.rendered).1

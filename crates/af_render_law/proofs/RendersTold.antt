@@ -33,7 +33,7 @@ module _ (script : ScriptData) (files : List (List Frame)) (j : JournalData) (en
   render_turns = turn_run script files form normal fast j ends back
 
   pub render_summed : summary_told script.frames j ends ≡ summary_alone script files j
-  render_summed = summary_is script files j ends back.parties back.ends_are (parties_told script files form normal fast j ends back) (parties_counted script files form normal fast j ends back)
+  render_summed = summary_is script files j ends back.parties back.ends_are (parties_told script files form normal fast j ends back).told (parties_counted script files form normal fast j ends back)
 
 pub render_told : (script : ScriptData) (files : List (List Frame)) (j : JournalData) (ends : EndsState) → RendersAreToldAlone script files j ends
 render_told script files j ends form back = record { run = render_turns script files j ends form back; summary = render_summed script files j ends form back }

@@ -1,7 +1,6 @@
 -- Of a track that a turn of the normal mixer finds shut as its stream proxy comes home, the client has not seen INVALID: the hand knew the proxy's list when it last met the client, and INVALID isn't in it.
 use Rattle.std.proofs.Common.{◌≡◌, ◌≢◌, ◌⊎◌, inl, inr, ℕ, zero, suc, ◌<◌, ◌≤◌, ◌||◌, ◌&&◌, ◌==◌, Bool, true, false, true≢false, is_some, List, [], ◌∷◌, length, slice_get, Option, Some, None, refl, sym, ap, subst, ◌∙◌, arith}
 use Rattle.std.specs.List.{list_any, range_with_len}
-use Rattle.std.proofs.lemmas.Option.{none-some}
 use Rattle.af_base.specs.declared.event.HandEvent.{HandEvent}
 use Rattle.af_base.specs.declared.event.ServerEvent.{ServerEvent}
 use Rattle.af_base.specs.Log.{slots}
@@ -27,32 +26,31 @@ use Rattle.af_runs.specs.ClientTurns.{Track}
 use Rattle.af_runs.specs.Found.{TurnFound, outside_of}
 use Rattle.af_runs.specs.Runs.{Run, takes_part, told_at}
 use Rattle.af_runs.specs.Sessions.{Session, setup_of}
-use Rattle.af_session.specs.Met.{item_at, slot_for}
+use Rattle.af_session.specs.Met.{item_at}
 use Rattle.af_session.specs.Together.{AreTogether, SessionState}
 use Rattle.af_audit.proofs.Booleans.{neither}
 use Rattle.af_judge.proofs.SoundTurns.{sound_acked}
 use Rattle.af_turn_law.specs.Acting.{FindsShutUnseen, SawNoInvalid}
 use Rattle.af_render_law.specs.Aware.{KnowsAway}
 use Rattle.af_told_law.specs.Comers.{ComersTell}
-use Rattle.af_told_law.specs.Own.{SeesOwn}
 use Rattle.af_told_law.specs.Tells.{Tells, held_slot}
 use Rattle.af_told_law.proofs.AllMeet.{some_at}
 use Rattle.af_render_law.proofs.InvalidKept.{InvalidKept, away_unset}
 use Rattle.af_told_law.proofs.LegalAlike.{invalid_same}
 use Rattle.af_render_law.proofs.NoInvalid.{HandSetNoInvalid, SetNoInvalid, set_first, unseen}
-use Rattle.af_told_law.proofs.NormalFound.{stream_found, turn_alike}
+use Rattle.af_told_law.proofs.NormalFound.{client_at, stream_real, turn_alike}
 use Rattle.af_render_law.proofs.RunCalm.{AllOpen}
 use Rattle.af_told_law.proofs.SlotHeld.{is_held}
 use Rattle.af_told_law.proofs.TurnAlike.{learn_alike, served_holder, tracks_same}
 use Rattle.af_told_law.specs.Outsides.{FindsBlocks, HeardAlike}
+use Rattle.af_told_law.specs.Deeds.{Deeds, SawOwnBy, tame_marks}
 
 none_there : {X : Type 0} (o : Option X) → is_some o ≡ false → o ≡ None
 none_there None h = refl
 none_there (Some x) h = absurd (true≢false h)
 
-module _ (links : Links) (s : Session) (run : Run) (x : SessionState) (n : NormalState) (o : Outside) (told : Tells s run x) (before : AreTogether links x) (after : AreTogether links (record x { normal = n })) (legal : IsLegal o x.normal n)
-    (runs : (turn_of n.entry).ended ≡ false) (own : SeesOwn (record x { normal = n })) (f : TurnFound) (finds : FindsBlocks run f) (report : HeardAlike (after_ack (turn_of n.entry).ack (kept_of x.normal)).tracks o.report f.report)
-    (comers : ComersTell run x.normal (turn_of n.entry) legal.lists.back) (aware : KnowsAway x) (kept : InvalidKept run) (is_open : AllOpen run) where
+module _ (links : Links) (s : Session) (run : Run) {d : Deeds} (x : SessionState) (n : NormalState) (o : Outside) (told : Tells s run d x) (saw : SawOwnBy (tame_marks run) run d) (before : AreTogether links x) (legal : IsLegal o x.normal n) (runs : (turn_of n.entry).ended ≡ false) (f : TurnFound) (finds : FindsBlocks run f) (report : HeardAlike (after_ack (turn_of n.entry).ack (kept_of x.normal)).tracks o.report f.report)
+    (comers : ComersTell run d x.normal (turn_of n.entry) legal.lists.back) (aware : KnowsAway x) (kept : InvalidKept run) (is_open : AllOpen run) where
   abbrev e : Turn
   e = turn_of n.entry
 
@@ -78,7 +76,9 @@ module _ (links : Links) (s : Session) (run : Run) (x : SessionState) (n : Norma
 
     -- the list with which the proxy comes home is the one that is told
     list_is : (o.streams i).events ≡ server_list (told_at run i).stream
-    list_is = ap (λ (l : Listed). l.events) (stream_found links s run x n o told before after legal runs own f finds report comers i inside tame came)
+    list_is =
+        let client = client_at links s run x n o told before legal runs f finds report comers i inside in
+        ap (λ (l : Listed). l.events) (stream_real links s run x n o told before legal runs f finds report comers i inside came) ∙ (told.tracks i client.0 client.1).did.stream.own (saw.streams i low tame)
 
     -- who takes part is home or held
     part_is : takes_part s run i ≡ (is_home (track_at run.normal.tracks i).holder || is_some (held_slot x.fast i))
@@ -123,12 +123,12 @@ module _ (links : Links) (s : Session) (run : Run) (x : SessionState) (n : Norma
 
       -- the same by what the mixer saw
       found_then : invalid (learnt o) (track_in e i) (tracks_at (mixer_setup x.normal) (learnt o) (kept_of x.normal) e i) i ≢ []
-      found_then none = found (sym (invalid_same (setup_of s) run.normal e o p sound (turn_alike links s run x n o told before after legal runs own f finds report comers) i (let l = long in let a = inside in let t = ap (λ (k : NormalKept). length k.tracks) told.normal.kept in omega (arith, a, t)))
+      found_then none = found (sym (invalid_same (setup_of s) run.normal e o p sound (turn_alike links s run x n o told before legal runs f finds report comers) i (let l = long in let a = inside in let t = ap (λ (k : NormalKept). length k.tracks) told.normal.kept in omega (arith, a, t)))
           ∙ ap (λ (y : Setup × NormalKept). invalid (learnt o) (track_in e i) (tracks_at y.0 (learnt o) y.1 e i) i) (λ j. (sym told.normal.setup j, sym told.normal.kept j)) ∙ none)
 
       home_then : is_home (track_at (tracks_at (mixer_setup x.normal) (learnt o) (kept_of x.normal) e i) i).holder ≡ true
       home_then = ap (λ (y : Setup × NormalKept). is_home (track_at (tracks_at y.0 (learnt o) y.1 e i) i).holder) (λ j. (told.normal.setup j, told.normal.kept j))
-          ∙ ap (λ (ts : List TrackKept). is_home (track_at ts i).holder) (tracks_same (setup_of s) (learnt o) (learnt p) run.normal e sound (learn_alike run.normal e o p (turn_alike links s run x n o told before after legal runs own f finds report comers)) i)
+          ∙ ap (λ (ts : List TrackKept). is_home (track_at ts i).holder) (tracks_same (setup_of s) (learnt o) (learnt p) run.normal e sound (learn_alike run.normal e o p (turn_alike links s run x n o told before legal runs f finds report comers)) i)
           ∙ home
 
       -- the hand knew a beginning of the list

@@ -8,10 +8,9 @@ use Rattle.af_runs.specs.TurnRuns.{met_alone, run_alone}
 use Rattle.af_script.specs.declared.op.TurnSpec.{TurnSpec}
 use Rattle.af_session.specs.Together.{SessionState}
 use Rattle.af_turn_law.specs.ListTurns.{AreListTurns, FindShutUnseen}
-use Rattle.af_render_law.specs.Laws.{AreSteps}
-use Rattle.af_told_law.specs.Tells.{Tells}
+use Rattle.af_render_law.specs.Laws.{AreSteps, ToldBy}
 
-pub steps_turns : (s : Session) (marks : Marks) (run : Run) (turns : List TurnSpec) (rounds : List RoundSeen) (y : SessionState) → AreSteps s marks run turns rounds y → AreListTurns s marks run turns rounds × FindShutUnseen s run turns rounds × Tells s (run_alone s run turns rounds) y
+pub steps_turns : (s : Session) (marks : Marks) (run : Run) (turns : List TurnSpec) (rounds : List RoundSeen) (y : SessionState) → AreSteps s marks run turns rounds y → AreListTurns s marks run turns rounds × FindShutUnseen s run turns rounds × ToldBy s (run_alone s run turns rounds) y
 steps_turns s marks run [] rounds y are = (are.0, tt, are.1)
 steps_turns s marks run (turn ∷ turns) [] y are = absurd are
 steps_turns s marks run (turn ∷ turns) (round ∷ rounds) y are =

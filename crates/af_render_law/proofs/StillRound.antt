@@ -10,7 +10,7 @@ use Rattle.af_model.specs.Journals.{EntrySeen, RoundNoted, RoundSeen}
 use Rattle.af_runs.specs.Blocks.{Marks}
 use Rattle.af_runs.specs.Found.{LegalTurnBy}
 use Rattle.af_runs.specs.Rounds.{HaveHistories, IsFastTurn, loaded, turned}
-use Rattle.af_runs.specs.Runs.{Run, calls_in, fast_ended, found_before, with_ends}
+use Rattle.af_runs.specs.Runs.{Run, fast_ended, found_before, with_ends}
 use Rattle.af_runs.specs.Runs as run_of
 use Rattle.af_runs.specs.Sessions.{Session, setup_of}
 use Rattle.af_runs.specs.TurnRuns.{IsMadeBy, LegalAlone, OnlyCalls, cycle_alone, made_alone}
@@ -20,13 +20,12 @@ use Rattle.af_session.specs.FastTurns as parties
 use Rattle.af_session.specs.Met.{Met}
 use Rattle.af_session.specs.Rounds.{IsRound, NormalTurned, fast_round, normal_round, still_round}
 use Rattle.af_session.specs.Together.{AreTogether, SessionState}
-use Rattle.af_render_law.specs.Laws.{StepIsTold, round_of}
-use Rattle.af_told_law.specs.Tells.{Tells, given_of}
-use Rattle.af_told_law.proofs.AllMeet.{met_histories, tells_met}
+use Rattle.af_render_law.specs.Laws.{StepIsTold, ToldBy, round_of}
+use Rattle.af_told_law.specs.Tells.{given_of}
 use Rattle.af_render_law.proofs.ClientRound.{none_else}
-use Rattle.af_told_law.proofs.EndsTold.{ends_told}
+use Rattle.af_render_law.proofs.OwnKept.{left_histories, left_met}
 
-module _ (links : Links) (s : Session) (marks : Marks) (run : Run) (x : SessionState) (r : RoundNoted) (bytes : List ℕ) (y : SessionState) (entries : List EntrySeen) (h : Tells s run x) (together : AreTogether links x) where
+module _ (links : Links) (s : Session) (marks : Marks) (run : Run) (x : SessionState) (r : RoundNoted) (bytes : List ℕ) (y : SessionState) (entries : List EntrySeen) (h : ToldBy s run x) (together : AreTogether links x) where
   abbrev round : RoundSeen
   round = round_of r entries
 
@@ -36,8 +35,8 @@ module _ (links : Links) (s : Session) (marks : Marks) (run : Run) (x : SessionS
       let meets : Met x w.met = subst (λ (z : SessionState). Met z w.met) same w.meets in
       record {
         made = made;
-        histories = subst (λ (q : Run). HaveHistories s (run_of.met s q)) (sym still) (met_histories links s run x w.met together met h meets);
-        told = subst (λ (q : Run × SessionState). Tells s (with_ends (run_of.met s q.0)) q.1) (λ j. (sym still j, sym w.ends j)) (ends_told s (run_of.met s run) w.met (tells_met links s run x w.met together met h meets));
+        histories = subst (λ (q : Run). HaveHistories s (run_of.met s q)) (sym still) (left_histories links s run x w.met together met meets h);
+        left = subst (λ (q : Run × SessionState). ToldBy s (with_ends (run_of.met s q.0)) q.1) (λ j. (sym still j, sym w.ends j)) (left_met links s run x w.met together met meets h);
         unseen = λ e is. absurd (none-some e (sym none ∙ is));
       }
 
@@ -55,7 +54,7 @@ module _ (links : Links) (s : Session) (marks : Marks) (run : Run) (x : SessionS
   pub normal_still : x.normal.ended ≡ true → (w : IsRound (given_of s) makes.Normal x r bytes y) → AreTogether links w.met → StepIsTold s marks run makes.Normal round y
   normal_still over w met =
       let both = MatchBool-at_true ((r ≡ still_round x) × (w.turned ≡ x)) ((e : Turn) × (r ≡ normal_round x e) × NormalTurned x w.turned e) over w.turns.1 in
-      let ended : run.normal.ended ≡ true = sym (ap (λ (k : NormalKept). k.ended) h.normal.kept) ∙ over in
+      let ended : run.normal.ended ≡ true = sym (ap (λ (k : NormalKept). k.ended) h.told.normal.kept) ∙ over in
       step_still makes.Normal w met both.1 (ap (λ (o : Option Turn). loaded o (turned s (found_before s run []) o run)) (no_turn both.0)) (
         no_calls both.0,
         no_entries both.0,
@@ -66,7 +65,7 @@ module _ (links : Links) (s : Session) (marks : Marks) (run : Run) (x : SessionS
   pub fast_still : (count : ℕ) → x.fast.exited ≡ true → (w : IsRound (given_of s) (makes.Fast count) x r bytes y) → AreTogether links w.met → StepIsTold s marks run (makes.Fast count) round y
   fast_still count over w met =
       let all = MatchBool-at_true ((r ≡ still_round x) × (bytes ≡ []) × (w.turned ≡ x)) ((r ≡ fast_round x w.turned) × parties.IsFastTurn count x bytes w.turned) over w.turns in
-      let ended : fast_ended run ≡ true = sym h.fast.exited ∙ over in
+      let ended : fast_ended run ≡ true = sym h.told.fast.exited ∙ over in
       step_still (makes.Fast count) w met all.2 (ap (fold (cycle_alone s) run) (no_entries all.0)) (
         no_calls all.0,
         no_turn all.0,

@@ -16,6 +16,7 @@ use Rattle.af_tally.specs.Summaries.{summary_of}
 use Rattle.af_render_law.proofs.Chain.{AreCounted}
 use Rattle.af_render_law.specs.RenderLaws.{run_told, summary_alone}
 use Rattle.af_told_law.specs.Tells.{Tells}
+use Rattle.af_told_law.specs.Deeds.{Deeds}
 
 -- two lists give the same where each place does
 same_maps : (xs : List PartyState) (ts : List TrackTold) → length ts ≡ length xs → ((i : ℕ) (p : PartyState) (t : TrackTold) → slice_get xs i ≡ Some p → slice_get ts i ≡ Some t → p.stream.released ≡ length t.stream.released)
@@ -25,7 +26,7 @@ same_maps [] (t ∷ ts) long each = absurd (omega arith)
 same_maps (p ∷ xs) [] long each = absurd (omega arith)
 same_maps (p ∷ xs) (t ∷ ts) long each = λ i. each 0 p t refl refl i ∷ same_maps xs ts (omega arith) (λ j q u is at. each (suc j) q u is at) i
 
-module _ (s : Session) (run : Run) (x : SessionState) (told : Tells s run x) (counted : AreCounted x) where
+module _ (s : Session) (run : Run) {d : Deeds} (x : SessionState) (told : Tells s run d x) (counted : AreCounted x) where
   released_told : released_by x.clients ≡ map (λ (t : TrackTold). length t.stream.released) run.tracks
   released_told = same_maps x.clients run.tracks (told.count.0 ∙ sym told.count.1) (λ i p t is at.
       let here : told_at run i ≡ t = get_or_from_slice_get run.tracks i t _ at in
@@ -33,7 +34,7 @@ module _ (s : Session) (run : Run) (x : SessionState) (told : Tells s run x) (co
       counted i p is ∙ ap (λ (q : Track). length q.stream.released) (sym client) ∙ ap (λ (q : TrackTold). length q.stream.released) here)
 
 -- the summary by the parties is that by the run
-pub summary_is : (script : ScriptData) (files : List (List Frame)) (j : JournalData) (ends : EndsState) (x : SessionState) → ends ≡ ends_from x → Tells (session_of script files) (run_told script files j) x → AreCounted x → summary_told script.frames j ends ≡ summary_alone script files j
+pub summary_is : (script : ScriptData) (files : List (List Frame)) (j : JournalData) (ends : EndsState) (x : SessionState) {d : Deeds} → ends ≡ ends_from x → Tells (session_of script files) (run_told script files j) d x → AreCounted x → summary_told script.frames j ends ≡ summary_alone script files j
 summary_is script files j ends x is told counted =
     ap (summary_told script.frames j) is
     ∙ (λ i. let seen = entries_of j.rounds in summary_of (shows (told.normal.states i) script.frames j.tracks (map (λ r. r.calls) j.rounds) (map (λ r. r.turn) j.rounds) (frames_of seen) (map (λ e. e.entry) seen)) (released_told (session_of script files) (run_told script files j) x told counted i))

@@ -35,10 +35,10 @@ use Rattle.af_client.specs.Order.{ClientState}
 use Rattle.af_render_law.specs.Aware.{KnowsAway}
 use Rattle.af_told_law.specs.Between.{StandsBetween}
 use Rattle.af_render_law.proofs.Chain.{AreCounted, FastTurnIsAStep, Holds, NormalTurnIsAStep, entries_grown}
-use Rattle.af_render_law.specs.Laws.{AreSteps, StepIsTold, round_of}
+use Rattle.af_render_law.specs.Laws.{AreSteps, StepIsTold, ToldBy, round_of}
 use Rattle.af_told_law.specs.Marked.{AreRoundsMarked, IsRoundMarked}
 use Rattle.af_told_law.specs.QueueTurned.{QueueKnown}
-use Rattle.af_told_law.specs.Tells.{Tells, given_of}
+use Rattle.af_told_law.specs.Tells.{given_of}
 use Rattle.af_render_law.proofs.AwayKnown.{away_ends, knows_away}
 use Rattle.af_render_law.proofs.InvalidKept.{invalid_round}
 use Rattle.af_told_law.proofs.KnownSteps.{Quiet, known_same, quiet_calls, quiet_cycles, quiet_ends, quiet_met, quiet_then, report_ends}
@@ -84,7 +84,7 @@ module _ (s : Session) (marks : Marks) (scales : All (λ (x : Setting). x.scale 
 
   -- a round whose entries are those by which the log grew
   module _ (run : Run) (x : SessionState) (r : RoundNoted) (bytes : List ℕ) (y : SessionState) (entries : List EntrySeen) (left : ℕ) (holds : Holds s marks run x left) where
-    told : Tells s run x
+    told : ToldBy s run x
     told = holds.told
 
     stands : StandsBetween x
@@ -104,7 +104,7 @@ module _ (s : Session) (marks : Marks) (scales : All (λ (x : Setting). x.scale 
     Steps turn = StepIsTold s marks run turn (round_of r entries) y × StandsBetween y × QueueKnown (cycle_frames s) (with_ends (met_alone s run turn (round_of r entries))) y.normal
 
     client_steps : (i : ℕ) → IsRound g (makes.Client i) x r bytes y → Steps (makes.Client i)
-    client_steps i w = (client_step w.together.links s marks run i x r bytes y entries told w w.together.turned w.together.met, client_stands g x r bytes y stands i w, known_still (makes.Client i) w.turned w.met w.meets w.ends (same_past x w.turned (ap (λ (z : SessionState). z.normal) w.turns.3.leaves)) (quiet_calls i (round_of r entries) run))
+    client_steps i w = (client_step w.together.links s marks run i x r bytes y entries told.told told.saw w w.together.turned w.together.met, client_stands g x r bytes y stands i w, known_still (makes.Client i) w.turned w.met w.meets w.ends (same_past x w.turned (ap (λ (z : SessionState). z.normal) w.turns.3.leaves)) (quiet_calls i (round_of r entries) run))
 
     normal_steps : IsRound g makes.Normal x r bytes y → Steps makes.Normal
     normal_steps w = by_end x.normal.ended refl w.turns.1
@@ -167,11 +167,11 @@ module _ (s : Session) (marks : Marks) (scales : All (λ (x : Setting). x.scale 
     aware_now = subst KnowsAway (sym w.ends) (away_ends w.met (knows_away w.together.links w.turned w.met w.together.turned w.together.met w.meets))
 
     long_tracks : length run.tracks ≤ length run.normal.tracks
-    long_tracks = (let a = holds.told.count.0 in let b = holds.told.count.1 in let c = w.together.before.count in let d = ap (λ (k : NormalKept). length k.tracks) holds.told.normal.kept in omega (arith, a, b, c, d))
+    long_tracks = (let a = holds.told.told.count.0 in let b = holds.told.told.count.1 in let c = w.together.before.count in let d = ap (λ (k : NormalKept). length k.tracks) holds.told.told.normal.kept in omega (arith, a, b, c, d))
 
     holds_after : Holds s marks (with_ends (met_alone s run turn round)) y left
     holds_after = record {
-      told = steps.0.told;
+      told = steps.0.left;
       stands = steps.1;
       queue = steps.2;
       report = report_ends s (made_alone s run turn round);
@@ -183,8 +183,8 @@ module _ (s : Session) (marks : Marks) (scales : All (λ (x : Setting). x.scale 
       tame = round_tame s marks scales run turn round holds.tame steps.0.made steps.0.histories steps.0.unseen;
       invalid = invalid_round s marks run turn round steps.0.made long_tracks holds.invalid;
       room = let grows : GrowsBy (asked_by turn) x.fast.log y.fast.log = round_grows g turn x r bytes y w in
-          let now : length y.fast.log.entries ≡ length (with_ends (met_alone s run turn round)).entries = ap (λ (es : List CycleEntry). length es) steps.0.told.fast.entries in
-          let was : length x.fast.log.entries ≡ length run.entries = ap (λ (es : List CycleEntry). length es) holds.told.fast.entries in
+          let now : length y.fast.log.entries ≡ length (with_ends (met_alone s run turn round)).entries = ap (λ (es : List CycleEntry). length es) steps.0.left.told.fast.entries in
+          let was : length x.fast.log.entries ≡ length run.entries = ap (λ (es : List CycleEntry). length es) holds.told.told.fast.entries in
           let more : length y.fast.log.entries ≡ length x.fast.log.entries + length grows.more = ap (λ (es : List CycleEntry). length es) grows.entries ∙ length-append x.fast.log.entries grows.more in
           let count = grows.count in let room = holds.room in omega arith;
     }
@@ -194,7 +194,7 @@ module _ (s : Session) (marks : Marks) (scales : All (λ (x : Setting). x.scale 
   pub chain : (tracks : ℕ) (turns : List TurnSpec) (run : Run) (x : SessionState) (rounds : List RoundNoted) (bytes : List ℕ) (t : SessionState) → All (IsTurn tracks) turns → AreRoundsMarked marks rounds → Holds s marks run x (all_asked turns) → IsTurnRun g turns x rounds bytes t
       → AreSteps s marks run turns (rounds_seen (entries_grown x.fast.log t.fast.log) rounds) t × AreCounted t
   chain tracks [] run x rounds bytes t forms free holds (none, no_bytes, same) = (
-    (ap (rounds_seen (entries_grown x.fast.log t.fast.log)) none, subst (Tells s run) (sym same) holds.told),
+    (ap (rounds_seen (entries_grown x.fast.log t.fast.log)) none, subst (ToldBy s run) (sym same) holds.told),
     subst AreCounted (sym same) holds.counted,
   )
   chain tracks (turn ∷ turns) run x rounds bytes t forms free holds (r, rs, front, back, y, rounds_are, bytes_are, w, rest) =

@@ -40,8 +40,9 @@ use Rattle.af_told_law.specs.Tells.{Tells}
 use Rattle.af_told_law.proofs.NormalGoes.{turn_leaves}
 use Rattle.af_told_law.proofs.ReportSeen.{cycle_is, heard_found, loaded_is, number_is}
 use Rattle.af_told_law.proofs.TurnPipe.{front_told}
+use Rattle.af_told_law.specs.Deeds.{Deeds}
 
-module _ (s : Session) (run : Run) (x : SessionState) (n : NormalState) (z : SessionState) (links : Links) (o : Outside) (together : AreTogether links x) (told : Tells s run x) (met_last : ReportMet run) (legal : IsLegal o x.normal n)
+module _ (s : Session) (run : Run) {d : Deeds} (x : SessionState) (n : NormalState) (z : SessionState) (links : Links) (o : Outside) (together : AreTogether links x) (told : Tells s run d x) (met_last : ReportMet run) (legal : IsLegal o x.normal n)
     (made : TurnMade (answer_of (turn_of n.entry)) x.normal n) (meets : Met (record x { normal = n }) z) where
   abbrev e : Turn
   e = turn_of n.entry

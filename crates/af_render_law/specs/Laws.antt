@@ -13,21 +13,28 @@ use Rattle.af_rendering.specs.Leads.{InStep, LeadAway}
 use Rattle.af_session.specs.Together.{SessionState}
 use Rattle.af_turn_law.specs.Acting.{FindsShutUnseen}
 use Rattle.af_told_law.specs.Tells.{Tells}
+use Rattle.af_told_law.specs.Deeds.{Deeds, SawOwnBy, tame_marks}
 
 -- a round as the journal has it, where these entries are left
 abbrev pub round_of : RoundNoted → List EntrySeen → RoundSeen
 round_of r entries = record { calls = r.calls; turn = r.turn; entries = take r.cycles entries }
 
+-- The run tells the session, by lists of its servers in which each front seen at a block that wasn't poked so far is the server's own
+pub record ToldBy (s : Session) (run : Run) (y : SessionState) : Type 0 where
+  pub deeds : Deeds
+  pub told : Tells s run deeds y
+  pub saw : SawOwnBy (tame_marks run) run deeds
+
 -- A turn of one party is made legally after this run, the lists have their histories after it, and the run after the round tells the session y. Of a track that a turn of the normal mixer finds shut as its stream proxy comes home, the client has not seen INVALID
 pub record StepIsTold (s : Session) (marks : Marks) (run : Run) (turn : TurnSpec) (round : RoundSeen) (y : SessionState) : Type 0 where
   pub made : IsMadeBy s marks run turn round
   pub histories : HaveHistories s (met_alone s run turn round)
-  pub told : Tells s (with_ends (met_alone s run turn round)) y
+  pub left : ToldBy s (with_ends (met_alone s run turn round)) y
   pub unseen : (e : Turn) → round.turn ≡ Some e → FindsShutUnseen s run (found_before s run [] e) e
 
 -- the rounds are such turns, one after the other, up to the session y
 abbrev pub AreSteps : Session → Marks → Run → List TurnSpec → List RoundSeen → SessionState → Type 0
-AreSteps s marks run [] rounds y = (rounds ≡ []) × Tells s run y
+AreSteps s marks run [] rounds y = (rounds ≡ []) × ToldBy s run y
 AreSteps s marks run (turn ∷ turns) [] y = ⊥
 AreSteps s marks run (turn ∷ turns) (round ∷ rounds) y = (m : SessionState) × StepIsTold s marks run turn round m × AreSteps s marks (with_ends (met_alone s run turn round)) turns rounds y
 

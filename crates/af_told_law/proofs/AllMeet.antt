@@ -1,11 +1,11 @@
 -- After the meetings of all parties the run after its meetings tells the session, and its lists have their histories.
-use Rattle.std.proofs.Common.{◌≡◌, ℕ, zero, suc, ◌<◌, true, is_some, List, [], ◌∷◌, length, slice_get, Some, refl, sym, ap, ◌∙◌, subst, arith}
+use Rattle.std.proofs.Common.{Bool, List, Some, [], ap, arith, false, is_some, length, refl, slice_get, subst, suc, sym, true, zero, ℕ, ◌<◌, ◌∙◌, ◌∷◌, ◌≡◌}
 use Rattle.std.proofs.lemmas.Option.{slice_get_within}
 use Rattle.af_life.specs.declared.kept.TrackKept.{TrackKept}
 use Rattle.af_link.specs.declared.links.Links.{Links}
 use Rattle.af_party.specs.Parties.{PartyState}
 use Rattle.af_runs.specs.Rounds.{HaveHistories, KeepsHistory, TrackHistories}
-use Rattle.af_runs.specs.Runs.{Run, TrackTold, met, takes_part, told_at, track_met}
+use Rattle.af_runs.specs.Runs.{Run, TrackTold, met, stream_met, takes_part, told_at, track_met}
 use Rattle.af_runs.specs.Sessions.{Session, track_count}
 use Rattle.af_judge.proofs.BlocksMeet.{met_at, met_many}
 use Rattle.af_session.specs.Met.{Met}
@@ -13,13 +13,24 @@ use Rattle.af_session.specs.Together.{AreTogether, SessionState}
 use Rattle.af_told_law.specs.Tells.{Tells, TellsNormal, TellsTrack}
 use Rattle.af_told_law.proofs.SharedMeets.{fast_met, kept_met, shared_histories, shared_met}
 use Rattle.af_told_law.proofs.TrackMeets.{commands_history, stream_now, track_now, tracks_are}
+use Rattle.af_base.specs.declared.event.ClientEvent.TheVariants as client
+use Rattle.af_told_law.specs.Deeds.{Deeds, MetTold, deeds_met}
+use Rattle.af_told_law.proofs.TameRuns.{lawful_before}
+use Rattle.af_runs.specs.Blocks.{BlockTold, client_list, is_tame, server_list}
 
 pub some_at : {X : Type 0} (xs : List X) (i : ℕ) → i < length xs → (x : X) × (slice_get xs i ≡ Some x)
 some_at [] i low = absurd (omega (arith, low))
 some_at (x ∷ xs) zero low = (x, refl)
 some_at (x ∷ xs) (suc i) low = some_at xs i (omega (arith, low))
 
-module _ (links : Links) (s : Session) (run : Run) (a b : SessionState) (together : AreTogether links a) (still : AreTogether links b) (h : Tells s run a) (m : Met a b) where
+-- a block that wasn't poked up to a meeting wasn't before
+pub tame_before : (part there : Bool) (b : BlockTold) → is_tame (stream_met part there b) ≡ true → is_tame b ≡ true
+tame_before true true b = lawful_before (client_list b) (client.Learn (length (server_list b)) ∷ [])
+tame_before true false b = lawful_before (client_list b) (client.Learn (length (server_list b)) ∷ [])
+tame_before false true b = λ tame. tame
+tame_before false false b = λ tame. tame
+
+module _ (links : Links) (s : Session) (run : Run) {d : Deeds} (a b : SessionState) (together : AreTogether links a) (still : AreTogether links b) (h : Tells s run d a) (m : Met a b) where
   as_many : length b.clients ≡ length a.clients
   as_many = still.count ∙ ap (λ (ts : List TrackKept). length ts) (tracks_are a b m) ∙ sym together.count
 
@@ -47,31 +58,32 @@ module _ (links : Links) (s : Session) (run : Run) (a b : SessionState) (togethe
     unfolding met
     handed_now = (stream_now s run links a b together h m i low before.0 after.0 before.1 (m.tracks.met i before.0 after.0 within before.1 after.1)).handed
 
-    histories_now : TrackHistories s (met s run) i
-    histories_now =
+    histories_now : MetTold s run d → TrackHistories s (met s run) i
+    histories_now lists =
         let t = m.tracks.met i before.0 after.0 within before.1 after.1 in
         let both : KeepsHistory (takes_part s (met s run) i) (told_at (met s run) i).stream × KeepsHistory true (told_at (met s run) i).commands =
         subst (λ (y : TrackTold). KeepsHistory (takes_part s (met s run) i) y.stream × KeepsHistory true y.commands) (sym told_is) (
-          (λ part tame. (stream_now s run links a b together h m i low before.0 after.0 before.1 t).history (sym same_part ∙ part) tame),
-          (λ part tame. commands_history s run links a b together h m i low before.0 after.0 before.1 t tame),
+          (λ part tame.
+              (stream_now s run links a b together h m i low before.0 after.0 before.1 t).history (lists.streams i low (sym same_part ∙ part) (tame_before (takes_part s run i) run.handed (told_at run i).stream tame)) (sym same_part ∙ part) tame),
+          (λ part tame. commands_history s run links a b together h m i low before.0 after.0 before.1 t (lists.commands i low (tame_before true false (told_at run i).commands tame)) tame),
         ) in
         record { stream = both.0; commands = both.1 }
 
   normal_now : TellsNormal s (met s run) b.normal
   normal_now = let k = kept_met s run a b h m in record { setup = k.0; kept = k.1; hands = handed_now; states = k.2; number = k.3; last = k.4 }
 
-  pub tells_met : Tells s (met s run) b
+  pub tells_met : Tells s (met s run) (deeds_met s run d) b
   tells_met = record {
     count = (met_many s run ∙ h.count.0, as_many ∙ h.count.1);
     tracks = (λ i q is.
         let low : i < track_count s = (let w = slice_get_within b.clients i q is in let c = h.count.1 in let n = as_many in omega (arith, w, c, n)) in
         let p = before i low in
-        subst (λ (t : TrackTold). TellsTrack s b.normal b.fast i t q) (sym (told_is i low))
+        subst (λ (t : TrackTold). TellsTrack s b.normal b.fast (deeds_met s run d) i t q) (sym (told_is i low))
         (track_now s run links a b together h m i low p.0 q p.1 (m.tracks.met i p.0 q (within i low) p.1 is)));
     shared = shared_met s run a b h m;
     normal = normal_now;
     fast = fast_met s run a b h m;
   }
 
-  pub met_histories : HaveHistories s (met s run)
-  met_histories = record { blocks = histories_now; shared = shared_histories s run a b h m }
+  pub met_histories : MetTold s run d → HaveHistories s (met s run)
+  met_histories lists = record { blocks = (λ i low. histories_now i low lists); shared = shared_histories s run a b h m }

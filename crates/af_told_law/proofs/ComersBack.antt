@@ -32,6 +32,7 @@ use Rattle.af_told_law.proofs.AllMeet.{some_at}
 use Rattle.af_told_law.proofs.ComersTold.{comers_told}
 use Rattle.af_told_law.proofs.LooksTurned.{all_polled, back_coming, back_given, back_same, coming_parts}
 use Rattle.af_told_law.proofs.SlotHeld.{found_carries, found_track}
+use Rattle.af_told_law.specs.Deeds.{Deeds, done_on}
 
 -- what comes home the last state doesn't carry
 comes_off : (last : FastState) (s : TrackKept) → is_returning s.holder ≡ true → is_home (welcomed last s).holder ≡ true → carries last (slot_number s) ≡ false
@@ -104,24 +105,24 @@ module _ (links : Links) (x : SessionState) (n : NormalState) (o : Outside) (leg
       by_item (Some p) is some = let came = back_coming x n o legal runs goes before.fast.0 stands.step stands.history c d later slot p is in (came.0, is ∙ sym came.1)
 
   -- so they are told
-  module _ (s : Session) (run : Run) (told : Tells s run x) where
-    pub comers_tell : ComersTell run x.normal e goes.back
-    comers_tell = comers_told s run x e goes.back told before.count comes_by
+  module _ (s : Session) (run : Run) {deeds : Deeds} (told : Tells s run deeds x) where
+    pub comers_tell : ComersTell run deeds x.normal e goes.back
+    comers_tell = comers_told s run deeds x e goes.back told before.count comes_by
 
-    pub comers_legal : ComersTell run x.normal e legal.lists.back
-    comers_legal = subst (ComersTell run x.normal e) (back_same x n o legal runs goes before.fast.0 stands.step stands.history c d later) comers_tell
+    pub comers_legal : ComersTell run deeds x.normal e legal.lists.back
+    comers_legal = subst (ComersTell run deeds x.normal e) (back_same x n o legal runs goes before.fast.0 stands.step stands.history c d later) comers_tell
 
     -- each proxy that is home in the turn, of a track that is home once the acknowledgement was seen, tells its block
-    pub home_told : (i : ℕ) (h : ServerState) → i < length x.normal.tracks → home_stream e.ack k goes.back x.normal i ≡ Some h → is_home (track_at (after_ack e.ack k).tracks i).holder ≡ true → TellsServer (told_at run i).stream h
+    pub home_told : (i : ℕ) (h : ServerState) → i < length x.normal.tracks → home_stream e.ack k goes.back x.normal i ≡ Some h → is_home (track_at (after_ack e.ack k).tracks i).holder ≡ true → TellsServer (done_on (told_at run i).stream (deeds.streams i)) h
     home_told i h low is home = by_back (e.ack && is_returning (track_at x.normal.tracks i).holder) refl is
       where
         by_back : (b : Bool) → (e.ack && is_returning (track_at x.normal.tracks i).holder) ≡ b
-            → (if b then in_hand goes.back x.normal.mutator.returned (slot_number (track_at x.normal.tracks i)) else stream_at x.normal.streams i) ≡ Some h → TellsServer (told_at run i).stream h
-        by_back true returns found = let here = comers_tell i low returns home in subst (TellsServer (told_at run i).stream) (same_Some here.0 h (sym here.1 ∙ found)) here.2
+            → (if b then in_hand goes.back x.normal.mutator.returned (slot_number (track_at x.normal.tracks i)) else stream_at x.normal.streams i) ≡ Some h → TellsServer (done_on (told_at run i).stream (deeds.streams i)) h
+        by_back true returns found = let here = comers_tell i low returns home in subst (TellsServer (done_on (told_at run i).stream (deeds.streams i))) (same_Some here.0 h (sym here.1 ∙ found)) here.2
         by_back false stays found = let client = some_at x.clients i (let count = before.count in omega (arith, low, count)) in (told.tracks i client.0 client.1).stream.home h found
 
     -- so does each that is home in the turn, as a returning proxy is in hand only where the last state doesn't carry its slot
-    pub all_home_told : (i : ℕ) (h : ServerState) → i < length x.normal.tracks → home_stream e.ack k goes.back x.normal i ≡ Some h → TellsServer (told_at run i).stream h
+    pub all_home_told : (i : ℕ) (h : ServerState) → i < length x.normal.tracks → home_stream e.ack k goes.back x.normal i ≡ Some h → TellsServer (done_on (told_at run i).stream (deeds.streams i)) h
     all_home_told i h low is = by_back (e.ack && is_returning (track_at x.normal.tracks i).holder) refl is
       where
         slot : ℕ
@@ -133,7 +134,7 @@ module _ (links : Links) (x : SessionState) (n : NormalState) (o : Outside) (leg
         off_by gone (Some p) came found = goes.stands.comes slot (away_slot k before.normal.tied.sound i gone).1 (ap is_some came)
 
         by_back : (b : Bool) → (e.ack && is_returning (track_at x.normal.tracks i).holder) ≡ b
-            → (if b then in_hand goes.back x.normal.mutator.returned (slot_number (track_at x.normal.tracks i)) else stream_at x.normal.streams i) ≡ Some h → TellsServer (told_at run i).stream h
+            → (if b then in_hand goes.back x.normal.mutator.returned (slot_number (track_at x.normal.tracks i)) else stream_at x.normal.streams i) ≡ Some h → TellsServer (done_on (told_at run i).stream (deeds.streams i)) h
         by_back true returns found =
             let parts = and_parts e.ack (is_returning (track_at x.normal.tracks i).holder) returns in
             let off : carries k.last slot ≡ false = off_by (returning_away (track_at x.normal.tracks i).holder parts.1) (at goes.back slot) refl found in

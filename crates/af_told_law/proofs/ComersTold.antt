@@ -14,6 +14,7 @@ use Rattle.af_session.specs.Together.{SessionState}
 use Rattle.af_told_law.specs.Comers.{ComersTell, ComesBy}
 use Rattle.af_told_law.specs.Tells.{Tells, TellsAway, TellsServer}
 use Rattle.af_told_law.proofs.AllMeet.{some_at}
+use Rattle.af_told_law.specs.Deeds.{Deeds, done_on}
 
 -- what is there where one of two is taken by whether the first is there
 either_there : {X : Type 0} (o p : Option X) → is_some (if is_some o then o else p) ≡ true → (b : Bool) → is_some o ≡ b → (t : X) × ((if is_some o then o else p) ≡ Some t)
@@ -27,19 +28,19 @@ returning_gone true Lent e = absurd (true≢false (sym e))
 returning_gone true Returning e = refl
 returning_gone false h e = absurd (true≢false (sym e))
 
-pub comers_told : (s : Session) (run : Run) (x : SessionState) (e : Turn) (back : List (Option ServerState)) → Tells s run x → length x.clients ≡ length x.normal.tracks
-    → ((i : ℕ) → i < length x.normal.tracks → (e.ack && is_returning (track_at x.normal.tracks i).holder) ≡ true → is_home (track_at (after_ack e.ack (kept_of x.normal)).tracks i).holder ≡ true → ComesBy x i back) → ComersTell run x.normal e back
-comers_told s run x e back told count how i low returns home =
+pub comers_told : (s : Session) (run : Run) (d : Deeds) (x : SessionState) (e : Turn) (back : List (Option ServerState)) → Tells s run d x → length x.clients ≡ length x.normal.tracks
+    → ((i : ℕ) → i < length x.normal.tracks → (e.ack && is_returning (track_at x.normal.tracks i).holder) ≡ true → is_home (track_at (after_ack e.ack (kept_of x.normal)).tracks i).holder ≡ true → ComesBy x i back) → ComersTell run d x.normal e back
+comers_told s run d x e back told count how i low returns home =
     let k : ℕ = slot_number (track_at x.normal.tracks i) in
     let by : ComesBy x i back = how i low returns home in
     let here = either_there (at back k) (at x.normal.mutator.returned k) by.there (is_some (at back k)) refl in
     let client = some_at x.clients i (omega (arith, low, count)) in
-    let away : TellsAway x.normal x.fast i k (told_at run i).stream = (told.tracks i client.0 client.1).stream.away (returning_gone e.ack (track_at x.normal.tracks i).holder returns) in
+    let away : TellsAway x.normal x.fast i k (done_on (told_at run i).stream (d.streams i)) = (told.tracks i client.0 client.1).stream.away (returning_gone e.ack (track_at x.normal.tracks i).holder returns) in
     (here.0, here.1, by_back by away here.0 (is_some (at back k)) refl here.1)
   where
     slot : ℕ
     slot = slot_number (track_at x.normal.tracks i)
 
-    by_back : ComesBy x i back → TellsAway x.normal x.fast i slot (told_at run i).stream → (t : ServerState) (b : Bool) → is_some (at back slot) ≡ b → (if b then at back slot else at x.normal.mutator.returned slot) ≡ Some t → TellsServer (told_at run i).stream t
+    by_back : ComesBy x i back → TellsAway x.normal x.fast i slot (done_on (told_at run i).stream (d.streams i)) → (t : ServerState) (b : Bool) → is_some (at back slot) ≡ b → (if b then at back slot else at x.normal.mutator.returned slot) ≡ Some t → TellsServer (done_on (told_at run i).stream (d.streams i)) t
     by_back by away t true is found = let came = by.came is in away.comes by.off came.0 t (sym came.1 ∙ found)
     by_back by away t false is found = away.back by.off (by.stayed is) t found

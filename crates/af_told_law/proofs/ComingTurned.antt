@@ -33,6 +33,7 @@ use Rattle.af_told_law.specs.Tells.{Tells, held_slot, is_coming, is_going, items
 use Rattle.af_told_law.proofs.LooksTurned.{all_polled, coming_parts, level, sane, unseen}
 use Rattle.af_told_law.proofs.SlotHeld.{found_carries, found_track}
 use Rattle.af_told_law.proofs.StateBefore.{before_told}
+use Rattle.af_told_law.specs.Deeds.{Deeds}
 
 first_of : (a b : Bool) → true ≡ (a && b) → a ≡ true
 first_of true b is = refl
@@ -98,7 +99,7 @@ module _ (links : Links) (x : SessionState) (n : NormalState) (o : Outside) (leg
 
   -- ## A track that was lent in the turn
 
-  module _ (s : Session) (run : Run) (told : Tells s run x) (known : QueueKnown (cycle_frames s) run x.normal) (i : ℕ) (lent : IsLentBy o goes.back goes.sent x.normal n (turn_of n.entry) i) where
+  module _ (s : Session) (run : Run) {deeds : Deeds} (told : Tells s run deeds x) (known : QueueKnown (cycle_frames s) run x.normal) (i : ℕ) (lent : IsLentBy o goes.back goes.sent x.normal n (turn_of n.entry) i) where
     abbrev slot : ℕ
     slot = slot_in n i
 

@@ -11,10 +11,10 @@ use Rattle.af_life.specs.Turn.{LegalTurn}
 use Rattle.af_life.specs.TurnEvents.{takes_from}
 use Rattle.af_model.specs.declared.shape.Shape.{Shape}
 use Rattle.af_model.specs.Cycles.{Listed, LooksBy}
-use Rattle.af_runs.specs.Blocks.{Marks, is_tame, listed, server_list}
+use Rattle.af_runs.specs.Blocks.{Marks, listed, server_list}
 use Rattle.af_runs.specs.Found.{LegalTurnBy, TurnFound, outside_of, take_front}
 use Rattle.af_runs.specs.Fronts.{front_of, fronts_by, lawful_front}
-use Rattle.af_told_law.specs.Outsides.{AnswerAlike, AreAlike, IsFound, SameFront, SameFronts}
+use Rattle.af_told_law.specs.Outsides.{AnswerAlike, AreAlike, IsFound, SameFront, SameFronts, SawCommands, SawStream}
 use Rattle.af_told_law.proofs.KeptAlike.{looks_told}
 use Rattle.af_told_law.proofs.KeptLooks.{all_looks_alike}
 use Rattle.af_told_law.proofs.LegalAlike.{all_looks_same, legal_alike, looks_same}
@@ -29,12 +29,12 @@ module _ (c : Setup) (m : NormalKept) (e : Turn) (o : Outside) (f : TurnFound) (
   from_home : (i : ℕ) → (takes_from e.mixes i ≡ []) ⊎ ((i < length m.tracks) × (is_home (track_at (after_ack e.ack m).tracks i).holder ≡ true))
   from_home i = taken_home c (learnt o) m e i sound (legal.goes_on runs).due
 
-  -- on a block that wasn't poked the list and the front are those told, by either rule
-  same_front : (i : ℕ) → is_tame (f.streams i) ≡ true → (takes_from e.mixes i ≡ []) ⊎ ((o.streams i ≡ listed (f.streams i)) × SameFront (o.streams i) (o.stream_front i) (take_front (front_of (asked c)) (listed (f.streams i)) (takes_from e.mixes i))
+  -- where each front that the server saw is its own the list and the front are those told, by either rule
+  same_front : (i : ℕ) → SawStream c m e o i → (takes_from e.mixes i ≡ []) ⊎ ((o.streams i ≡ listed (f.streams i)) × SameFront (o.streams i) (o.stream_front i) (take_front (front_of (asked c)) (listed (f.streams i)) (takes_from e.mixes i))
       × (take_front (front_of (asked c)) (listed (f.streams i)) (takes_from e.mixes i) ≡ take_front (lawful_front (asked c)) (listed (f.streams i)) (takes_from e.mixes i)))
-  same_front i tame = elim (from_home i) as (λ _. Result) [
+  same_front i saw = elim (from_home i) as (λ _. Result) [
     | inl none ↦ inl none
-    | inr home ↦ (let list = found.same_streams i home.0 tame home.1 in let told = found.takes i home.0 tame in elim told.0 as (λ _. Result) [
+    | inr home ↦ (let list = found.same_streams i home.0 home.1 saw in let told = found.takes i home.0 saw in elim told.0 as (λ _. Result) [
       | inl none ↦ inl none
       | inr same ↦ inr (
         list,
@@ -49,28 +49,28 @@ module _ (c : Setup) (m : NormalKept) (e : Turn) (o : Outside) (f : TurnFound) (
           × (take_front (front_of (asked c)) (listed (f.streams i)) (takes_from e.mixes i) ≡ take_front (lawful_front (asked c)) (listed (f.streams i)) (takes_from e.mixes i)))
 
   -- so are the list and the fronts of the looks at a command block
-  same_fronts : (i : ℕ) → i < length m.tracks → is_tame (f.commands i) ≡ true → SameFronts (o.commands i) (track_in e i).looks (o.command_fronts i) (fronts_by front_of (listed (f.commands i)) (track_in e i).looks)
+  same_fronts : (i : ℕ) → i < length m.tracks → SawCommands c m e o i → SameFronts (o.commands i) (track_in e i).looks (o.command_fronts i) (fronts_by front_of (listed (f.commands i)) (track_in e i).looks)
       × (fronts_by front_of (listed (f.commands i)) (track_in e i).looks ≡ fronts_by lawful_front (listed (f.commands i)) (track_in e i).looks)
-  same_fronts i low tame =
-      let list = found.same_commands i low tame in
-      let told = found.looks i low tame in (
+  same_fronts i low saw =
+      let list = found.same_commands i low saw in
+      let told = found.looks i low saw in (
         subst (λ (s : Listed). SameFronts (o.commands i) (track_in e i).looks (o.command_fronts i) (fronts_by front_of s (track_in e i).looks)) list told.0,
         subst (λ (s : Listed). fronts_by front_of s (track_in e i).looks ≡ fronts_by lawful_front s (track_in e i).looks) list told.1,
       )
 
-  -- so is the list of a stream that wasn't poked, and what the turn took of it
-  pub taken_same : (i : ℕ) → is_tame (f.streams i) ≡ true → (takes_from e.mixes i ≡ []) ⊎ ((o.streams i ≡ listed (f.streams i)) × SameFront (o.streams i) (o.stream_front i) ((outside_of c f e).stream_front i))
-  taken_same i tame = elim (same_front i tame) as (λ _. (takes_from e.mixes i ≡ []) ⊎ ((o.streams i ≡ listed (f.streams i)) × SameFront (o.streams i) (o.stream_front i) ((outside_of c f e).stream_front i))) [
+  -- so is the list of a stream, and what the turn took of it
+  pub taken_same : (i : ℕ) → SawStream c m e o i → (takes_from e.mixes i ≡ []) ⊎ ((o.streams i ≡ listed (f.streams i)) × SameFront (o.streams i) (o.stream_front i) ((outside_of c f e).stream_front i))
+  taken_same i saw = elim (same_front i saw) as (λ _. (takes_from e.mixes i ≡ []) ⊎ ((o.streams i ≡ listed (f.streams i)) × SameFront (o.streams i) (o.stream_front i) ((outside_of c f e).stream_front i))) [
     | inl none ↦ inl none
     | inr here ↦ inr (here.0, here.1)
   ]
 
-  pub looks_same_fronts : (i : ℕ) → i < length m.tracks → is_tame (f.commands i) ≡ true → SameFronts (o.commands i) (track_in e i).looks (o.command_fronts i) ((outside_of c f e).command_fronts i)
-  looks_same_fronts i low tame = (same_fronts i low tame).0
+  pub looks_same_fronts : (i : ℕ) → i < length m.tracks → SawCommands c m e o i → SameFronts (o.commands i) (track_in e i).looks (o.command_fronts i) ((outside_of c f e).command_fronts i)
+  looks_same_fronts i low saw = (same_fronts i low saw).0
 
   -- ## By marks
 
-  module _ (marks : Marks) (marked_streams : (i : ℕ) → i < length m.tracks → marks.streams i ≡ true → is_tame (f.streams i) ≡ true) (marked_commands : (i : ℕ) → i < length m.tracks → marks.commands i ≡ true → is_tame (f.commands i) ≡ true) where
+  module _ (marks : Marks) (marked_streams : (i : ℕ) → i < length m.tracks → is_home (track_at (after_ack e.ack m).tracks i).holder ≡ true → marks.streams i ≡ true → SawStream c m e o i) (marked_commands : (i : ℕ) → i < length m.tracks → marks.commands i ≡ true → SawCommands c m e o i) where
     -- the fronts on a lawful block are its own, and on another one those that were really seen
     abbrev p : Outside
     p = record (outside_of c f e) {
@@ -81,7 +81,7 @@ module _ (c : Setup) (m : NormalKept) (e : Turn) (o : Outside) (f : TurnFound) (
     looked : (i : ℕ) (b : Bool) → marks.streams i ≡ b → (i < length m.tracks) × (is_home (track_at (after_ack e.ack m).tracks i).holder ≡ true)
         → (takes_from e.mixes i ≡ []) ⊎ ((slot : SlotEntry) → LooksBy (asked c) (o.streams i) slot (o.stream_front i) → LooksBy (asked c) (listed (f.streams i)) slot (if b then take_front (lawful_front (asked c)) (listed (f.streams i)) (takes_from e.mixes i) else o.stream_front i))
     looked i false off home = let near = found.streams i home.0 home.1 in inr (λ slot looks. looks_told (asked c) (o.streams i) (listed (f.streams i)) slot (o.stream_front i) near.shape near.alike looks)
-    looked i true on home = elim (same_front i (marked_streams i home.0 on)) as (λ _. (takes_from e.mixes i ≡ []) ⊎ ((slot : SlotEntry) → LooksBy (asked c) (o.streams i) slot (o.stream_front i) → LooksBy (asked c) (listed (f.streams i)) slot (take_front (lawful_front (asked c)) (listed (f.streams i)) (takes_from e.mixes i)))) [
+    looked i true on home = elim (same_front i (marked_streams i home.0 home.1 on)) as (λ _. (takes_from e.mixes i ≡ []) ⊎ ((slot : SlotEntry) → LooksBy (asked c) (o.streams i) slot (o.stream_front i) → LooksBy (asked c) (listed (f.streams i)) slot (take_front (lawful_front (asked c)) (listed (f.streams i)) (takes_from e.mixes i)))) [
       | inl none ↦ inl none
       | inr here ↦ inr (λ slot looks. subst (λ (y : Listed × ℕ). LooksBy (asked c) y.0 slot y.1) (λ j. (here.0 j, here.2 j)) (looks_same (o.streams i) (o.stream_front i) (take_front (front_of (asked c)) (listed (f.streams i)) (takes_from e.mixes i)) here.1 (asked c) slot looks))
     ]
@@ -94,9 +94,9 @@ module _ (c : Setup) (m : NormalKept) (e : Turn) (o : Outside) (f : TurnFound) (
         let as_told : o.commands i ≡ record { shape = k; events = (o.commands i).events } = λ j. record { shape = near.shape j; events = (o.commands i).events } in
         all_looks_alike k (o.commands i).events (server_list (f.commands i)) near.alike (track_in e i).looks (o.command_fronts i) (subst (λ (s : Listed). LegalLooks s (track_in e i).looks (o.command_fronts i)) as_told looks)
     commanded i low true on looks =
-        let tame = marked_commands i low on in
-        let told = same_fronts i low tame in
-        subst (λ (y : Listed × List ℕ). LegalLooks y.0 (track_in e i).looks y.1) (λ j. (found.same_commands i low tame j, told.1 j))
+        let saw = marked_commands i low on in
+        let told = same_fronts i low saw in
+        subst (λ (y : Listed × List ℕ). LegalLooks y.0 (track_in e i).looks y.1) (λ j. (found.same_commands i low saw j, told.1 j))
         (all_looks_same (o.commands i) (track_in e i).looks (o.command_fronts i) (fronts_by front_of (listed (f.commands i)) (track_in e i).looks) told.0 looks)
 
     answers : AnswerAlike c m e o p

@@ -11,20 +11,13 @@ use Rattle.af_model.specs.Cycles.{IsSeen, Listed, LooksBy, after_look, cycle_eve
 use Rattle.af_model.specs.Point.{wrapped}
 use Rattle.af_model.specs.Room.{ahead, outside}
 use Rattle.af_model.specs.ServerCalls.{ServerKept, is_noticed, look_at, look_events, server_begins, server_keeps, server_kept}
-use Rattle.af_runs.specs.Blocks.{BlockTold, server_list}
 use Rattle.af_runs.specs.Fronts.{front_of}
-use Rattle.af_server.specs.Order.{ServerState}
 use Rattle.af_told_law.specs.Alike.{TellAlike, bare}
-use Rattle.af_told_law.specs.Tells.{TellsServer}
 use Rattle.af_told_law.proofs.FrontLeaves.{Leaves, told_leaves}
 
 -- lists that are the same tell alike
 pub same_alike : (k : Shape) (xs ys : List ServerEvent) → xs ≡ ys → TellAlike k xs ys
 same_alike k xs ys is = record { kept = ap (λ (es : List ServerEvent). bare (server_kept k es)) is; long = ap (λ (es : List ServerEvent). length es) is }
-
--- a proxy that did what is told
-pub strict_told : (b : BlockTold) (s : ServerState) → s.pass.part.shape ≡ b.shape → s.pass.part.events ≡ server_list b → s.pass.part.frames ≡ b.taken → TellsServer b s
-strict_told b s shape list taken = record { shape = shape; events = λ _. list; alike = same_alike b.shape s.pass.part.events (server_list b) list; taken = taken }
 
 -- what a list tells after further events
 pub kept_more : (k : Shape) (es more : List ServerEvent) → server_kept k (es ++ more) ≡ fold (server_keeps k) (server_kept k es) more

@@ -16,6 +16,8 @@ use Rattle.af_runs.specs.Sessions.{Session}
 use Rattle.af_session.specs.Together.{SessionState}
 use Rattle.af_told_law.specs.QueueTurned.{QueueKnown}
 use Rattle.af_told_law.specs.Tells.{Tells, TellsStream, TellsTrack}
+use Rattle.af_base.specs.declared.event.ServerEvent.{ServerEvent}
+use Rattle.af_told_law.specs.Deeds.{Deeds}
 
 -- ## The lists of two ends after events of the second
 
@@ -34,20 +36,20 @@ module _ {A B : Type 0} where
 
 -- ## What the reader of the report has no part in
 
-stream_apart : (m : NormalState) (r : ReaderSide) (f : MixerState) (i : ℕ) (b : BlockTold) → TellsStream m f i b → TellsStream (record m { reader = r }) f i b
-stream_apart m r f i b h = record {
+stream_apart : (m : NormalState) (r : ReaderSide) (f : MixerState) (i : ℕ) (b : BlockTold) (deed : List ServerEvent) → TellsStream m f i b deed → TellsStream (record m { reader = r }) f i b deed
+stream_apart m r f i b deed h = record {
   home = h.home;
   away = (λ gone. let a = h.away gone in record { held = a.held; goes = a.goes; comes = a.comes; waits = a.waits; back = a.back });
   hand = h.hand;
 }
 
-pub track_apart : (s : Session) (m : NormalState) (r : ReaderSide) (f : MixerState) (i : ℕ) (t : TrackTold) (p : PartyState) → TellsTrack s m f i t p → TellsTrack s (record m { reader = r }) f i t p
-track_apart s m r f i t p h = record { client = h.client; stream = stream_apart m r f i t.stream h.stream; commands = h.commands }
+pub track_apart : (s : Session) (m : NormalState) (r : ReaderSide) (f : MixerState) (d : Deeds) (i : ℕ) (t : TrackTold) (p : PartyState) → TellsTrack s m f d i t p → TellsTrack s (record m { reader = r }) f d i t p
+track_apart s m r f d i t p h = record { client = h.client; stream = stream_apart m r f i t.stream (d.streams i) h.stream; commands = h.commands; did = h.did }
 
 -- ## The load
 
 -- the reader had this before the load
-module _ (s : Session) (run : Run) (y : SessionState) (before : ReaderSide) (e : Turn) where
+module _ (s : Session) (run : Run) {d : Deeds} (y : SessionState) (before : ReaderSide) (e : Turn) where
   abbrev loads : List (ReaderEvent Report)
   loads = going e (Load e.cycle (report_of run.reports e.cycle) ∷ [])
 
@@ -55,11 +57,11 @@ module _ (s : Session) (run : Run) (y : SessionState) (before : ReaderSide) (e :
   unread = record y.normal { reader = before }
 
   -- the run with the load tells the session with it
-  pub load_told : Tells s run (record y { normal = unread }) → y.normal.reader.events ≡ before.events ++ loads → Tells s (with_load e run) y
+  pub load_told : Tells s run d (record y { normal = unread }) → y.normal.reader.events ≡ before.events ++ loads → Tells s (with_load e run) d y
   unfolding with_load
   load_told told grows = record {
     count = told.count;
-    tracks = (λ i p is. track_apart s unread y.normal.reader y.fast i (told_at run i) p (told.tracks i p is));
+    tracks = (λ i p is. track_apart s unread y.normal.reader y.fast d i (told_at run i) p (told.tracks i p is));
     shared = record {
       first = told.shared.first;
       mutator = told.shared.mutator;

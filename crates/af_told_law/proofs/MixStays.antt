@@ -1,5 +1,5 @@
 -- A cycle that mixes nothing leaves each stream as the run's mix tells it: nothing was played.
-use Rattle.std.proofs.Common.{◌≡◌, ⊎_elim, ℕ, zero, suc, ◌+◌, ◌<◌, ◌≤◌, ◌==◌, ◌&&◌, nat_lt, not, Bool, true, false, if◌then◌else◌, find, replicate, length, Option, Some, None, refl, sym, ap, ◌∙◌, subst, arith}
+use Rattle.std.proofs.Common.{Bool, List, None, Option, Some, ap, arith, false, find, if◌then◌else◌, length, nat_lt, not, refl, replicate, subst, suc, sym, true, zero, ℕ, ⊎_elim, ◌&&◌, ◌+◌, ◌<◌, ◌==◌, ◌∙◌, ◌≡◌, ◌≤◌}
 use Rattle.std.specs.List.{range_with_len}
 use Rattle.std.specs.Prelude.{slice_index_or}
 use Rattle.std.proofs.lemmas.Bool.{cases_lt}
@@ -24,6 +24,8 @@ use Rattle.af_stateq.specs.Mutates.{at}
 use Rattle.af_stateq.specs.Observes.{Observes}
 use Rattle.af_session.specs.Met.{item_at, slot_for}
 use Rattle.af_told_law.specs.Tells.{IfThere, TellsAway, TellsStream, items_sent, mutated_by}
+use Rattle.af_base.specs.declared.event.ServerEvent.{ServerEvent}
+use Rattle.af_told_law.specs.Deeds.{ServerDone, done_on}
 
 abbrev Watching : Type 0
 Watching = Observes ServerState StreamNames
@@ -50,15 +52,18 @@ track_still s x e i t still =
 
 -- ## The same observer
 
-module _ (m : NormalState) (f g : MixerState) (is : g.observer ≡ f.observer) (i : ℕ) (b : BlockTold) where
-  away_same : (k : ℕ) → TellsAway m f i k b → TellsAway m g i k b
+module _ (m : NormalState) (f g : MixerState) (is : g.observer ≡ f.observer) (i : ℕ) (b : BlockTold) (deed : List ServerEvent) where
+  abbrev did : ServerDone
+  did = done_on b deed
+
+  away_same : (k : ℕ) → TellsAway m f i k did → TellsAway m g i k did
   away_same k h = record {
-    held = subst (λ (o : Watching). IfThere b (item_at o.items (slot_for o.past.state i))) (sym is) h.held;
-    goes = subst (λ (o : Watching). slot_for o.past.state i ≡ None → nat_lt o.past.number m.mutator.past.number ≡ true → IfThere b (at (items_sent m) k)) (sym is) h.goes;
-    comes = subst (λ (o : Watching). slot_for o.past.state i ≡ None → (not (nat_lt o.past.number m.mutator.past.number) && not (mutated_by m).clear) ≡ true → IfThere b (at (observed o.past.events).given k)) (sym is) h.comes;
-    waits = subst (λ (o : Watching). slot_for o.past.state i ≡ None → ((not (nat_lt o.past.number m.mutator.past.number) && not (mutated_by m).clear) ≡ true → at (observed o.past.events).given k ≡ None) → IfThere b (at m.mutator.pending k)) (sym is) h.waits;
-    back = subst (λ (o : Watching). slot_for o.past.state i ≡ None → ((not (nat_lt o.past.number m.mutator.past.number) && not (mutated_by m).clear) ≡ true → at (observed o.past.events).given k ≡ None) → IfThere b (at m.mutator.returned k)) (sym is) h.back;
+    held = subst (λ (o : Watching). IfThere did (item_at o.items (slot_for o.past.state i))) (sym is) h.held;
+    goes = subst (λ (o : Watching). slot_for o.past.state i ≡ None → nat_lt o.past.number m.mutator.past.number ≡ true → IfThere did (at (items_sent m) k)) (sym is) h.goes;
+    comes = subst (λ (o : Watching). slot_for o.past.state i ≡ None → (not (nat_lt o.past.number m.mutator.past.number) && not (mutated_by m).clear) ≡ true → IfThere did (at (observed o.past.events).given k)) (sym is) h.comes;
+    waits = subst (λ (o : Watching). slot_for o.past.state i ≡ None → ((not (nat_lt o.past.number m.mutator.past.number) && not (mutated_by m).clear) ≡ true → at (observed o.past.events).given k ≡ None) → IfThere did (at m.mutator.pending k)) (sym is) h.waits;
+    back = subst (λ (o : Watching). slot_for o.past.state i ≡ None → ((not (nat_lt o.past.number m.mutator.past.number) && not (mutated_by m).clear) ≡ true → at (observed o.past.events).given k ≡ None) → IfThere did (at m.mutator.returned k)) (sym is) h.back;
   }
 
-  pub stream_stays : TellsStream m f i b → TellsStream m g i b
+  pub stream_stays : TellsStream m f i b deed → TellsStream m g i b deed
   stream_stays h = record { home = h.home; away = (λ off. away_same _ (h.away off)); hand = h.hand }

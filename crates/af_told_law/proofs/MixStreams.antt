@@ -1,4 +1,4 @@
--- What a mix leaves of a stream is told by the run's mix: on a block that wasn't poked each front that its looks saw is the server's own, and on another one each front by which it answers so leaves the same.
+-- What a mix leaves of a stream is told by the run's mix: where each front that its proxy saw is its own what is told is what it did, and else each front by which it answers so leaves the same.
 use Rattle.std.proofs.Common.{◌≡◌, ℕ, zero, suc, ◌+◌, ◌<◌, ◌==◌, ◌&&◌, not, nat_lt, Bool, true, false, true≢false, if◌then◌else◌, find, fold, is_some, map, List, [], ◌∷◌, ◌++◌, length, Option, Some, None, refl, sym, ap, ◌∙◌, subst, arith, append_assoc, append-nil}
 use Rattle.std.specs.List.{range_with_len}
 use Rattle.std.proofs.lemmas.Option.{none-some}
@@ -14,8 +14,8 @@ use Rattle.af_fast.specs.Slots.{SlotPlayed}
 use Rattle.af_life.specs.Kept.{is_home, slot_number, track_at}
 use Rattle.af_link.specs.declared.links.Links.{Links}
 use Rattle.af_link.specs.declared.names.StreamNames.{StreamNames}
-use Rattle.af_model.specs.Cycles.{IsSeen, cycle_events, is_mixed}
-use Rattle.af_model.specs.History.{Moment, by_server, hand_of, is_lawful, server_of}
+use Rattle.af_model.specs.Cycles.{IsSeen, LooksBy, cycle_events, is_mixed}
+use Rattle.af_model.specs.History.{Moment, by_server, hand_of, server_of}
 use Rattle.af_model.specs.Journals.{EntrySeen}
 use Rattle.af_model.specs.StateQueue.{carries, slot_of, observed}
 use Rattle.af_normal.specs.Mixing.{stream_at}
@@ -26,21 +26,21 @@ use Rattle.af_runs.specs.Runs.{TrackTold, mixed_track, played, plays}
 use Rattle.af_runs.specs.Runs as run_of
 use Rattle.af_runs.specs.Sessions.{Session, cycle_frames}
 use Rattle.af_server.specs.Order.{ServerState}
-use Rattle.af_server.specs.Slot.{listed}
 use Rattle.af_stateq.specs.Mutates.{at}
 use Rattle.af_stateq.specs.Observes.{Observes}
 use Rattle.af_rendering.specs.Leads.{LeadAway}
 use Rattle.af_session.specs.Met.{is_slot_of, item_at, or_else, slot_below, slot_for}
 use Rattle.af_session.specs.Together.{AreTogether, SessionState}
 use Rattle.af_told_law.specs.Alike.{TellAlike}
-use Rattle.af_told_law.specs.Own.{SawOwn}
 use Rattle.af_told_law.specs.Tells.{SawTold, TellsAway, TellsServer, TellsStream, held_slot, is_coming, is_going, items_given, mutated_by}
 use Rattle.af_told_law.proofs.KeptAlike.{cycle_told_alike}
-use Rattle.af_told_law.proofs.MixLooks.{listed_told, looked_so}
+use Rattle.af_told_law.proofs.MixLooks.{front_own, list_grown, list_own, looks_real, real_list}
 use Rattle.af_told_law.proofs.MixSlots.{shape_same}
 use Rattle.af_told_law.proofs.SlotHeld.{found_carries, found_track, range_end}
-use Rattle.af_told_law.proofs.TameRuns.{server_client}
 use Rattle.af_told_law.proofs.TrackMeets.{none_there, there_is}
+use Rattle.af_normal.specs.State.{NormalState}
+use Rattle.af_cblk.specs.Rule.{StartsWith}
+use Rattle.af_told_law.specs.Deeds.{DeedTold, SawOwnOf, ServerDone, done_on}
 
 abbrev Watching : Type 0
 Watching = Observes ServerState StreamNames
@@ -79,6 +79,27 @@ server_more told (e ∷ es) = server_more (by_server e ∷ told) es ∙ append_a
 hand_still : (told : List Moment) (es : List ServerEvent) → hand_of (fold (λ told moment. moment ∷ told) told (map by_server es)) ≡ hand_of told
 hand_still told [] = refl
 hand_still told (e ∷ es) = hand_still (by_server e ∷ told) es
+
+-- ## The list of a stream's proxy after a mix
+
+-- of an item that is there, or else the list before
+abbrev pub list_of : Option ServerState → List ServerEvent → List ServerEvent
+list_of None deed = deed
+list_of (Some p) deed = p.pass.part.events
+
+-- of the item in this slot
+abbrev pub list_by : Option ℕ → MixerState → List ServerEvent → List ServerEvent
+list_by None g deed = deed
+list_by (Some k) g deed = list_of (at g.observer.items k) deed
+
+abbrev pub list_mixed : FastState → MixerState → ℕ → List ServerEvent → List ServerEvent
+list_mixed state g i deed = list_by (slot_for state i) g deed
+
+-- A stream after a mix: its proxy is told by its list then, which goes on from the one before
+pub record StreamMixed (m : NormalState) (g : MixerState) (i : ℕ) (b : BlockTold) (deed after : List ServerEvent) : Type 0 where
+  pub told : TellsStream m g i b after
+  pub did : DeedTold b after
+  pub goes : StartsWith after deed
 
 module _ (links : Links) (x : SessionState) (g : MixerState) (together : AreTogether links x) (after : AreTogether links (record x { fast = g })) (e : EntrySeen) (s : Session) (frames : x.fast.frames ≡ cycle_frames s)
     (current : x.fast.observer.current ≡ Some x.fast.observer.past.state) (mixed : is_mixed e.entry.cycle ≡ true) (takes : Takes x.fast g e.entry) (saw : SawTold x.fast g e) (lead : LeadAway x.fast.observer.past.state x.normal.tracks) where
@@ -122,7 +143,7 @@ module _ (links : Links) (x : SessionState) (g : MixerState) (together : AreToge
   held_same i = ap (λ (z : FastState). slot_for z i) state_same
 
   -- a proxy that isn't held stays
-  away_still : (i k : ℕ) (b : BlockTold) → slot_for state i ≡ None → TellsAway x.normal x.fast i k b → TellsAway x.normal g i k b
+  away_still : (i k : ℕ) (b : ServerDone) → slot_for state i ≡ None → TellsAway x.normal x.fast i k b → TellsAway x.normal g i k b
   away_still i k b none h = record {
     held = none_there b (item_at g.observer.items (held_slot g i)) (ap (item_at g.observer.items) (held_same i ∙ none));
     goes = (λ off going. h.goes none (sym going_same ∙ going));
@@ -131,7 +152,7 @@ module _ (links : Links) (x : SessionState) (g : MixerState) (together : AreToge
     back = (λ off comes. h.back none (λ coming. sym (ap (λ (is : List (Option ServerState)). at is k) given_same) ∙ comes (coming_same ∙ coming)));
   }
 
-  module _ (i : ℕ) (b : BlockTold) (h : TellsStream x.normal x.fast i b) (inside : i < length x.normal.tracks) (own : told_of.is_tame b ≡ true → (k : ℕ) (p : ServerState) → slot_for state i ≡ Some k → at g.observer.items k ≡ Some p → SawOwn p) where
+  module _ (i : ℕ) (b : BlockTold) (deed : List ServerEvent) (h : TellsStream x.normal x.fast i b deed) (did : DeedTold b deed) (inside : i < length x.normal.tracks) where
     abbrev after_mix : ℕ → BlockTold
     after_mix k = played (cycle_frames s) e k b
 
@@ -148,65 +169,77 @@ module _ (links : Links) (x : SessionState) (g : MixerState) (together : AreToge
       abbrev one : SlotPlayed x.fast.frames (at x.fast.observer.items k) (at g.observer.items k) g.log.frames (entry_slot e.entry k)
       one = slot_played k low carried
 
-      old_told : TellsServer b one.old
+      old_told : TellsServer (done_on b deed) one.old
       old_told = (h.away gone).held one.old (ap (item_at x.fast.observer.items) found ∙ one.was)
 
       same_block : one.new.pass.part.shape ≡ one.old.pass.part.shape
       same_block = shape_same links x g together after lead takes.observer k one.old one.new low one.was one.is
 
-      -- what the run tells that it did
+      -- what it did, and what the run tells that it did
+      abbrev more : List ServerEvent
+      more = cycle_events x.fast.frames (real_list b deed) (entry_slot e.entry k) one.plays.front
+
       abbrev does : List ServerEvent
       does = cycle_events (cycle_frames s) (told_of.listed b) (entry_slot e.entry k) (front_of (cycle_frames s) (told_of.listed b) (entry_slot e.entry k))
 
       grown : told_of.server_list (after_mix k) ≡ told_of.server_list b ++ does
       grown = server_more b.told does
 
-      events_are : told_of.is_tame b ≡ true → cycle_events x.fast.frames (listed one.old) (entry_slot e.entry k) one.plays.front ≡ does
-      events_are tame =
-          (looked_so x.fast.frames one.old one.new (entry_slot e.entry k) same_block one.plays (own tame k one.new found one.is)).0
-          ∙ (λ j. cycle_events (frames j) (listed_told b one.old old_told tame j) (entry_slot e.entry k) (front_of (frames j) (listed_told b one.old old_told tame j) (entry_slot e.entry k)))
+      looks : LooksBy x.fast.frames (real_list b deed) (entry_slot e.entry k) one.plays.front
+      looks = looks_real x.fast.frames b deed (entry_slot e.entry k) one.old old_told one.new.pass.part.events one.plays
 
-      alike_now : TellAlike b.shape (one.old.pass.part.events ++ cycle_events x.fast.frames (listed one.old) (entry_slot e.entry k) one.plays.front) (told_of.server_list b ++ does)
-      alike_now = subst (λ (n : ℕ). TellAlike b.shape (one.old.pass.part.events ++ cycle_events x.fast.frames (listed one.old) (entry_slot e.entry k) one.plays.front) (told_of.server_list b ++ cycle_events n (told_of.listed b) (entry_slot e.entry k) (front_of n (told_of.listed b) (entry_slot e.entry k)))) frames
-          (cycle_told_alike x.fast.frames (listed one.old) (told_of.listed b) (entry_slot e.entry k) one.plays.front old_told.shape old_told.alike one.plays.looks)
+      list_now : one.new.pass.part.events ≡ deed ++ more
+      list_now = list_grown x.fast.frames b deed (entry_slot e.entry k) one.old old_told one.new.pass.part.events one.plays
 
-      tame_before : told_of.is_tame (after_mix k) ≡ true → told_of.is_tame b ≡ true
-      tame_before tame = sym (ap is_lawful (server_client b.told does)) ∙ tame
+      alike_now : TellAlike b.shape (deed ++ more) (told_of.server_list b ++ does)
+      alike_now = subst (λ (n : ℕ). TellAlike b.shape (deed ++ more) (told_of.server_list b ++ cycle_events n (told_of.listed b) (entry_slot e.entry k) (front_of n (told_of.listed b) (entry_slot e.entry k)))) frames
+          (cycle_told_alike x.fast.frames (real_list b deed) (told_of.listed b) (entry_slot e.entry k) one.plays.front refl did.alike looks)
 
-      new_told : TellsServer (after_mix k) one.new
-      new_told = record {
-        shape = same_block ∙ old_told.shape;
-        events = (λ tame. one.plays.list ∙ (λ j. old_told.events (tame_before tame) j ++ events_are (tame_before tame) j) ∙ sym grown);
-        alike = subst (λ (y : List ServerEvent × List ServerEvent). TellAlike b.shape y.0 y.1) (λ j. (sym one.plays.list j, sym grown j)) alike_now;
-        taken = one.frames_are ∙ (λ j. old_told.taken j ++ map packed_word (saw.frames k low j));
-      }
+      own_now : SawOwnOf b.shape (deed ++ more) → deed ++ more ≡ told_of.server_list (after_mix k)
+      own_now saw =
+          let list : deed ≡ told_of.server_list b = list_own x.fast.frames b deed (entry_slot e.entry k) did one.plays.front looks saw in
+          let events : more ≡ does = front_own x.fast.frames b deed (entry_slot e.entry k) did one.plays.front looks saw
+          ∙ ap (λ (n : ℕ). cycle_events n (told_of.listed b) (entry_slot e.entry k) (front_of n (told_of.listed b) (entry_slot e.entry k))) frames in
+          (λ j. list j ++ events j) ∙ sym grown
+
+      did_now : DeedTold (after_mix k) one.new.pass.part.events
+      did_now = subst (DeedTold (after_mix k)) (sym list_now) (record { alike = subst (TellAlike b.shape (deed ++ more)) (sym grown) alike_now; own = own_now })
+
+      new_told : TellsServer (done_on (after_mix k) one.new.pass.part.events) one.new
+      new_told = record { shape = same_block ∙ old_told.shape; events = refl; taken = one.frames_are ∙ (λ j. old_told.taken j ++ map packed_word (saw.frames k low j)) }
 
       there_none : (o : Option ServerState) → stream_at x.normal.streams i ≡ o → stream_at x.normal.streams i ≡ None
       there_none None is = is
       there_none (Some p) is = absurd (true≢false (sym (ap is_some is) ∙ together.normal.tied.proxies.there i inside ∙ gone))
 
-      stream_played : TellsStream x.normal g i (after_mix k)
+      stream_played : TellsStream x.normal g i (after_mix k) one.new.pass.part.events
       stream_played = record {
-        home = none_there (after_mix k) (stream_at x.normal.streams i) (there_none (stream_at x.normal.streams i) refl);
+        home = none_there (done_on (after_mix k) one.new.pass.part.events) (stream_at x.normal.streams i) (there_none (stream_at x.normal.streams i) refl);
         away = (λ off. record {
-          held = there_is (after_mix k) (item_at g.observer.items (held_slot g i)) one.new (ap (item_at g.observer.items) (held_same i ∙ found) ∙ one.is) new_told;
+          held = there_is (done_on (after_mix k) one.new.pass.part.events) (item_at g.observer.items (held_slot g i)) one.new (ap (item_at g.observer.items) (held_same i ∙ found) ∙ one.is) new_told;
           goes = (λ none. absurd (none-some k (sym none ∙ held_same i ∙ found)));
           comes = (λ none. absurd (none-some k (sym none ∙ held_same i ∙ found)));
           waits = (λ none. absurd (none-some k (sym none ∙ held_same i ∙ found)));
           back = (λ none. absurd (none-some k (sym none ∙ held_same i ∙ found)));
         });
-        hand = h.hand ∙ sym (hand_still b.told (cycle_events (cycle_frames s) (told_of.listed b) (entry_slot e.entry k) (front_of (cycle_frames s) (told_of.listed b) (entry_slot e.entry k))));
+        hand = h.hand ∙ sym (hand_still b.told does);
       }
 
-  -- the stream of a track after a mix
-  pub stream_mixed : (i : ℕ) (t : TrackTold) → i < length x.normal.tracks → (told_of.is_tame t.stream ≡ true → (k : ℕ) (p : ServerState) → slot_for state i ≡ Some k → at g.observer.items k ≡ Some p → SawOwn p) → TellsStream x.normal x.fast i t.stream
-      → TellsStream x.normal g i (mixed_track s state e i t).stream
-  stream_mixed i t inside own h = by_slot (slot_for state i) refl
+      item_list : list_of (at g.observer.items k) deed ≡ one.new.pass.part.events
+      item_list = ap (λ (o : Option ServerState). list_of o deed) one.is
+
+  -- that of each track
+  pub stream_mixed : (i : ℕ) (t : TrackTold) (deed : List ServerEvent) → i < length x.normal.tracks → TellsStream x.normal x.fast i t.stream deed → DeedTold t.stream deed → StreamMixed x.normal g i (mixed_track s state e i t).stream deed (list_mixed state g i deed)
+  stream_mixed i t deed inside h did = by_slot (slot_for state i) refl
     where
-      by_slot : (o : Option ℕ) → slot_for state i ≡ o → TellsStream x.normal g i (mixed_track s state e i t).stream
+      stream_by : Option ℕ → BlockTold
+      stream_by o = (elim o as (λ o. TrackTold) [ None ↦ t | Some k ↦ record t { stream = played (cycle_frames s) e k t.stream } ]).stream
+
+      by_slot : (o : Option ℕ) → slot_for state i ≡ o → StreamMixed x.normal g i (mixed_track s state e i t).stream deed (list_mixed state g i deed)
       by_slot None none =
-          subst (λ (o : Option ℕ). TellsStream x.normal g i (elim o as (λ o. TrackTold) [ None ↦ t | Some k ↦ record t { stream = played (cycle_frames s) e k t.stream } ]).stream) (sym (found_so i ∙ none))
-          (record { home = h.home; away = (λ gone. away_still i (slot_number (track_at x.normal.tracks i)) t.stream none (h.away gone)); hand = h.hand })
+          subst (λ (y : Option ℕ × Option ℕ). StreamMixed x.normal g i (stream_by y.0) deed (list_by y.1 g deed)) (λ j. (sym (found_so i ∙ none) j, sym none j))
+          (record { told = record { home = h.home; away = (λ gone. away_still i (slot_number (track_at x.normal.tracks i)) (done_on t.stream deed) none (h.away gone)); hand = h.hand }; did = did; goes = ([], append-nil deed) })
       by_slot (Some k) found =
-          subst (λ (o : Option ℕ). TellsStream x.normal g i (elim o as (λ o. TrackTold) [ None ↦ t | Some k ↦ record t { stream = played (cycle_frames s) e k t.stream } ]).stream) (sym (found_so i ∙ found))
-          (stream_played i t.stream h inside own k found)
+          subst (λ (y : Option ℕ × Option ℕ). StreamMixed x.normal g i (stream_by y.0) deed (list_by y.1 g deed)) (λ j. (sym (found_so i ∙ found) j, sym found j))
+          (subst (λ (es : List ServerEvent). StreamMixed x.normal g i (played (cycle_frames s) e k t.stream) deed es) (sym (item_list i t.stream deed h did inside k found))
+          (record { told = stream_played i t.stream deed h did inside k found; did = did_now i t.stream deed h did inside k found; goes = (more i t.stream deed h did inside k found, sym (list_now i t.stream deed h did inside k found)) }))

@@ -1,5 +1,5 @@
--- A mix is told by the run, where each front that its looks saw at a block that wasn't poked is the server's own: its entry is legal, and the run with it tells the session.
-use Rattle.std.proofs.Common.{◌≡◌, ◌⊎◌, inl, inr, ℕ, ◌<◌, ◌≤◌, Bool, true, false, true≢false, List, [], ◌++◌, length, slice_get, Option, Some, None, refl, sym, ap, ◌∙◌, subst, arith}
+-- A mix is told by the run: the run with it tells the session, and its entry is legal by marks on whose blocks each front seen is the server's own.
+use Rattle.std.proofs.Common.{Bool, List, None, Option, Some, [], ap, append-nil, arith, false, if◌then◌else◌, inl, inr, length, refl, slice_get, subst, sym, true, true≢false, ℕ, ⊎_elim, ◌++◌, ◌<◌, ◌∙◌, ◌≡◌, ◌≤◌, ◌⊎◌}
 use Rattle.std.proofs.lemmas.Option.{slice_get_within}
 use Rattle.af_base.specs.declared.frame.Frame.{Frame}
 use Rattle.af_base.specs.declared.log.Cycle.{Cycle}
@@ -12,8 +12,7 @@ use Rattle.af_fast.specs.Mixer.{MixerState}
 use Rattle.af_fast.specs.Mixing.{AddsCycle}
 use Rattle.af_fast.specs.Slots.{SlotPlayed}
 use Rattle.af_link.specs.declared.links.Links.{Links}
-use Rattle.af_model.specs.Cycles.{TrackSlot, cycle_events, is_mixed}
-use Rattle.af_model.specs.History.{is_lawful}
+use Rattle.af_model.specs.Cycles.{LooksBy, TrackSlot, cycle_events, is_mixed}
 use Rattle.af_model.specs.Journals.{EntrySeen}
 use Rattle.af_model.specs.StateQueue.{HasHistory, carries, slot_of}
 use Rattle.af_party.specs.Parties.{PartyState}
@@ -27,32 +26,32 @@ use Rattle.af_runs.specs.Sessions.{Session, cycle_frames}
 use Rattle.af_judge.proofs.EachTrack.{each_long, told_each}
 use Rattle.af_judge.proofs.EntryTracks.{mixed_sides}
 use Rattle.af_server.specs.Order.{ServerState}
-use Rattle.af_server.specs.Slot.{listed}
-use Rattle.af_runs.specs.ClientTurns.{Track}
 use Rattle.std.proofs.lemmas.Bool.{cases_lt}
 use Rattle.af_base.specs.declared.event.ServerEvent.{ServerEvent}
 use Rattle.af_stateq.specs.Mutates.{at}
 use Rattle.af_rendering.specs.Leads.{LeadAway}
 use Rattle.af_session.specs.Met.{item_at, slot_for}
 use Rattle.af_session.specs.Together.{AreTogether, SessionState}
-use Rattle.af_told_law.specs.MixLaws.{AreMarked, MixIsTold, TookCounted, entry_added}
-use Rattle.af_told_law.specs.Own.{SawOwn, SeesOwn}
-use Rattle.af_told_law.specs.Tells.{IsFresh, SawTold, Tells, TellsCommands, TellsServer, TellsStream, TellsTrack}
+use Rattle.af_told_law.specs.MixLaws.{MixIsTold, TookCounted, entry_added}
+use Rattle.af_told_law.specs.Tells.{IsFresh, SawTold, Tells, TellsCommands, TellsServer, TellsTrack}
 use Rattle.af_told_law.proofs.AllMeet.{some_at}
 use Rattle.af_told_law.proofs.MixCounted as counted
 use Rattle.af_told_law.proofs.MixEnds.{fast_mixed, normal_mixed, pipe_still, shared_mixed}
 use Rattle.af_told_law.proofs.MixKnown.{block_known}
 use Rattle.af_told_law.proofs.MixLegal.{FindsTold, entry_legal}
 use Rattle.af_told_law.proofs.KeptAlike.{looks_told}
-use Rattle.af_told_law.proofs.MixLooks.{looked_told}
+use Rattle.af_told_law.proofs.MixLooks.{front_lawful, list_grown, list_own, looks_real, real_list}
 use Rattle.af_told_law.proofs.MixPipe.{pipe_mixed}
 use Rattle.af_told_law.proofs.MixSaw.{current_is, mix_is, saw_told}
-use Rattle.af_told_law.proofs.MixSlots.{found_slot, held_after, inside, order_after, shape_same, state_same}
+use Rattle.af_told_law.proofs.MixSlots.{found_slot, held_after, inside, order_after, state_same}
 use Rattle.af_told_law.proofs.MixStates.{few_adopted, same_cold, same_state, state_told}
 use Rattle.af_told_law.proofs.MixStays.{stream_stays, track_still}
-use Rattle.af_told_law.proofs.MixStreams.{stream_mixed}
+use Rattle.af_told_law.proofs.MixStreams.{StreamMixed, list_by, list_mixed, stream_mixed}
 use Rattle.af_told_law.proofs.PipeFront.{front_taken}
 use Rattle.af_link.specs.PipeEnds.{SeesTaken}
+use Rattle.af_cblk.specs.Rule.{StartsWith}
+use Rattle.af_told_law.proofs.SlotHeld.{found_carries, found_track}
+use Rattle.af_told_law.specs.Deeds.{DeedTold, Deeds, GoOn, SawOwnBy, SawOwnOf, done_on}
 
 -- the commands of a track are as they were
 commands_stay : (s : Session) (x : FastState) (e : EntrySeen) (i : ℕ) (t : TrackTold) → (mixed_track s x e i t).commands ≡ t.commands
@@ -62,17 +61,17 @@ commands_stay s x e i t = by_slot (run_of.slot_for x e.entry i)
     by_slot None = refl
     by_slot (Some k) = refl
 
--- how the parties stand before a mix to g, after the poll and the meetings of its cycle
-record MayMix (links : Links) (s : Session) (run : Run) (x : SessionState) (g : MixerState) : Type 0 where
+-- how the parties stand before a mix to g, after the poll of its cycle
+record MayMix (links : Links) (s : Session) (run : Run) (d : Deeds) (x : SessionState) (g : MixerState) : Type 0 where
   together : AreTogether links x
   after : AreTogether links (record x { fast = g })
   lead : LeadAway x.fast.observer.past.state x.normal.tracks
   queue : HasHistory x.normal.mutator.past.first x.normal.mutator.past.events x.fast.observer.past.events
   counted : TookCounted x.fast
   sees : SeesTaken 0 g.pipe.pass.part.events
-  told : Tells s run x
+  told : Tells s run d x
 
-module _ (links : Links) (s : Session) (marks : Marks) (run : Run) (x : SessionState) (g : MixerState) (may : MayMix links s run x g) (entry : CycleEntry) (adds : AddsCycle x.fast g entry) (sizes : (g.frames ≡ x.fast.frames) × (g.cycles ≡ x.fast.cycles)) (marked : AreMarked marks run) (own : SeesOwn (record x { fast = g })) where
+module _ (links : Links) (s : Session) (run : Run) (d : Deeds) (x : SessionState) (g : MixerState) (may : MayMix links s run d x g) (entry : CycleEntry) (adds : AddsCycle x.fast g entry) (sizes : (g.frames ≡ x.fast.frames) × (g.cycles ≡ x.fast.cycles)) where
   abbrev e : EntrySeen
   e = entry_added x g entry
 
@@ -93,28 +92,41 @@ module _ (links : Links) (s : Session) (marks : Marks) (run : Run) (x : SessionS
   track_of : (i : ℕ) → i < length x.normal.tracks → (p : PartyState) × (slice_get x.clients i ≡ Some p)
   track_of i low = some_at x.clients i (let c = may.together.count in omega (arith, c, low))
 
-  stream_before : (i : ℕ) → i < length x.normal.tracks → TellsStream x.normal x.fast i (told_at run i).stream
-  stream_before i low = let p = track_of i low in (may.told.tracks i p.0 p.1).stream
+  track_before : (i : ℕ) → (low : i < length x.normal.tracks) → TellsTrack s x.normal x.fast d i (told_at run i) (track_of i low).0
+  track_before i low = let p = track_of i low in may.told.tracks i p.0 p.1
 
   saw : is_mixed entry.cycle ≡ true → SawTold x.fast g e
   saw mixed = saw_told links x g may.together may.after may.lead entry adds mixed
 
-  -- what is seen at a block that wasn't poked
-  own_at : (i : ℕ) → i < length x.normal.tracks → told_of.is_tame (told_at run i).stream ≡ true → (k : ℕ) (p : ServerState) → slot_for state i ≡ Some k → at g.observer.items k ≡ Some p → SawOwn p
-  own_at i low tame k p found item =
-      let c = track_of i low in
-      own.held i c.0 p c.1 (ap (λ (t : Track). is_lawful t.stream.events) (sym (may.told.tracks i c.0 c.1).client) ∙ tame)
-      (ap (λ (z : FastState). item_at g.observer.items (slot_for z i)) (state_same links x g may.together may.after may.lead adds.takes.observer) ∙ ap (item_at g.observer.items) found ∙ item)
+  -- what the servers did with the mix, and where nothing was mixed
+  abbrev by_entry : Bool → Deeds
+  by_entry mixes = if mixes then record { streams = λ i. list_mixed state g i (d.streams i); commands = d.commands } else d
 
-  stream_after : (i : ℕ) → i < length x.normal.tracks → TellsStream x.normal g i (mixed_track s state e i (told_at run i)).stream
+  abbrev left : Deeds
+  left = by_entry (is_mixed entry.cycle)
+
+  stream_after : (i : ℕ) → i < length x.normal.tracks → StreamMixed x.normal g i (mixed_track s state e i (told_at run i)).stream (d.streams i) (left.streams i)
   stream_after i low = by_mixed (is_mixed entry.cycle) refl
     where
-      by_mixed : (b : Bool) → is_mixed entry.cycle ≡ b → TellsStream x.normal g i (mixed_track s state e i (told_at run i)).stream
+      After : Bool → Type 0
+      After mixes = StreamMixed x.normal g i (mixed_track s state e i (told_at run i)).stream (d.streams i) ((by_entry mixes).streams i)
+
+      by_mixed : (b : Bool) → is_mixed entry.cycle ≡ b → After (is_mixed entry.cycle)
       by_mixed true mixed =
-          stream_mixed links x g may.together may.after e s may.told.fast.frames (current_is links x g may.together may.after may.lead entry adds mixed) mixed adds.takes (saw mixed) may.lead i (told_at run i) low (own_at i low) (stream_before i low)
+          let was = track_before i low in
+          subst After (sym mixed)
+          (stream_mixed links x g may.together may.after e s may.told.fast.frames (current_is links x g may.together may.after may.lead entry adds mixed) mixed adds.takes (saw mixed) may.lead i (told_at run i) (d.streams i) low was.stream was.did.stream)
       by_mixed false dry =
-          subst (λ (t : TrackTold). TellsStream x.normal g i t.stream) (sym (track_still s state e i (told_at run i) (adds.legal.still dry)))
-          (stream_stays x.normal x.fast g (adds.takes.still dry).0 i (told_at run i).stream (stream_before i low))
+          let was = track_before i low in
+          subst After (sym dry) (subst (λ (t : TrackTold). StreamMixed x.normal g i t.stream (d.streams i) (d.streams i)) (sym (track_still s state e i (told_at run i) (adds.legal.still dry)))
+          (record { told = stream_stays x.normal x.fast g (adds.takes.still dry).0 i (told_at run i).stream (d.streams i) was.stream; did = was.did.stream; goes = ([], append-nil (d.streams i)) }))
+
+  commands_left : (i : ℕ) → left.commands i ≡ d.commands i
+  commands_left i = by_mixed (is_mixed entry.cycle)
+    where
+      by_mixed : (b : Bool) → (by_entry b).commands i ≡ d.commands i
+      by_mixed true = refl
+      by_mixed false = refl
 
   -- ## The proxies of the slots
 
@@ -125,75 +137,89 @@ module _ (links : Links) (s : Session) (marks : Marks) (run : Run) (x : SessionS
     here : slot_track k < length x.normal.tracks
     here = inside links x g may.together may.after may.lead adds.takes.observer k low carried
 
+    within : slot_track k < length run.tracks
+    within = let c = may.told.count in let n = may.together.count in let i = here in omega (arith, c, n, i)
+
     found_here : slot_for state (slot_track k) ≡ Some k
     found_here = found_slot links x g may.together may.after may.lead adds.takes.observer k low carried
 
-    told_before : (p : ServerState) → at x.fast.observer.items k ≡ Some p → TellsServer (stream_of run state k) p
-    told_before p item = ((stream_before (slot_track k) here).away (may.lead k low carried).0).held p (ap (item_at x.fast.observer.items) found_here ∙ item)
-
-    told_after : (p : ServerState) → at g.observer.items k ≡ Some p → TellsServer (mixed_track s state e (slot_track k) (told_at run (slot_track k))).stream p
-    told_after p item =
-        ((stream_after (slot_track k) here).away (may.lead k low carried).0).held p
-        (ap (λ (z : FastState). item_at g.observer.items (slot_for z (slot_track k))) (state_same links x g may.together may.after may.lead adds.takes.observer) ∙ ap (item_at g.observer.items) found_here ∙ item)
-
-    -- the list that is told of the block, and that of the slot's look after it
+    -- the list that is told of the block, and what its proxy did before the mix
     abbrev block : BlockTold
     block = stream_of run state k
 
+    abbrev deed : List ServerEvent
+    deed = d.streams (slot_track k)
+
+    did_before : DeedTold block deed
+    did_before = (track_before (slot_track k) here).did.stream
+
+    told_before : (p : ServerState) → at x.fast.observer.items k ≡ Some p → TellsServer (done_on block deed) p
+    told_before p item = ((track_before (slot_track k) here).stream.away (may.lead k low carried).0).held p (ap (item_at x.fast.observer.items) found_here ∙ item)
+
+    told_after : (p : ServerState) → at g.observer.items k ≡ Some p → TellsServer (done_on (mixed_track s state e (slot_track k) (told_at run (slot_track k))).stream (left.streams (slot_track k))) p
+    told_after p item =
+        ((stream_after (slot_track k) here).told.away (may.lead k low carried).0).held p
+        (ap (λ (z : FastState). item_at g.observer.items (slot_for z (slot_track k))) (state_same links x g may.together may.after may.lead adds.takes.observer) ∙ ap (item_at g.observer.items) found_here ∙ item)
+
     slot_told : is_mixed entry.cycle ≡ true → (es : List ServerEvent) × TrackSlot (cycle_frames s) (told_of.listed block) es (entry_slot entry k)
-        × (marks.streams (slot_of state k).track ≡ true → es ≡ server_list block ++ cycle_events (cycle_frames s) (told_of.listed block) (entry_slot entry k) (lawful_front (cycle_frames s) (told_of.listed block) (entry_slot entry k)))
+        × (SawOwnOf block.shape (left.streams (slot_track k)) → es ≡ server_list block ++ cycle_events (cycle_frames s) (told_of.listed block) (entry_slot entry k) (lawful_front (cycle_frames s) (told_of.listed block) (entry_slot entry k)))
     slot_told mixed =
         let one : SlotPlayed x.fast.frames (at x.fast.observer.items k) (at g.observer.items k) g.log.frames (entry_slot entry k) = adds.takes.tracks mixed state (current_is links x g may.together may.after may.lead entry adds mixed) k low carried in
-        let old : TellsServer block one.old = told_before one.old one.was in
-        let same = shape_same links x g may.together may.after may.lead adds.takes.observer k one.old one.new low one.was one.is in
+        let old : TellsServer (done_on block deed) one.old = told_before one.old one.was in
+        let looks : LooksBy x.fast.frames (real_list block deed) (entry_slot entry k) one.plays.front = looks_real x.fast.frames block deed (entry_slot entry k) one.old old one.new.pass.part.events one.plays in
+        let now : left.streams (slot_track k) ≡ deed ++ cycle_events x.fast.frames (real_list block deed) (entry_slot entry k) one.plays.front =
+        sym (told_after one.new one.is).events ∙ list_grown x.fast.frames block deed (entry_slot entry k) one.old old one.new.pass.part.events one.plays in
         subst (λ (n : ℕ). (es : List ServerEvent) × TrackSlot n (told_of.listed block) es (entry_slot entry k)
-        × (marks.streams (slot_of state k).track ≡ true → es ≡ server_list block ++ cycle_events n (told_of.listed block) (entry_slot entry k) (lawful_front n (told_of.listed block) (entry_slot entry k)))) may.told.fast.frames (
+        × (SawOwnOf block.shape (left.streams (slot_track k)) → es ≡ server_list block ++ cycle_events n (told_of.listed block) (entry_slot entry k) (lawful_front n (told_of.listed block) (entry_slot entry k)))) may.told.fast.frames (
           server_list block ++ cycle_events x.fast.frames (told_of.listed block) (entry_slot entry k) one.plays.front,
-          record { front = one.plays.front; looks = looks_told x.fast.frames (listed one.old) (told_of.listed block) (entry_slot entry k) one.plays.front old.shape old.alike one.plays.looks; list = refl },
-          (λ on.
-              let tame = marked (slot_track k) (let c = may.told.count in let n = may.together.count in let i = here in omega (arith, c, n, i)) on in
-              ap (λ (es : List ServerEvent). server_list block ++ es) (looked_told x.fast.frames one.old one.new (entry_slot entry k) same one.plays (own_at (slot_track k) here tame k one.new found_here one.is) block old tame).1),
+          record { front = one.plays.front; looks = looks_told x.fast.frames (real_list block deed) (told_of.listed block) (entry_slot entry k) one.plays.front refl did_before.alike looks; list = refl },
+          (λ saw.
+              let saw_here = subst (SawOwnOf block.shape) now saw in
+              let list : deed ≡ server_list block = list_own x.fast.frames block deed (entry_slot entry k) did_before one.plays.front looks saw_here in
+              ap (λ (es : List ServerEvent). server_list block ++ es)
+              (sym (ap (λ (es : List ServerEvent). cycle_events x.fast.frames (real_list block es) (entry_slot entry k) one.plays.front) list) ∙ front_lawful x.fast.frames block deed (entry_slot entry k) did_before one.plays.front looks saw_here)),
         )
 
     looked_at : told_at (with_looks s e run) (slot_track k) ≡ mixed_track s state e (slot_track k) (told_at run (slot_track k))
     looked_at =
-        told_each (mixed_track s now e) run (slot_track k) (let c = may.told.count in let n = may.together.count in let i = here in omega (arith, c, n, i))
+        told_each (mixed_track s now e) run (slot_track k) within
         ∙ ap (λ (z : FastState). mixed_track s z e (slot_track k) (told_at run (slot_track k))) now_is
 
     knows : known g.observer k ≡ known_of (told_of.listed (stream_of (with_looks s e run) state k))
     knows =
         let p = held_after links x g may.together may.after may.lead adds.takes.observer k low carried in
         ap known_at p.1
-        ∙ block_known (mixed_track s state e (slot_track k) (told_at run (slot_track k))).stream p.0 (order_after links x g may.together may.after may.lead adds.takes.observer k p.0 low p.1) (told_after p.0 p.1)
+        ∙ block_known (mixed_track s state e (slot_track k) (told_at run (slot_track k))).stream (left.streams (slot_track k)) p.0 (order_after links x g may.together may.after may.lead adds.takes.observer k p.0 low p.1) (told_after p.0 p.1) (stream_after (slot_track k) here).did
         ∙ ap (λ (t : TrackTold). known_of (told_of.listed t.stream)) (sym looked_at)
 
-  -- ## The entry
+  -- ## The entry, by marks on whose blocks each front seen is a server's own
 
-  -- the list of each slot after the mix
-  slot_after : (k : ℕ) → (es : List ServerEvent) × (is_mixed entry.cycle ≡ true → k < slots → carries state k ≡ true → TrackSlot (cycle_frames s) (told_of.listed (stream_of run state k)) es (entry_slot entry k)
-      × (marks.streams (slot_of state k).track ≡ true → es ≡ server_list (stream_of run state k) ++ cycle_events (cycle_frames s) (told_of.listed (stream_of run state k)) (entry_slot entry k) (lawful_front (cycle_frames s) (told_of.listed (stream_of run state k)) (entry_slot entry k))))
-  slot_after k = by_slot (is_mixed entry.cycle) (cases_lt k slots) (carries state k) refl refl
-    where
-      by_slot : (b : Bool) → (k < slots) ⊎ (slots ≤ k) → (c : Bool) → is_mixed entry.cycle ≡ b → carries state k ≡ c
-          → (es : List ServerEvent) × (is_mixed entry.cycle ≡ true → k < slots → carries state k ≡ true → TrackSlot (cycle_frames s) (told_of.listed (stream_of run state k)) es (entry_slot entry k)
-          × (marks.streams (slot_of state k).track ≡ true → es ≡ server_list (stream_of run state k) ++ cycle_events (cycle_frames s) (told_of.listed (stream_of run state k)) (entry_slot entry k) (lawful_front (cycle_frames s) (told_of.listed (stream_of run state k)) (entry_slot entry k))))
-      by_slot true (inl low) true mixed on = let one = slot_told k low on mixed in (one.0, λ _ _ _. (one.1, one.2))
-      by_slot false low c dry on = ([], λ mixed _ _. absurd (true≢false (sym mixed ∙ dry)))
-      by_slot true (inr high) c mixed on = ([], λ _ low _. absurd (omega (arith, low, high)))
-      by_slot true (inl low) false mixed off = ([], λ _ _ on. absurd (true≢false (sym on ∙ off)))
+  module _ (marks : Marks) (own : SawOwnBy marks run left) where
+    -- the list of each slot after the mix
+    slot_after : (k : ℕ) → (es : List ServerEvent) × (is_mixed entry.cycle ≡ true → k < slots → carries state k ≡ true → TrackSlot (cycle_frames s) (told_of.listed (stream_of run state k)) es (entry_slot entry k)
+        × (marks.streams (slot_of state k).track ≡ true → es ≡ server_list (stream_of run state k) ++ cycle_events (cycle_frames s) (told_of.listed (stream_of run state k)) (entry_slot entry k) (lawful_front (cycle_frames s) (told_of.listed (stream_of run state k)) (entry_slot entry k))))
+    slot_after k = by_slot (is_mixed entry.cycle) (cases_lt k slots) (carries state k) refl refl
+      where
+        by_slot : (b : Bool) → (k < slots) ⊎ (slots ≤ k) → (c : Bool) → is_mixed entry.cycle ≡ b → carries state k ≡ c
+            → (es : List ServerEvent) × (is_mixed entry.cycle ≡ true → k < slots → carries state k ≡ true → TrackSlot (cycle_frames s) (told_of.listed (stream_of run state k)) es (entry_slot entry k)
+            × (marks.streams (slot_of state k).track ≡ true → es ≡ server_list (stream_of run state k) ++ cycle_events (cycle_frames s) (told_of.listed (stream_of run state k)) (entry_slot entry k) (lawful_front (cycle_frames s) (told_of.listed (stream_of run state k)) (entry_slot entry k))))
+        by_slot true (inl low) true mixed on = let one = slot_told k low on mixed in (one.0, λ _ _ _. (one.1, λ marked. one.2 (own.streams (slot_track k) (within k low on) marked)))
+        by_slot false low c dry on = ([], λ mixed _ _. absurd (true≢false (sym mixed ∙ dry)))
+        by_slot true (inr high) c mixed on = ([], λ _ low _. absurd (omega (arith, low, high)))
+        by_slot true (inl low) false mixed off = ([], λ _ _ on. absurd (true≢false (sym on ∙ off)))
 
-  finds : FindsTold s marks run x.fast e
-  finds = record {
-    few = few_adopted s run x.normal x.fast may.together.fast.0 may.told.normal may.told.fast may.queue;
-    same = same_state s run x.normal x.fast may.together.fast.0 may.told.normal may.told.fast may.queue entry.state (let n = adds.state in omega (arith, n));
-    cold = same_cold s run x.normal x.fast may.together.fast.0 may.told.normal may.told.fast may.queue;
-    servers = (λ i. record { shape = (stream_of run now i).shape; events = (slot_after i).0 });
-    tracks = (λ mixed i low on. subst (λ (z : FastState). carries z i ≡ true → TrackSlot (cycle_frames s) (told_of.listed (stream_of run z i)) (slot_after i).0 (entry_slot entry i)) (sym now_is) (λ (c : carries state i ≡ true). ((slot_after i).1 mixed low c).0) on);
-    lawful = (λ mixed i low on.
-        subst (λ (z : FastState). carries z i ≡ true → marks.streams (slot_of z i).track ≡ true
-        → (slot_after i).0 ≡ server_list (stream_of run z i) ++ cycle_events (cycle_frames s) (told_of.listed (stream_of run z i)) (entry_slot entry i) (lawful_front (cycle_frames s) (told_of.listed (stream_of run z i)) (entry_slot entry i)))
-        (sym now_is) (λ (c : carries state i ≡ true). ((slot_after i).1 mixed low c).1) on);
-  }
+    finds : FindsTold s marks run x.fast e
+    finds = record {
+      few = few_adopted s run x.normal x.fast may.together.fast.0 may.told.normal may.told.fast may.queue;
+      same = same_state s run x.normal x.fast may.together.fast.0 may.told.normal may.told.fast may.queue entry.state (let n = adds.state in omega (arith, n));
+      cold = same_cold s run x.normal x.fast may.together.fast.0 may.told.normal may.told.fast may.queue;
+      servers = (λ i. record { shape = (stream_of run now i).shape; events = (slot_after i).0 });
+      tracks = (λ mixed i low on. subst (λ (z : FastState). carries z i ≡ true → TrackSlot (cycle_frames s) (told_of.listed (stream_of run z i)) (slot_after i).0 (entry_slot entry i)) (sym now_is) (λ (c : carries state i ≡ true). ((slot_after i).1 mixed low c).0) on);
+      lawful = (λ mixed i low on.
+          subst (λ (z : FastState). carries z i ≡ true → marks.streams (slot_of z i).track ≡ true
+          → (slot_after i).0 ≡ server_list (stream_of run z i) ++ cycle_events (cycle_frames s) (told_of.listed (stream_of run z i)) (entry_slot entry i) (lawful_front (cycle_frames s) (told_of.listed (stream_of run z i)) (entry_slot entry i)))
+          (sym now_is) (λ (c : carries state i ≡ true). ((slot_after i).1 mixed low c).1) on);
+    }
 
   -- ## The ends
 
@@ -221,23 +247,26 @@ module _ (links : Links) (s : Session) (marks : Marks) (run : Run) (x : SessionS
 
   -- ## All
 
-  track_after : (i : ℕ) (p : PartyState) → slice_get x.clients i ≡ Some p → TellsTrack s x.normal g i (mixed_track s state e i (told_at run i)) p
+  track_after : (i : ℕ) (p : PartyState) → slice_get x.clients i ≡ Some p → TellsTrack s x.normal g left i (mixed_track s state e i (told_at run i)) p
   track_after i p is =
       let old = may.told.tracks i p is in
       let low : i < length x.normal.tracks = (let w = slice_get_within x.clients i p is in let c = may.together.count in omega (arith, w, c)) in
+      let stream = stream_after i low in
+      let same : (mixed_track s state e i (told_at run i)).commands ≡ (told_at run i).commands = commands_stay s state e i (told_at run i) in
       record {
         client = mixed_sides s state e i (told_at run i) ∙ old.client;
-        stream = stream_after i low;
-        commands = subst (λ (b : BlockTold). (c : ServerState) → slice_get x.normal.commands i ≡ Some c → TellsCommands b c) (sym (commands_stay s state e i (told_at run i))) old.commands;
+        stream = stream.told;
+        commands = subst (λ (y : BlockTold × List ServerEvent). (c : ServerState) → slice_get x.normal.commands i ≡ Some c → TellsCommands y.0 y.1 c) (λ j. (sym same j, sym (commands_left i) j)) old.commands;
+        did = record { stream = stream.did; commands = subst (λ (y : BlockTold × List ServerEvent). DeedTold y.0 y.1) (λ j. (sym same j, sym (commands_left i) j)) old.did.commands };
       }
 
   -- the run with the mix tells the session
-  told_all : Tells s (with_mix s e run) session
+  told_all : Tells s (with_mix s e run) left session
   unfolding with_mix
   told_all = record {
     count = (each_long (mixed_track s now e) 0 run.tracks ∙ may.told.count.0, may.told.count.1);
     tracks = (λ i p is.
-        subst (λ (t : TrackTold). TellsTrack s x.normal g i t p)
+        subst (λ (t : TrackTold). TellsTrack s x.normal g left i t p)
         (sym (told_each (mixed_track s now e) run i (let w = slice_get_within x.clients i p is in let c = may.told.count in omega (arith, w, c)) ∙ ap (λ (z : FastState). mixed_track s z e i (told_at run i)) now_is))
         (track_after i p is));
     shared = shared_mixed s run x.normal x.fast g e may.told.shared may.told.fast adds sizes may.after.fast.0 pipe_after pipe_shape report_is fresh;
@@ -245,13 +274,45 @@ module _ (links : Links) (s : Session) (marks : Marks) (run : Run) (x : SessionS
     fast = fast_mixed s run x.normal x.fast g e may.told.shared may.told.fast adds sizes may.after.fast.0 pipe_after pipe_shape report_is fresh;
   }
 
+  -- the servers went on
+  goes_on : GoOn d left
+  goes_on = record { streams = each; commands = (λ i. ([], append-nil (d.commands i) ∙ sym (commands_left i))) }
+    where
+      outside : (i : ℕ) → length x.normal.tracks ≤ i → (b : Bool) → is_mixed entry.cycle ≡ b → StartsWith ((by_entry b).streams i) (d.streams i)
+      outside i high false dry = ([], append-nil (d.streams i))
+      outside i high true mixed = by_slot (slot_for state i) refl
+        where
+          by_slot : (o : Option ℕ) → slot_for state i ≡ o → StartsWith (list_by o g (d.streams i)) (d.streams i)
+          by_slot None none = ([], append-nil (d.streams i))
+          by_slot (Some k) found =
+              let held = found_carries state i k found in
+              let low = inside links x g may.together may.after may.lead adds.takes.observer k held.0 held.1 in
+              let same : slot_track k ≡ i = found_track state i k found in
+              absurd (omega (arith, low, high, same))
+
+      each : (i : ℕ) → StartsWith (left.streams i) (d.streams i)
+      each i = ⊎_elim (λ (low : i < length x.normal.tracks). (stream_after i low).goes) (λ (high : length x.normal.tracks ≤ i). outside i high (is_mixed entry.cycle) refl) (cases_lt i (length x.normal.tracks))
+
+  -- of a stream's proxy that isn't held nothing more is told
+  rests : (i : ℕ) → slot_for state i ≡ None → left.streams i ≡ d.streams i
+  rests i none = by_mixed (is_mixed entry.cycle)
+    where
+      by_mixed : (b : Bool) → (by_entry b).streams i ≡ d.streams i
+      by_mixed true = ap (λ (o : Option ℕ). list_by o g (d.streams i)) none
+      by_mixed false = refl
+
   -- the entry is legal
-  legal_entry : LegalEntry s marks run e
-  legal_entry = entry_legal s marks run x.normal x.fast g e may.told.shared may.told.fast adds finds (shared_mixed s run x.normal x.fast g e may.told.shared may.told.fast adds sizes may.after.fast.0 pipe_after pipe_shape report_is fresh)
+  legal_entry : (marks : Marks) → SawOwnBy marks run left → LegalEntry s marks run e
+  legal_entry marks own = entry_legal s marks run x.normal x.fast g e may.told.shared may.told.fast adds (finds marks own) (shared_mixed s run x.normal x.fast g e may.told.shared may.told.fast adds sizes may.after.fast.0 pipe_after pipe_shape report_is fresh)
 
 -- the mix of a mixer that isn't over
-pub mix_told : (links : Links) (s : Session) (marks : Marks) (run : Run) (x : SessionState) (g : MixerState) (out : List Frame) (answer : Cycle) (out' : List Frame) → MixIsTold links s marks run x g out answer out'
-mix_told links s marks run x g out answer out' together after lead on mixes sizes queue counted sees told marked own =
+pub mix_told : (links : Links) (s : Session) (run : Run) (d : Deeds) (x : SessionState) (g : MixerState) (out : List Frame) (answer : Cycle) (out' : List Frame) → MixIsTold links s run d x g out answer out'
+mix_told links s run d x g out answer out' together after lead on mixes sizes queue counted sees told =
     let added = mixes.adds on in
-    let may : MayMix links s run x g = record { together = together; after = after; lead = lead; queue = queue; counted = counted; sees = sees; told = told } in
-    (added.0, added.1, added.2.entries, told_all links s marks run x g may added.0 added.2 sizes marked own, legal_entry links s marks run x g may added.0 added.2 sizes marked own)
+    let may : MayMix links s run d x g = record { together = together; after = after; lead = lead; queue = queue; counted = counted; sees = sees; told = told } in
+    (
+      added.0, added.1, added.2.entries,
+      record { deeds = left links s run d x g may added.0 added.2 sizes; goes = goes_on links s run d x g may added.0 added.2 sizes; told = told_all links s run d x g may added.0 added.2 sizes },
+      rests links s run d x g may added.0 added.2 sizes,
+      legal_entry links s run d x g may added.0 added.2 sizes,
+    )

@@ -28,12 +28,13 @@ use Rattle.af_session.specs.Rounds.{file_at, ops_at, ops_of}
 use Rattle.af_session.specs.Shares.{SharedState}
 use Rattle.af_session.specs.Together.{SessionState}
 use Rattle.af_told_law.specs.Tells.{Tells, TellsCommands, TellsFast, TellsNormal, TellsServer, TellsShared, TellsStream, TellsTrack, given_of, marked_poll, reports_stored}
-use Rattle.af_told_law.proofs.KeptAlike.{strict_told}
+use Rattle.af_told_law.proofs.KeptAlike.{same_alike}
 use Rattle.af_runs.specs.KeptLists.{marked_event}
 use Rattle.af_stateq.specs.Laws.{pushed_states}
 use Rattle.af_runs.specs.Clients.{new_client}
 use Rattle.af_base.specs.Log.{slots}
 use Rattle.af_model.specs.Reports.{no_slot}
+use Rattle.af_told_law.specs.Deeds.{DeedTold, Deeds, done_on}
 
 -- a track of a new run
 told_new : (s : Session) (i : ℕ) → i < track_count s → told_at (new_run s) i ≡ new_track s i
@@ -46,8 +47,16 @@ as_first (suc n) zero = refl
 as_first (suc n) (suc i) = as_first n i
 
 -- a server that has done nothing
-server_new : (shape : Shape) (s : ServerState) → IsNewServer shape s → TellsServer (new_block shape) s
-server_new shape s new = strict_told (new_block shape) s (ap (λ (p : ServerPart). p.shape) new.part) (ap (λ (p : ServerPart). p.events) new.part) (ap (λ (p : ServerPart). p.frames) new.part)
+server_new : (shape : Shape) (s : ServerState) → IsNewServer shape s → TellsServer (done_on (new_block shape) []) s
+server_new shape s new = record { shape = ap (λ (p : ServerPart). p.shape) new.part; events = ap (λ (p : ServerPart). p.events) new.part; taken = ap (λ (p : ServerPart). p.frames) new.part }
+
+-- and so it is told
+did_new : (shape : Shape) → DeedTold (new_block shape) []
+did_new shape = record { alike = same_alike shape [] [] refl; own = (λ saw. refl) }
+
+-- the servers before the first round
+abbrev pub no_deeds : Deeds
+no_deeds = record { streams = λ i. []; commands = λ i. [] }
 
 module _ (script : ScriptData) (files : List (List Frame)) (shared : SharedState) (x : SessionState) (new : IsNewSession script shared x) where
   abbrev here : Session
@@ -79,20 +88,21 @@ module _ (script : ScriptData) (files : List (List Frame)) (shared : SharedState
         ∙ sym (at_place.new.party.track (file_at (given_of here) i))
         ∙ ap (λ (y : List Op × PartyState). track_of y.0 (file_at (given_of here) i) y.1) (λ j. (ops_are j, one j))
 
-    stream_told : TellsStream x.normal x.fast i (new_track here i).stream
+    stream_told : TellsStream x.normal x.fast i (new_track here i).stream []
     stream_told = record {
-      home = (λ s found. subst (λ (y : TrackSpec × ServerState). TellsServer (new_block (stream_shape script.version y.0)) y.1) (λ j. (spec_is j, same_Some at_place.setup.stream s (sym at_place.proxy_at ∙ found) j))
+      home = (λ s found. subst (λ (y : TrackSpec × ServerState). TellsServer (done_on (new_block (stream_shape script.version y.0)) []) y.1) (λ j. (spec_is j, same_Some at_place.setup.stream s (sym at_place.proxy_at ∙ found) j))
           (server_new (stream_shape script.version at_place.spec) at_place.setup.stream at_place.new.stream_line.server_new));
       away = (λ not_home. absurd (true≢false (sym (all_home i) ∙ not_home)));
       hand = ap (λ (hands : List HandSide). hand_events hands i) no_hands;
     }
 
-    commands_told : (c : ServerState) → slice_get x.normal.commands i ≡ Some c → TellsCommands (new_track here i).commands c
-    commands_told c found = subst (TellsCommands (new_block command_shape)) (same_Some at_place.setup.command c (sym at_place.control_at ∙ found))
+    commands_told : (c : ServerState) → slice_get x.normal.commands i ≡ Some c → TellsCommands (new_track here i).commands [] c
+    commands_told c found = subst (TellsCommands (new_block command_shape) []) (same_Some at_place.setup.command c (sym at_place.control_at ∙ found))
         (record { server = server_new command_shape at_place.setup.command at_place.new.command_line.server_new; whole = at_place.new.command_line.server_new.whole; none = refl })
 
-    track_told : TellsTrack here x.normal x.fast i (told_at (new_run here) i) p
-    track_told = subst (λ (t : TrackTold). TellsTrack here x.normal x.fast i t p) (sym (told_new here i below)) (record { client = client_told; stream = stream_told; commands = commands_told })
+    track_told : TellsTrack here x.normal x.fast no_deeds i (told_at (new_run here) i) p
+    track_told = subst (λ (t : TrackTold). TellsTrack here x.normal x.fast no_deeds i t p) (sym (told_new here i below))
+        (record { client = client_told; stream = stream_told; commands = commands_told; did = record { stream = did_new (new_track here i).stream.shape; commands = did_new command_shape } })
 
   shared_told : TellsShared here (new_run here) x.normal x.fast
   shared_told = record {
@@ -130,7 +140,7 @@ module _ (script : ScriptData) (files : List (List Frame)) (shared : SharedState
     fresh = (λ none i low. get_or-replicate slots i no_slot no_slot low);
   }
 
-  pub new_told : Tells here (new_run here) x
+  pub new_told : Tells here (new_run here) no_deeds x
   new_told = record {
     count = (length-map-range_with_len (new_track here) 0 (track_count here), new.tracks.parties);
     tracks = track_told;

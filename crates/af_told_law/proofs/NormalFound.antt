@@ -1,42 +1,40 @@
 -- What a legal turn of a session's normal mixer saw is what its run has found.
-use Rattle.std.proofs.Common.{Bool, None, Option, Some, ap, arith, false, if◌then◌else◌, inl, inr, is_some, length, not, refl, slice_get, subst, sym, true, true≢false, ℕ, ◌&&◌, ◌<◌, ◌∙◌, ◌≡◌, ◌≤◌}
+use Rattle.std.proofs.Common.{Bool, None, Option, Some, ap, arith, false, if◌then◌else◌, is_some, length, not, refl, slice_get, subst, sym, true, true≢false, ℕ, ◌&&◌, ◌++◌, ◌<◌, ◌∙◌, ◌≡◌}
 use Rattle.af_base.specs.declared.state.FastState.{FastState}
 use Rattle.af_base.specs.Turn.{Turn, turn_of}
 use Rattle.af_life.specs.declared.kept.Holder.TheVariants.{Home}
 use Rattle.af_life.specs.declared.kept.TrackKept.{TrackKept}
 use Rattle.af_life.specs.Edits.{after_ack, welcomed}
 use Rattle.af_life.specs.Heard.{learnt}
-use Rattle.af_life.specs.Kept.{NormalKept, Outside, Setup, asked, is_home, is_returning, slot_number, track_at, track_in}
-use Rattle.af_life.specs.Turn.{GoesOn, turn_after}
+use Rattle.af_life.specs.Kept.{NormalKept, Outside, Setup, is_home, is_returning, slot_number, track_at, track_in}
+use Rattle.af_life.specs.Turn.{GoesOn}
 use Rattle.af_life.specs.TurnEvents.{takes_from, tracks_at}
 use Rattle.af_link.specs.declared.links.Links.{Links}
 use Rattle.af_model.specs.Cycles.{Listed}
-use Rattle.af_model.specs.History.{is_lawful}
 use Rattle.af_model.specs.StateQueue.{carries}
 use Rattle.af_normal.specs.LegalTurned.{IsLegal, in_hand}
 use Rattle.af_normal.specs.Mixing.{stream_at}
 use Rattle.af_normal.specs.State.{NormalState, kept_of, setup_of as mixer_setup}
 use Rattle.af_normal.specs.Turning.{listed_at}
 use Rattle.af_party.specs.Parties.{PartyState}
-use Rattle.af_runs.specs.Blocks.{BlockTold, Marks, is_tame, listed as told_list}
-use Rattle.af_runs.specs.ClientTurns.{Track}
-use Rattle.af_runs.specs.Found.{LegalTurnBy, TurnFound, outside_of, take_front}
-use Rattle.af_runs.specs.Fronts.{front_of, lawful_front}
+use Rattle.af_runs.specs.Blocks.{BlockTold, Marks, listed as told_list}
+use Rattle.af_runs.specs.Found.{LegalTurnBy, TurnFound, outside_of}
 use Rattle.af_runs.specs.Runs.{Run, told_at}
 use Rattle.af_runs.specs.Sessions.{Session, setup_of}
 use Rattle.af_server.specs.Order.{ServerState}
 use Rattle.af_server.specs.Slot.{listed}
 use Rattle.af_session.specs.Together.{AreTogether, SessionState}
 use Rattle.af_judge.proofs.SoundTurns.{welcomed_at}
-use Rattle.af_turn_law.proofs.MixedHome.{mixed_home}
 use Rattle.af_told_law.specs.Comers.{ComersTell}
 use Rattle.af_told_law.specs.Sizes.{IsMarkedRun}
-use Rattle.af_told_law.specs.Outsides.{AreAlike, FindsBlocks, HeardAlike, IsFound, ListAlike, LooksTold, TakeTold}
-use Rattle.af_told_law.specs.Own.{SeesOwn}
+use Rattle.af_told_law.specs.Outsides.{AreAlike, FindsBlocks, HeardAlike, IsFound, ListAlike, LooksTold, SawCommands, SawStream, TakeTold}
 use Rattle.af_told_law.specs.Tells.{Tells, TellsServer}
 use Rattle.af_told_law.proofs.AllMeet.{some_at}
 use Rattle.af_told_law.proofs.FoundLegal.{found_alike, found_legal}
 use Rattle.af_told_law.proofs.TurnFronts.{commands_told, stream_told}
+use Rattle.af_model.specs.ServerCalls.{server_begins}
+use Rattle.af_told_law.specs.Deeds.{Deeds, SawOwnBy, SawOwnOf, TrackDid, commands_by, deeds_turned, done_on, stream_by}
+use Rattle.af_told_law.proofs.MixLooks.{listed_real, own_split, real_list}
 
 there_some : {X : Type 0} (o : Option X) → is_some o ≡ true → (x : X) × (o ≡ Some x)
 there_some None e = absurd (true≢false (sym e))
@@ -55,9 +53,8 @@ ack_stays true m i stays = welcomed_at m.last m.tracks i ∙ stays_out m.last (t
     stays_out : (last : FastState) (s : TrackKept) → is_returning s.holder ≡ false → welcomed last s ≡ s
     stays_out last s is = ap (λ (b : Bool). if b && not (carries last (slot_number s)) then record s { holder = Home } else s) is
 
-module _ (links : Links) (s : Session) (run : Run) (x : SessionState) (n : NormalState) (o : Outside) (told : Tells s run x) (before : AreTogether links x) (after : AreTogether links (record x { normal = n })) (legal : IsLegal o x.normal n)
-    (runs : (turn_of n.entry).ended ≡ false) (own : SeesOwn (record x { normal = n })) (f : TurnFound) (finds : FindsBlocks run f) (report : HeardAlike (after_ack (turn_of n.entry).ack (kept_of x.normal)).tracks o.report f.report)
-    (comers : ComersTell run x.normal (turn_of n.entry) legal.lists.back) where
+module _ (links : Links) (s : Session) (run : Run) {d : Deeds} (x : SessionState) (n : NormalState) (o : Outside) (told : Tells s run d x) (before : AreTogether links x) (legal : IsLegal o x.normal n) (runs : (turn_of n.entry).ended ≡ false) (f : TurnFound) (finds : FindsBlocks run f) (report : HeardAlike (after_ack (turn_of n.entry).ack (kept_of x.normal)).tracks o.report f.report)
+    (comers : ComersTell run d x.normal (turn_of n.entry) legal.lists.back) where
   abbrev e : Turn
   e = turn_of n.entry
 
@@ -74,14 +71,18 @@ module _ (links : Links) (s : Session) (run : Run) (x : SessionState) (n : Norma
   pub client_at : (i : ℕ) → i < length m.tracks → (p : PartyState) × (slice_get x.clients i ≡ Some p)
   client_at i low = some_at x.clients i (let count = before.count in omega (arith, low, count))
 
+  -- what was told of its servers
+  did_at : (i : ℕ) → i < length m.tracks → TrackDid d i (told_at run i)
+  did_at i low = let client = client_at i low in (told.tracks i client.0 client.1).did
+
   -- ## The streams
 
-  -- a stream proxy that is home in the turn tells its block
-  served_home : (i : ℕ) → i < length m.tracks → is_home (track_at (after_ack e.ack m).tracks i).holder ≡ true → (t : ServerState) × (o.streams i ≡ listed t) × TellsServer (told_at run i).stream t
+  -- a stream proxy that is home in the turn did what it did
+  served_home : (i : ℕ) → i < length m.tracks → is_home (track_at (after_ack e.ack m).tracks i).holder ≡ true → (t : ServerState) × (o.streams i ≡ listed t) × TellsServer (done_on (told_at run i).stream (d.streams i)) t
   served_home i low home = let here = by_back (e.ack && is_returning (track_at m.tracks i).holder) refl in (here.0, legal.lists.home runs i ∙ here.1, here.2)
     where
       by_back : (b : Bool) → (e.ack && is_returning (track_at m.tracks i).holder) ≡ b
-          → (t : ServerState) × (listed_at (if b then in_hand legal.lists.back x.normal.mutator.returned (slot_number (track_at m.tracks i)) else stream_at x.normal.streams i) ≡ listed t) × TellsServer (told_at run i).stream t
+          → (t : ServerState) × (listed_at (if b then in_hand legal.lists.back x.normal.mutator.returned (slot_number (track_at m.tracks i)) else stream_at x.normal.streams i) ≡ listed t) × TellsServer (done_on (told_at run i).stream (d.streams i)) t
       by_back true is = let here = comers i low is home in (here.0, ap listed_at here.1, here.2)
       by_back false is =
           let was : is_home (track_at m.tracks i).holder ≡ true = sym (ap (λ (t : TrackKept). is_home t.holder) (ack_stays e.ack m i is)) ∙ home in
@@ -89,55 +90,45 @@ module _ (links : Links) (s : Session) (run : Run) (x : SessionState) (n : Norma
           let client = client_at i low in
           (here.0, ap listed_at here.1, (told.tracks i client.0 client.1).stream.home here.0 here.1)
 
-  pub stream_near : (i : ℕ) → i < length m.tracks → is_home (track_at (after_ack e.ack m).tracks i).holder ≡ true → ListAlike (o.streams i) (told_list (told_at run i).stream)
-  stream_near i low home = let here = served_home i low home in subst (λ (l : Listed). ListAlike l (told_list (told_at run i).stream)) (sym here.1) (record { shape = here.2.shape; alike = here.2.alike })
+  pub stream_real : (i : ℕ) → i < length m.tracks → is_home (track_at (after_ack e.ack m).tracks i).holder ≡ true → o.streams i ≡ real_list (told_at run i).stream (d.streams i)
+  stream_real i low home = let here = served_home i low home in here.1 ∙ listed_real (told_at run i).stream (d.streams i) here.0 here.2
 
-  -- one of a block that wasn't poked has the list that is told
-  pub stream_found : (i : ℕ) → i < length m.tracks → is_tame (told_at run i).stream ≡ true → is_home (track_at (after_ack e.ack m).tracks i).holder ≡ true → o.streams i ≡ told_list (told_at run i).stream
-  stream_found i low tame home = let here = served_home i low home in here.1 ∙ server_listed (told_at run i).stream here.0 here.2 tame
+  stream_near : (i : ℕ) → i < length m.tracks → is_home (track_at (after_ack e.ack m).tracks i).holder ≡ true → ListAlike (o.streams i) (told_list (told_at run i).stream)
+  stream_near i low home = subst (λ (l : Listed). ListAlike l (told_list (told_at run i).stream)) (sym (stream_real i low home)) (record { shape = refl; alike = (did_at i low).stream.alike })
+
+  -- where each front that it saw is its own it has the list that is told
+  pub stream_found : (i : ℕ) → i < length m.tracks → is_home (track_at (after_ack e.ack m).tracks i).holder ≡ true → SawStream c m e o i → o.streams i ≡ told_list (told_at run i).stream
+  stream_found i low home saw =
+      let b : BlockTold = (told_at run i).stream in
+      let real = stream_real i low home in
+      real ∙ ap (real_list b) ((did_at i low).stream.own (subst (λ (l : Listed). SawOwnOf l.shape l.events) real (own_split (o.streams i).shape (server_begins (o.streams i).shape) (o.streams i).events (stream_by c m o e i) saw).0))
 
   -- the front of a stream that was taken from is told
-  takes_found : (i : ℕ) → i < length m.tracks → is_tame (told_at run i).stream ≡ true → TakeTold c (o.streams i) (o.stream_front i) (takes_from e.mixes i)
-  takes_found i low tame = elim (mixed_home c before.normal.tied.sizes.scales (learnt o) m e i few before.normal.tied.sound runs goes.due) as (λ _. TakeTold c (o.streams i) (o.stream_front i) (takes_from e.mixes i)) [
-    | inl none ↦ (inl none, ap (take_front (front_of (asked c)) (o.streams i)) none ∙ sym (ap (take_front (lawful_front (asked c)) (o.streams i)) none))
-    | inr home ↦ at_home home.1
-  ]
-    where
-      few : length m.tracks ≤ length c.settings
-      few = let same = before.normal.tied.sizes.settings in omega (arith, same)
-
-      at_home : is_home (track_at (turn_after c (learnt o) m e).tracks i).holder ≡ true → TakeTold c (o.streams i) (o.stream_front i) (takes_from e.mixes i)
-      at_home home =
-          let client = client_at i low in
-          let still : i < length n.tracks = (let old = before.count in let count = after.count in omega (arith, low, old, count)) in
-          let now : is_home (track_at n.tracks i).holder ≡ true = ap (λ (k : NormalKept). is_home (track_at k.tracks i).holder) legal.leaves ∙ home in
-          let here = there_some (stream_at n.streams i) (after.normal.tied.proxies.there i still ∙ now) in
-          stream_told c o e (tracks_at c (learnt o) m e i) i here.0 runs (own.homes i client.0 here.0 client.1 (ap (λ (t : Track). is_lawful t.stream.events) (sym (told.tracks i client.0 client.1).client) ∙ tame) here.1) goes.takes (legal.lists.streams i here.0 here.1)
+  takes_found : (i : ℕ) → i < length m.tracks → SawStream c m e o i → TakeTold c (o.streams i) (o.stream_front i) (takes_from e.mixes i)
+  takes_found i low saw = stream_told c o e (tracks_at c (learnt o) m e i) i runs saw goes.takes
 
   -- ## The command blocks
 
   pub command_at : (i : ℕ) → i < length m.tracks → (t : ServerState) × (slice_get x.normal.commands i ≡ Some t)
   command_at i low = some_at x.normal.commands i (let same = before.normal.tied.sizes.commands_are in omega (arith, low, same))
 
+  pub command_real : (i : ℕ) → i < length m.tracks → o.commands i ≡ real_list (told_at run i).commands (d.commands i)
+  command_real i low =
+      let here = command_at i low in
+      let client = client_at i low in
+      legal.commands i here.0 here.1 ∙ listed_real (told_at run i).commands (d.commands i) here.0 ((told.tracks i client.0 client.1).commands here.0 here.1).server
+
   commands_near : (i : ℕ) → i < length m.tracks → ListAlike (o.commands i) (told_list (told_at run i).commands)
-  commands_near i low =
-      let here = command_at i low in
-      let client = client_at i low in
-      let server : TellsServer (told_at run i).commands here.0 = ((told.tracks i client.0 client.1).commands here.0 here.1).server in
-      subst (λ (l : Listed). ListAlike l (told_list (told_at run i).commands)) (sym (legal.commands i here.0 here.1)) (record { shape = server.shape; alike = server.alike })
+  commands_near i low = subst (λ (l : Listed). ListAlike l (told_list (told_at run i).commands)) (sym (command_real i low)) (record { shape = refl; alike = (did_at i low).commands.alike })
 
-  pub commands_found : (i : ℕ) → i < length m.tracks → is_tame (told_at run i).commands ≡ true → o.commands i ≡ told_list (told_at run i).commands
-  commands_found i low tame =
-      let here = command_at i low in
-      let client = client_at i low in
-      legal.commands i here.0 here.1 ∙ server_listed (told_at run i).commands here.0 ((told.tracks i client.0 client.1).commands here.0 here.1).server tame
+  pub commands_found : (i : ℕ) → i < length m.tracks → SawCommands c m e o i → o.commands i ≡ told_list (told_at run i).commands
+  commands_found i low saw =
+      let b : BlockTold = (told_at run i).commands in
+      let real = command_real i low in
+      real ∙ ap (real_list b) ((did_at i low).commands.own (subst (λ (l : Listed). SawOwnOf l.shape l.events) real (own_split (o.commands i).shape (server_begins (o.commands i).shape) (o.commands i).events (commands_by c m o e i) saw).0))
 
-  looks_found : (i : ℕ) → i < length m.tracks → is_tame (told_at run i).commands ≡ true → LooksTold (o.commands i) (track_in e i).looks (o.command_fronts i)
-  looks_found i low tame =
-      let here = command_at i low in
-      let turned = legal.lists.commands i here.0 here.1 in
-      let client = client_at i low in
-      commands_told c o e (tracks_at c (learnt o) m e i) i turned.0 runs (own.commands i client.0 turned.0 client.1 (ap (λ (t : Track). is_lawful t.commands.events) (sym (told.tracks i client.0 client.1).client) ∙ tame) turned.1) here.0 _ (legal.commands i here.0 here.1) (goes.looks i low) turned.2
+  looks_found : (i : ℕ) → i < length m.tracks → SawCommands c m e o i → LooksTold (o.commands i) (track_in e i).looks (o.command_fronts i)
+  looks_found i low saw = commands_told c o e (tracks_at c (learnt o) m e i) i runs saw (goes.looks i low)
 
   -- ## The turn
 
@@ -146,17 +137,11 @@ module _ (links : Links) (s : Session) (run : Run) (x : SessionState) (n : Norma
     report = report;
     streams = (λ i low home. subst (λ (b : BlockTold). ListAlike (o.streams i) (told_list b)) (sym (finds.streams i)) (stream_near i low home));
     commands = (λ i low. subst (λ (b : BlockTold). ListAlike (o.commands i) (told_list b)) (sym (finds.commands i)) (commands_near i low));
-    same_streams = (λ i low tame home. stream_found i low (tame_stream i tame) home ∙ ap told_list (sym (finds.streams i)));
-    same_commands = (λ i low tame. commands_found i low (tame_commands i tame) ∙ ap told_list (sym (finds.commands i)));
-    takes = (λ i low tame. takes_found i low (tame_stream i tame));
-    looks = (λ i low tame. looks_found i low (tame_commands i tame));
+    same_streams = (λ i low home saw. stream_found i low home saw ∙ ap told_list (sym (finds.streams i)));
+    same_commands = (λ i low saw. commands_found i low saw ∙ ap told_list (sym (finds.commands i)));
+    takes = takes_found;
+    looks = looks_found;
   }
-    where
-      tame_stream : (i : ℕ) → is_tame (f.streams i) ≡ true → is_tame (told_at run i).stream ≡ true
-      tame_stream i tame = sym (ap is_tame (finds.streams i)) ∙ tame
-
-      tame_commands : (i : ℕ) → is_tame (f.commands i) ≡ true → is_tame (told_at run i).commands ≡ true
-      tame_commands i tame = sym (ap is_tame (finds.commands i)) ∙ tame
 
   -- what the turn saw is alike what the run tells
   pub turn_alike : AreAlike run.normal e o (outside_of (setup_of s) f e)
@@ -166,7 +151,9 @@ module _ (links : Links) (s : Session) (run : Run) (x : SessionState) (n : Norma
   inside : (i : ℕ) → i < length m.tracks → i < length run.tracks
   inside i low = let a = told.count.0 in let b = told.count.1 in let count = before.count in omega (arith, low, a, b, count)
 
-  -- the turn is legal by what was found, where the lawful blocks of the run weren't poked
-  pub turn_legal : (marks : Marks) → IsMarkedRun marks run → LegalTurnBy (setup_of s) marks f run.normal e
-  turn_legal marks marked = subst (λ (y : Setup × NormalKept). LegalTurnBy y.0 marks f y.1 e) (λ j. (told.normal.setup j, told.normal.kept j))
-      (found_legal c m e o f before.normal.tied.sound runs legal.legal is_found marks (λ i low on. ap is_tame (finds.streams i) ∙ (marked i (inside i low)).stream on) (λ i low on. ap is_tame (finds.commands i) ∙ (marked i (inside i low)).commands on))
+  -- the turn is legal by what was found, by marks on whose blocks each front seen up to its end is a server's own
+  pub turn_legal : (marks : Marks) → SawOwnBy marks run (deeds_turned c m o e d) → LegalTurnBy (setup_of s) marks f run.normal e
+  turn_legal marks own = subst (λ (y : Setup × NormalKept). LegalTurnBy y.0 marks f y.1 e) (λ j. (told.normal.setup j, told.normal.kept j))
+      (found_legal c m e o f before.normal.tied.sound runs legal.legal is_found marks
+      (λ i low home on. subst (λ (l : Listed). SawOwnOf l.shape (l.events ++ stream_by c m o e i)) (sym (stream_real i low home)) (own.streams i (inside i low) on))
+      (λ i low on. subst (λ (l : Listed). SawOwnOf l.shape (l.events ++ commands_by c m o e i)) (sym (command_real i low)) (own.commands i (inside i low) on)))

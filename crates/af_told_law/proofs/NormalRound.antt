@@ -26,9 +26,8 @@ use Rattle.af_runs.specs.Sessions.{Session, cycle_frames, setup_of, track_count}
 use Rattle.af_runs.specs.Told.{Item, is_pushed, items_of}
 use Rattle.af_session.specs.Together.{AreTogether, SessionState}
 use Rattle.af_told_law.specs.Between.{StandsBefore}
-use Rattle.af_told_law.specs.NormalLaws.{PartsTold, TurnShown, track_turned}
+use Rattle.af_told_law.specs.NormalLaws.{PartsTold, TurnShown, did_by, track_turned}
 use Rattle.af_told_law.specs.Sizes.{IsMarkedRun}
-use Rattle.af_told_law.specs.Own.{SeesOwn}
 use Rattle.af_told_law.specs.Places.{StreamsGo, StreamsStay}
 use Rattle.af_told_law.specs.QueueTurned.{MutatorGoes, QueueKnown}
 use Rattle.af_told_law.specs.Tells.{Tells, TellsTrack}
@@ -41,15 +40,16 @@ use Rattle.af_told_law.proofs.TurnAlike.{after_edits_same, learn_alike}
 use Rattle.af_told_law.proofs.TurnHomes.{normal_legal}
 use Rattle.af_told_law.proofs.TurnTracks.{turned_kept}
 use Rattle.af_told_law.proofs.LoadTold.{track_apart}
+use Rattle.af_told_law.specs.Deeds.{Deeds, SawOwnBy}
 
 -- the hand's events are none of the client's
 hand_client : (told : List Moment) (es : List HandEvent) → client_of (fold (λ (sofar : List Moment) (m : Moment). m ∷ sofar) told (map by_hand es)) ≡ client_of told
 hand_client told [] = refl
 hand_client told (e ∷ es) = hand_client (by_hand e ∷ told) es
 
-module _ (s : Session) (run : Run) (x : SessionState) (n : NormalState) (links : Links) (o : Outside) (f : TurnFound) (told : Tells s run x) (marks : Marks) (marked : IsMarkedRun marks run) (before : AreTogether links x) (after : AreTogether links (record x { normal = n })) (legal : IsLegal o x.normal n)
-    (made : TurnMade (answer_of (turn_of n.entry)) x.normal n) (seen : TurnShown s run x n o f) (stands : StandsBefore x) (own : SeesOwn (record x { normal = n }))
-    (known : QueueKnown (cycle_frames s) run x.normal) (lives : x.normal.ended ≡ false) (cells : x.normal.pipe.pass.part.shape.cells ≡ pipe_cells (setup_of s)) (parts : PartsTold s run x n o f legal) where
+module _ (s : Session) (run : Run) {d : Deeds} (x : SessionState) (n : NormalState) (links : Links) (o : Outside) (f : TurnFound) (told : Tells s run d x) (before : AreTogether links x) (after : AreTogether links (record x { normal = n })) (legal : IsLegal o x.normal n)
+    (made : TurnMade (answer_of (turn_of n.entry)) x.normal n) (seen : TurnShown s run x n o f) (stands : StandsBefore x)
+    (known : QueueKnown (cycle_frames s) run x.normal) (lives : x.normal.ended ≡ false) (cells : x.normal.pipe.pass.part.shape.cells ≡ pipe_cells (setup_of s)) (parts : PartsTold s run d x n o f legal) where
   abbrev e : Turn
   e = turn_of n.entry
 
@@ -68,8 +68,9 @@ module _ (s : Session) (run : Run) (x : SessionState) (n : NormalState) (links :
   leaves : (e.ended ≡ false → StreamsGo o x.normal n e) × (e.ended ≡ true → StreamsStay o x.normal n e)
   leaves = turn_leaves links o x.normal n before.normal legal made
 
-  turn_is_legal : LegalTurnBy (setup_of s) marks f run.normal e
-  turn_is_legal = normal_legal links s run x n o told before after legal f seen.finds (λ runs. (own, seen.hears runs, parts.comers runs)) marks marked
+  -- it is legal by marks on whose blocks each front seen up to its end is a server's own
+  pub legal_now : (marks : Marks) → SawOwnBy marks run (did_by o x n d) → LegalTurnBy (setup_of s) marks f run.normal e
+  legal_now = normal_legal links s run x n o told before legal f seen.finds (λ runs. (seen.hears runs, parts.comers runs))
 
   -- ## What the run has
 
@@ -78,7 +79,7 @@ module _ (s : Session) (run : Run) (x : SessionState) (n : NormalState) (links :
   sound = subst (λ (k : NormalKept). IsSound k.tracks k.draft) told.normal.kept before.normal.tied.sound
 
   edits_same : e.ended ≡ false → after_edits c (learnt o) e m ≡ after_edits c (learnt p) e m
-  edits_same runs = let alike = turn_alike links s run x n o told before after legal runs own f seen.finds (seen.hears runs) (parts.comers runs) in
+  edits_same runs = let alike = turn_alike links s run x n o told before legal runs f seen.finds (seen.hears runs) (parts.comers runs) in
       subst (λ (k : NormalKept). after_edits c (learnt o) e k ≡ after_edits c (learnt p) e k) (sym told.normal.kept) (after_edits_same c (learnt o) (learnt p) run.normal e sound (learn_alike run.normal e o p alike))
 
   lists_same : (back again sent : List (Option Item)) → mutator_list c (learnt o) m e back again sent ≡ mutator_list c (learnt p) m e back again sent
@@ -90,7 +91,7 @@ module _ (s : Session) (run : Run) (x : SessionState) (n : NormalState) (links :
       by_end : (b : Bool) → e.ended ≡ b → mutator_list c (learnt o) m e back again sent ≡ mutator_list c (learnt p) m e back again sent
       by_end true over = ended_list (learnt o) over ∙ sym (ended_list (learnt p) over)
       by_end false runs = subst (λ (k : NormalKept). mutator_list c (learnt o) k e back again sent ≡ mutator_list c (learnt p) k e back again sent) (sym told.normal.kept)
-          (mutator_list_same c run.normal e o p sound (turn_alike links s run x n o told before after legal runs own f seen.finds (seen.hears runs) (parts.comers runs)) back again sent)
+          (mutator_list_same c run.normal e o p sound (turn_alike links s run x n o told before legal runs f seen.finds (seen.hears runs) (parts.comers runs)) back again sent)
 
   -- what the turn did at its end of the queue
   abbrev Pushed : Type 0
@@ -148,7 +149,7 @@ module _ (s : Session) (run : Run) (x : SessionState) (n : NormalState) (links :
       ended_kept k d q over = ap (λ (b : Bool). if b then record q { ended = true } else after_takes d e.mixes (after_push e.push (after_edits d k e q))) over
 
       by_end : (b : Bool) → e.ended ≡ b → kept_of n ≡ turn_after (setup_of s) (learnt p) run.normal e
-      by_end false runs = turned_kept links s run x n o told before after legal runs own f seen.finds (seen.hears runs) (parts.comers runs)
+      by_end false runs = turned_kept links s run x n o told before legal runs f seen.finds (seen.hears runs) (parts.comers runs)
       by_end true over = legal.leaves ∙ ended_kept (learnt o) c m over ∙ ap (λ (q : NormalKept). record q { ended = true }) told.normal.kept ∙ sym (ended_kept (learnt p) (setup_of s) run.normal over)
 
   -- each track has a hand after a turn
@@ -165,15 +166,15 @@ module _ (s : Session) (run : Run) (x : SessionState) (n : NormalState) (links :
 
   -- ## The tracks
 
-  then_long : length then_run.tracks ≡ length run.tracks
+  pub then_long : length then_run.tracks ≡ length run.tracks
   unfolding with_turn
   then_long = each_long (turned_track (setup_of s) p run.normal e) 0 run.tracks
 
-  then_at : (i : ℕ) → i < length run.tracks → told_at then_run i ≡ track_turned s f run e i
+  pub then_at : (i : ℕ) → i < length run.tracks → told_at then_run i ≡ track_turned s f run e i
   unfolding with_turn
   then_at i low = each_at (turned_track (setup_of s) p run.normal e) 0 run.tracks i i no_track low (omega arith)
 
-  sides_same : (i : ℕ) → sides_of (track_turned s f run e i) ≡ sides_of (told_at run i)
+  pub sides_same : (i : ℕ) → sides_of (track_turned s f run e i) ≡ sides_of (told_at run i)
   sides_same i = λ j. record {
     file = (told_at run i).file;
     client = (told_at run i).client;
@@ -181,13 +182,14 @@ module _ (s : Session) (run : Run) (x : SessionState) (n : NormalState) (links :
     commands = record { shape = (told_at run i).commands.shape; events = server_client (told_at run i).commands.told (command_list (setup_of s) p e (tracks_at (setup_of s) (learnt p) run.normal e i) i) j; released = (told_at run i).commands.released };
   }
 
-  track_told : (i : ℕ) (q : PartyState) → slice_get x.clients i ≡ Some q → TellsTrack s n x.fast i (track_turned s f run e i) q
+  track_told : (i : ℕ) (q : PartyState) → slice_get x.clients i ≡ Some q → TellsTrack s n x.fast (did_by o x n d) i (track_turned s f run e i) q
   track_told i q is =
       let low : i < track_count s = (let w = slice_get_within x.clients i q is in let d = told.count.1 in omega (arith, w, d)) in
       record {
         client = sides_same i ∙ (told.tracks i q is).client;
         stream = parts.streams i low;
         commands = (λ t at. parts.commands i t low at);
+        did = parts.did i low;
       }
 
   -- ## All
@@ -195,12 +197,12 @@ module _ (s : Session) (run : Run) (x : SessionState) (n : NormalState) (links :
   few_polled : x.fast.observer.past.number ≤ length run.states
   few_polled = let few = stands.step.few in let number = told.normal.number in omega (arith, few, number)
 
-  pub tells_turned : (turns : n.turns ≡ x.normal.turns + 1) → Tells s then_run (record x { normal = record n { reader = x.normal.reader } })
+  pub tells_turned : (turns : n.turns ≡ x.normal.turns + 1) → Tells s then_run (did_by o x n d) (record x { normal = record n { reader = x.normal.reader } })
   tells_turned turns =
       let q = at_queue in record {
         count = (then_long ∙ told.count.0, told.count.1);
         tracks = (λ i r is. let low : i < length run.tracks = (let w = slice_get_within x.clients i r is in let a = told.count.0 in let d = told.count.1 in omega (arith, w, a, d)) in
-            track_apart s n x.normal.reader x.fast i (told_at then_run i) r (subst (λ (t : TrackTold). TellsTrack s n x.fast i t r) (sym (then_at i low)) (track_told i r is)));
+            track_apart s n x.normal.reader x.fast (did_by o x n d) i (told_at then_run i) r (subst (λ (t : TrackTold). TellsTrack s n x.fast (did_by o x n d) i t r) (sym (then_at i low)) (track_told i r is)));
         shared = shared_turned s run x n o f told legal seen.front known lives cells q.goes q.first q.shown q.rested edits_same lists_same;
         normal = normal_turned s run x n o f told legal seen.front known lives cells q.goes q.first q.shown q.rested edits_same lists_same kept_now (hands_now turns);
         fast = fast_turned s run x n o f told legal seen.front known lives cells q.goes q.first q.shown q.rested edits_same lists_same few_polled;
@@ -208,6 +210,3 @@ module _ (s : Session) (run : Run) (x : SessionState) (n : NormalState) (links :
 
   pub known_now : QueueKnown (cycle_frames s) then_run n
   known_now = let q = at_queue in known_turned s run x n o f told legal seen.front known lives cells q.goes q.first q.shown q.rested edits_same lists_same
-
-  pub legal_now : LegalTurnBy (setup_of s) marks f run.normal e
-  legal_now = turn_is_legal

@@ -32,6 +32,7 @@ use Rattle.af_told_law.specs.Tells.{Tells, TellsFast, TellsNormal, TellsShared}
 use Rattle.af_told_law.proofs.EditsPush.{all_push}
 use Rattle.af_told_law.proofs.TurnQueue.{known_after, list_told, state_first}
 use Rattle.af_told_law.proofs.TurnShared.{pipe_puts, pipe_takes, twos_same}
+use Rattle.af_told_law.specs.Deeds.{Deeds}
 
 -- ## States pushed
 
@@ -61,7 +62,7 @@ state_next frames states x = ap (λ (o : Option FastState). unwrap_or o (initial
 
 -- ## The turn
 
-module _ (s : Session) (run : Run) (x : SessionState) (n : NormalState) (o : Outside) (f : TurnFound) (told : Tells s run x) (legal : IsLegal o x.normal n) (front : ShowsFront (setup_of s) x.normal n (turn_of n.entry))
+module _ (s : Session) (run : Run) {d : Deeds} (x : SessionState) (n : NormalState) (o : Outside) (f : TurnFound) (told : Tells s run d x) (legal : IsLegal o x.normal n) (front : ShowsFront (setup_of s) x.normal n (turn_of n.entry))
     (known : QueueKnown (cycle_frames s) run x.normal) (lives : x.normal.ended ≡ false) (cells : x.normal.pipe.pass.part.shape.cells ≡ pipe_cells (setup_of s)) where
   abbrev e : Turn
   e = turn_of n.entry

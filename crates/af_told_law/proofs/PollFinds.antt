@@ -36,6 +36,7 @@ use Rattle.af_told_law.specs.Tells.{FindsLast, Tells, items_sent, mutated_by}
 use Rattle.af_told_law.proofs.AllMeet.{met_histories, tells_met}
 use Rattle.af_told_law.proofs.PollNew.{polled_told}
 use Rattle.af_told_law.proofs.SharedMeets.{pushed_still}
+use Rattle.af_told_law.specs.Deeds.{Deeds, MetTold, deeds_met}
 
 abbrev Pushed : Type 0
 Pushed = List (MutatorEvent ServerState)
@@ -176,14 +177,14 @@ module _ (links : Links) (x : SessionState) (g : MixerState) (y : SessionState) 
 
 -- ## The poll and the meetings
 
-module _ (links : Links) (s : Session) (run : Run) (x : SessionState) (g : MixerState) (y : SessionState) (h : Tells s run x) (together : AreTogether links x) (polled : AreTogether links (record x { fast = g })) (still : AreTogether links y)
+module _ (links : Links) (s : Session) (run : Run) {d : Deeds} (x : SessionState) (g : MixerState) (y : SessionState) (h : Tells s run d x) (together : AreTogether links x) (polled : AreTogether links (record x { fast = g })) (still : AreTogether links y)
     (lead : LeadAway x.fast.observer.past.state x.normal.tracks) (lead_last : LeadAway x.normal.mutator.past.last x.normal.tracks) (step : InStep x.normal.mutator.past x.fast.observer.past)
     (before : HasHistory x.normal.mutator.past.first x.normal.mutator.past.events x.fast.observer.past.events) (on : is_over x.fast ≡ false) (adopts : Adopts x.fast g) (met : Met (record x { fast = g }) y) where
   abbrev then_run : Run
   then_run = with_poll s g.observer.past.number run
 
-  told : Tells s then_run (record x { fast = g })
+  told : Tells s then_run d (record x { fast = g })
   told = polled_told links s run x g h together lead lead_last adopts (finds_last links x g y together polled adopts on met step before (ap length h.normal.states ∙ sym h.normal.number)) on
 
-  pub poll_met : Tells s (run_of.met s then_run) y × HaveHistories s (run_of.met s then_run)
+  pub poll_met : Tells s (run_of.met s then_run) (deeds_met s then_run d) y × (MetTold s then_run d → HaveHistories s (run_of.met s then_run))
   poll_met = (tells_met links s then_run (record x { fast = g }) y polled still told met, met_histories links s then_run (record x { fast = g }) y polled still told met)

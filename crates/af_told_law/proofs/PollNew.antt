@@ -34,6 +34,8 @@ use Rattle.af_told_law.specs.Tells.{FindsLast, Tells, TellsAway, TellsServer, Te
 use Rattle.af_told_law.proofs.PollTold.{marks_are, poll_told, stream_still}
 use Rattle.af_told_law.proofs.SlotHeld.{found_carries, found_track, none_carries}
 use Rattle.af_base.specs.declared.state.FastTrack.{FastTrack}
+use Rattle.af_base.specs.declared.event.ServerEvent.{ServerEvent}
+use Rattle.af_told_law.specs.Deeds.{Deeds, ServerDone, done_on}
 
 abbrev Watching : Type 0
 Watching = Observes ServerState StreamNames
@@ -80,7 +82,7 @@ module _ (m : NormalState) (f g : MixerState) (x : FastState) (came back : List 
   at_given : (k : ℕ) → k < slots → carries x k ≡ false → at back k ≡ at f.observer.items k
   at_given k low off = (settled k low).1 ∙ ap (λ (b : Bool). if b then at f.observer.items k else at came k) (either_true (has came k) (not (carries x k)) (ap (λ (b : Bool). not b) off))
 
-  module _ (i : ℕ) (b : BlockTold) (away : is_home (track_at m.tracks i).holder ≡ false) (h : TellsAway m f i (slot_number (track_at m.tracks i)) b) where
+  module _ (i : ℕ) (b : ServerDone) (away : is_home (track_at m.tracks i).holder ≡ false) (h : TellsAway m f i (slot_number (track_at m.tracks i)) b) where
     abbrev slot : ℕ
     slot = slot_number (track_at m.tracks i)
 
@@ -154,17 +156,17 @@ module _ (m : NormalState) (f g : MixerState) (x : FastState) (came back : List 
       back = (λ off none. h.back (not_held (sym (ap (λ (z : FastState). slot_for z i) state_new) ∙ off) none (slot_for y i) refl) (λ so. absurd (none_coming so)));
     }
 
-  stream_new : (i : ℕ) (b : BlockTold) → TellsStream m f i b → TellsStream m g i b
-  stream_new i b h = record { home = h.home; away = λ off. away_new i b off (h.away off); hand = h.hand }
+  stream_new : (i : ℕ) (b : BlockTold) (deed : List ServerEvent) → TellsStream m f i b deed → TellsStream m g i b deed
+  stream_new i b deed h = record { home = h.home; away = λ off. away_new i (done_on b deed) off (h.away off); hand = h.hand }
 
 -- ## Any poll
 
-module _ (links : Links) (s : Session) (run : Run) (x : SessionState) (g : MixerState) (h : Tells s run x) (together : AreTogether links x) (lead : LeadAway x.fast.observer.past.state x.normal.tracks)
+module _ (links : Links) (s : Session) (run : Run) {d : Deeds} (x : SessionState) (g : MixerState) (h : Tells s run d x) (together : AreTogether links x) (lead : LeadAway x.fast.observer.past.state x.normal.tracks)
     (lead_last : LeadAway x.normal.mutator.past.last x.normal.tracks) (adopts : Adopts x.fast g) (finds : FindsLast x.normal x.fast g) where
   abbrev o : Watching
   o = x.fast.observer
 
-  by_same : g.observer ≡ sees_same o → Tells s (with_poll s g.observer.past.number run) (record x { fast = g })
+  by_same : g.observer ≡ sees_same o → Tells s (with_poll s g.observer.past.number run) d (record x { fast = g })
   by_same is =
       let number : g.observer.past.number ≡ run.current = ap (λ (w : Watching). w.past.number) is ∙ h.fast.current in
       let none : poll_events (cycle_frames s) run.states run.current g.observer.past.number ≡ observer.SawNext g.observer.past.number None [] ∷ [] =
@@ -176,9 +178,9 @@ module _ (links : Links) (s : Session) (run : Run) (x : SessionState) (g : Mixer
       (ap (λ (w : Watching). map marked_poll w.past.events) is ∙ map-append marked_poll o.past.events (observer.SawNext o.past.number None [] ∷ [])
       ∙ ap (λ (n : ℕ). map marked_poll o.past.events ++ observer.SawNext n None [] ∷ []) (sym (ap (λ (w : Watching). w.past.number) is)) ∙ ap (λ (l : List (ObserverEvent Item)). map marked_poll o.past.events ++ l) (sym none))
       (ap (λ (w : Watching). w.past.state) is ∙ h.fast.state ∙ ap (state_at (cycle_frames s) run.states) (sym number))
-      (λ i p at_i. stream_still x.normal x.fast g is i (told_at run i).stream (h.tracks i p at_i).stream)
+      (λ i p at_i. stream_still x.normal x.fast g is i (told_at run i).stream (d.streams i) (h.tracks i p at_i).stream)
 
-  by_new : (z : FastState) → TakesIt o z g.observer → Tells s (with_poll s g.observer.past.number run) (record x { fast = g })
+  by_new : (z : FastState) → TakesIt o z g.observer → Tells s (with_poll s g.observer.past.number run) d (record x { fast = g })
   by_new z takes =
       let came = takes.0 in
       let back = takes.1 in
@@ -201,13 +203,13 @@ module _ (links : Links) (s : Session) (run : Run) (x : SessionState) (g : Mixer
       ∙ ap (λ (l : List (ObserverEvent Item)). map marked_poll o.past.events ++ l) (sym events))
       (ap (λ (w : Watching). w.past.state) takes.2 ∙ there)
       (λ i p at_i. stream_new x.normal x.fast g z came back takes.2 takes.3 takes.4 takes.5 lead (subst (λ (w : FastState). LeadAway w x.normal.tracks) (sym found.0) lead_last) together.normal.tied.sound found.1 found.2
-      (lt-ltb o.past.number x.normal.mutator.past.number (let f = finds.number in omega (arith, f, one_more))) (le-ltb n x.normal.mutator.past.number (let f = finds.number in omega (arith, f))) i (told_at run i).stream (h.tracks i p at_i).stream)
+      (lt-ltb o.past.number x.normal.mutator.past.number (let f = finds.number in omega (arith, f, one_more))) (le-ltb n x.normal.mutator.past.number (let f = finds.number in omega (arith, f))) i (told_at run i).stream (d.streams i) (h.tracks i p at_i).stream)
 
-  by_poll : (poll : Poll) (before after : ℕ) → WasPolled o poll g.observer before after → Tells s (with_poll s g.observer.past.number run) (record x { fast = g })
+  by_poll : (poll : Poll) (before after : ℕ) → WasPolled o poll g.observer before after → Tells s (with_poll s g.observer.past.number run) d (record x { fast = g })
   by_poll Nothing before after was = by_same was.1
   by_poll Same before after was = by_same was.1
   by_poll (New number) before after was = by_new was.1.0 was.1.1
 
   -- where it wasn't over
-  pub polled_told : is_over x.fast ≡ false → Tells s (with_poll s g.observer.past.number run) (record x { fast = g })
+  pub polled_told : is_over x.fast ≡ false → Tells s (with_poll s g.observer.past.number run) d (record x { fast = g })
   polled_told on = let p = adopts.polls on in by_poll p.0 p.1 p.2 p.3

@@ -30,6 +30,8 @@ use Rattle.af_told_law.proofs.SharedMeets.{of_two, ones_two, twos_append, twos_t
 use Rattle.af_model.specs.declared.states.MutatorEvent.{MutatorEvent}
 use Rattle.af_link.specs.declared.names.StreamNames.{StreamNames}
 use Rattle.std.specs.Option.{option_map}
+use Rattle.af_base.specs.declared.event.ServerEvent.{ServerEvent}
+use Rattle.af_told_law.specs.Deeds.{Deeds, ServerDone, done_on}
 
 -- ## Marks
 
@@ -56,9 +58,9 @@ marks_are x y items h = marks_so x y items h.0 h.1
 
 -- ## What is told
 
-module _ (s : Session) (run : Run) (x : SessionState) (g : MixerState) (h : Tells s run x) (same : g ≡ record x.fast { observer = g.observer; adopted = true }) (last : g.observer.past.number ≡ x.normal.mutator.past.number)
+module _ (s : Session) (run : Run) {d : Deeds} (x : SessionState) (g : MixerState) (h : Tells s run d x) (same : g ≡ record x.fast { observer = g.observer; adopted = true }) (last : g.observer.past.number ≡ x.normal.mutator.past.number)
     (list : map marked_poll g.observer.past.events ≡ map marked_poll x.fast.observer.past.events ++ poll_events (cycle_frames s) run.states run.current g.observer.past.number)
-    (state : g.observer.past.state ≡ state_at (cycle_frames s) run.states g.observer.past.number) (streams : (i : ℕ) (p : PartyState) → slice_get x.clients i ≡ Some p → TellsStream x.normal g i (told_at run i).stream) where
+    (state : g.observer.past.state ≡ state_at (cycle_frames s) run.states g.observer.past.number) (streams : (i : ℕ) (p : PartyState) → slice_get x.clients i ≡ Some p → TellsStream x.normal g i (told_at run i).stream (d.streams i)) where
   abbrev found : ℕ
   found = g.observer.past.number
 
@@ -74,11 +76,11 @@ module _ (s : Session) (run : Run) (x : SessionState) (g : MixerState) (h : Tell
   twos_are : twos (observer_does more run.queue) ≡ twos run.queue ++ more
   twos_are = twos_append run.queue (map (of_two (MutatorEvent Item)) more) ∙ ap (λ (l : List (ObserverEvent Item)). twos run.queue ++ l) (twos_two (MutatorEvent Item) more)
 
-  pub poll_told : Tells s (with_poll s found run) (record x { fast = g })
+  pub poll_told : Tells s (with_poll s found run) d (record x { fast = g })
   unfolding with_poll
   poll_told = record {
     count = h.count;
-    tracks = (λ i p is. let t : TellsTrack s x.normal x.fast i (told_at run i) p = h.tracks i p is in record { client = t.client; stream = streams i p is; commands = t.commands });
+    tracks = (λ i p is. let t : TellsTrack s x.normal x.fast d i (told_at run i) p = h.tracks i p is in record { client = t.client; stream = streams i p is; commands = t.commands; did = t.did });
     shared = record {
       first = h.shared.first;
       mutator = h.shared.mutator ∙ sym ones_are;
@@ -124,7 +126,7 @@ module _ (m : NormalState) (f g : MixerState) (is : g.observer ≡ sees_same f.o
   none_same : (k : ℕ) → none_comes m g k → none_comes m f k
   none_same k none coming = sym (ap (λ (is : List (Option ServerState)). at is k) given_same) ∙ none (coming_same ∙ coming)
 
-  away_still : (i k : ℕ) (b : BlockTold) → TellsAway m f i k b → TellsAway m g i k b
+  away_still : (i k : ℕ) (b : ServerDone) → TellsAway m f i k b → TellsAway m g i k b
   away_still i k b h = record {
     held = (λ p item. h.held p (sym (ap (λ (o : Observes ServerState StreamNames). item_at o.items (slot_for o.past.state i)) is) ∙ item));
     goes = (λ off going. h.goes (sym (held_same i) ∙ off) (sym going_same ∙ going));
@@ -133,5 +135,5 @@ module _ (m : NormalState) (f g : MixerState) (is : g.observer ≡ sees_same f.o
     back = (λ off none. h.back (sym (held_same i) ∙ off) (none_same k none));
   }
 
-  pub stream_still : (i : ℕ) (b : BlockTold) → TellsStream m f i b → TellsStream m g i b
-  stream_still i b h = record { home = h.home; away = λ gone. away_still i (slot_number (track_at m.tracks i)) b (h.away gone); hand = h.hand }
+  pub stream_still : (i : ℕ) (b : BlockTold) (deed : List ServerEvent) → TellsStream m f i b deed → TellsStream m g i b deed
+  stream_still i b deed h = record { home = h.home; away = λ gone. away_still i (slot_number (track_at m.tracks i)) (done_on b deed) (h.away gone); hand = h.hand }

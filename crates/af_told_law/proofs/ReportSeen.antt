@@ -26,6 +26,7 @@ use Rattle.af_told_law.proofs.TurnReport.{all_stored, last_told, loads_behind, l
 use Rattle.af_life.specs.Kept.{slot_number, track_at}
 use Rattle.af_life.specs.declared.kept.TrackKept.{TrackKept}
 use Rattle.af_told_law.specs.Outsides.{HeardAlike}
+use Rattle.af_told_law.specs.Deeds.{Deeds}
 
 -- ## The reports of a list
 
@@ -54,7 +55,7 @@ twos_met [] c d = refl
 twos_met (one a ∷ told) c d = twos_met told c d
 twos_met (two b ∷ told) c d = ap (λ (l : List (ReaderEvent Report)). b ∷ l) (twos_met told c d)
 
-module _ (s : Session) (run : Run) (x : SessionState) (n : NormalState) (links : Links) (together : AreTogether links x) (told : Tells s run x) (met_last : ReportMet run) (written read : ℕ)
+module _ (s : Session) (run : Run) {d : Deeds} (x : SessionState) (n : NormalState) (links : Links) (together : AreTogether links x) (told : Tells s run d x) (met_last : ReportMet run) (written read : ℕ)
     (history : HasHistory no_report (x.fast.writer.events ++ writes.Learn read ∷ []) (n.reader.events ++ reads.Learn written ∷ []))
     (k : ℕ) (loaded : Report) (reads_are : n.reader.events ≡ x.normal.reader.events ++ Load k loaded ∷ []) where
   abbrev ws : List (WriterEvent Report)

@@ -34,6 +34,7 @@ use Rattle.af_session.specs.Met.{Met}
 use Rattle.af_session.specs.Together.{SessionState}
 use Rattle.af_told_law.specs.Tells.{Tells, TellsFast, TellsShared, marked_poll, reports_stored}
 use Rattle.af_told_law.proofs.MarkedQueue.{history_marked}
+use Rattle.af_told_law.specs.Deeds.{Deeds}
 
 pub twos_append : {A B : Type 0} (xs ys : List (Event A B)) → twos (xs ++ ys) ≡ twos xs ++ twos ys
 twos_append [] ys = refl
@@ -64,7 +65,7 @@ stored_still [] count = refl
 stored_still (writes.Store report ∷ es) count = ap (λ (xs : List Report). report ∷ xs) (stored_still es count)
 stored_still (writes.Learn c ∷ es) count = stored_still es count
 
-module _ (s : Session) (run : Run) (a b : SessionState) (h : Tells s run a) (m : Met a b) where
+module _ (s : Session) (run : Run) {d : Deeds} (a b : SessionState) (h : Tells s run d a) (m : Met a b) where
   pushes : length a.normal.mutator.past.events ≡ length (ones run.queue)
   pushes = sym (length-map a.normal.mutator.past.events marked_event) ∙ ap length h.shared.mutator
 

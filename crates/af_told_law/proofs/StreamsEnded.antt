@@ -13,7 +13,7 @@ use Rattle.af_life.specs.Edits.{is_exit}
 use Rattle.af_life.specs.Heard.{learnt}
 use Rattle.af_life.specs.Kept.{NormalKept, Outside, Setup, is_home, track_at, track_in}
 use Rattle.af_life.specs.Looks.{words_taken}
-use Rattle.af_life.specs.TurnEvents.{command_events_of, command_list, hand_list, tracks_at}
+use Rattle.af_life.specs.TurnEvents.{command_events_of, hand_list, invalid, mix_events, tracks_at}
 use Rattle.af_link.specs.declared.links.Links.{Links}
 use Rattle.af_normal.specs.LegalTurned.{IsLegal, hand_events}
 use Rattle.af_normal.specs.Serving.{Adds}
@@ -25,11 +25,11 @@ use Rattle.af_runs.specs.Sessions.{Session, setup_of}
 use Rattle.af_server.specs.Order.{ServerState}
 use Rattle.af_session.specs.Together.{AreTogether, SessionState}
 use Rattle.af_rendering.proofs.Quiet.{IsQuiet}
-use Rattle.af_told_law.specs.Alike.{TellAlike}
 use Rattle.af_told_law.specs.Places.{StreamsStay}
 use Rattle.af_told_law.specs.Tells.{Tells, TellsCommands, TellsServer, TellsStream}
 use Rattle.af_told_law.proofs.AllMeet.{some_at}
-use Rattle.af_told_law.proofs.ClientTold.{SameServed, commands_same, stream_same}
+use Rattle.af_told_law.proofs.ClientTold.{did_same}
+use Rattle.af_told_law.specs.Deeds.{DeedTold, Deeds, ServerDone, TrackDid, commands_by, deeds_turned, done_on, stream_by}
 
 -- of tracks that are all done with each is home
 done_home : (tracks : List TrackKept) (i : ℕ) → AllByRecursion IsDone tracks → is_home (track_at tracks i).holder ≡ true
@@ -39,16 +39,16 @@ done_home (s ∷ tracks) (suc i) done = done_home tracks i done.1
 
 -- ## A turn that has ended tells nothing of a block
 
-module _ (c : Setup) (p : Outside) (m : NormalKept) (i : ℕ) (b : BlockTold) where
-  stream_still : (e : Turn) → e ≡ ended_turn → SameServed b (stream_turned c p m e i b) × (told_of.hand_list (stream_turned c p m e i b) ≡ told_of.hand_list b)
-  stream_still e is = subst (λ (t : Turn). SameServed b (stream_turned c p m t i b) × (told_of.hand_list (stream_turned c p m t i b) ≡ told_of.hand_list b)) (sym is)
-      (record { shape = refl; events = refl; taken = append-nil b.taken; tame = (λ h. h) }, refl)
+module _ (c : Setup) (p : Outside) (m : NormalKept) (i : ℕ) (b : BlockTold) (deed : List ServerEvent) where
+  stream_still : (e : Turn) → e ≡ ended_turn → (done_on b deed ≡ done_on (stream_turned c p m e i b) deed) × (told_of.server_list (stream_turned c p m e i b) ≡ told_of.server_list b) × (told_of.hand_list (stream_turned c p m e i b) ≡ told_of.hand_list b)
+  stream_still e is = subst (λ (t : Turn). (done_on b deed ≡ done_on (stream_turned c p m t i b) deed) × (told_of.server_list (stream_turned c p m t i b) ≡ told_of.server_list b) × (told_of.hand_list (stream_turned c p m t i b) ≡ told_of.hand_list b)) (sym is)
+      ((λ j. record { shape = b.shape; events = deed; taken = sym (append-nil b.taken) j }), refl, refl)
 
-  commands_still : (e : Turn) → e ≡ ended_turn → SameServed b (commands_turned c p m e i b) × (told_of.hand_list (commands_turned c p m e i b) ≡ told_of.hand_list b)
-  commands_still e is = subst (λ (t : Turn). SameServed b (commands_turned c p m t i b) × (told_of.hand_list (commands_turned c p m t i b) ≡ told_of.hand_list b)) (sym is)
-      (record { shape = refl; events = refl; taken = append-nil b.taken; tame = (λ h. h) }, refl)
+  commands_still : (e : Turn) → e ≡ ended_turn → (done_on b deed ≡ done_on (commands_turned c p m e i b) deed) × (told_of.server_list (commands_turned c p m e i b) ≡ told_of.server_list b) × (told_of.hand_list (commands_turned c p m e i b) ≡ told_of.hand_list b)
+  commands_still e is = subst (λ (t : Turn). (done_on b deed ≡ done_on (commands_turned c p m t i b) deed) × (told_of.server_list (commands_turned c p m t i b) ≡ told_of.server_list b) × (told_of.hand_list (commands_turned c p m t i b) ≡ told_of.hand_list b)) (sym is)
+      ((λ j. record { shape = b.shape; events = deed; taken = sym (append-nil b.taken) j }), refl, refl)
 
-module _ (links : Links) (s : Session) (run : Run) (x : SessionState) (n : NormalState) (o p : Outside) (told : Tells s run x) (before : AreTogether links x) (legal : IsLegal o x.normal n) (ends : (turn_of n.entry).ended ≡ true) (stays : StreamsStay o x.normal n (turn_of n.entry))
+module _ (links : Links) (s : Session) (run : Run) {d : Deeds} (x : SessionState) (n : NormalState) (o p : Outside) (told : Tells s run d x) (before : AreTogether links x) (legal : IsLegal o x.normal n) (ends : (turn_of n.entry).ended ≡ true) (stays : StreamsStay o x.normal n (turn_of n.entry))
     (lives : x.normal.ended ≡ false) (quiet : IsQuiet (kept_of x.normal)) where
   abbrev e : Turn
   e = turn_of n.entry
@@ -73,46 +73,64 @@ module _ (links : Links) (s : Session) (run : Run) (x : SessionState) (n : Norma
   pub all_home : (i : ℕ) → is_home (track_at n.tracks i).holder ≡ true
   all_home i = ap (λ (ts : List TrackKept). is_home (track_at ts i).holder) stays.tracks ∙ done_home x.normal.tracks i (quiet.over (quiet.rests exit).1)
 
-  part_told : (b : BlockTold) (r t : ServerState) → t.pass.part ≡ r.pass.part → TellsServer b r → TellsServer b t
-  part_told b r t same h = record {
+  -- and the servers did nothing
+  stream_none : (i : ℕ) → d.streams i ++ stream_by c k o e i ≡ d.streams i
+  stream_none i =
+      let none : stream_by c k o e i ≡ [] = ap (λ (b : Bool). if b then [] else (if is_home (track_at (tracks_at c (learnt o) k e i) i).holder then invalid (learnt o) (track_in e i) (tracks_at c (learnt o) k e i) i else []) ++ mix_events c o e.mixes i) ends in
+      ap (λ (es : List ServerEvent). d.streams i ++ es) none ∙ append-nil (d.streams i)
+
+  commands_nothing : (i : ℕ) → commands_by c k o e i ≡ []
+  commands_nothing i = ap (λ (b : Bool). if b then [] else command_events_of c o (track_in e i) (tracks_at c (learnt o) k e i) i) ends
+
+  commands_none : (i : ℕ) → d.commands i ++ commands_by c k o e i ≡ d.commands i
+  commands_none i = ap (λ (es : List ServerEvent). d.commands i ++ es) (commands_nothing i) ∙ append-nil (d.commands i)
+
+  part_told : (did : ServerDone) (r t : ServerState) → t.pass.part ≡ r.pass.part → TellsServer did r → TellsServer did t
+  part_told did r t same h = record {
     shape = ap (λ (q : ServerPart). q.shape) same ∙ h.shape;
-    events = (λ tame. ap (λ (q : ServerPart). q.events) same ∙ h.events tame);
-    alike = subst (λ (q : ServerPart). TellAlike b.shape q.events (told_of.server_list b)) (sym same) h.alike;
+    events = ap (λ (q : ServerPart). q.events) same ∙ h.events;
     taken = ap (λ (q : ServerPart). q.frames) same ∙ h.taken;
   }
 
-  pub stream_ended : (i : ℕ) → i < length x.normal.tracks → TellsStream n x.fast i (turned_track (setup_of s) p run.normal e i (told_at run i)).stream
+  pub stream_ended : (i : ℕ) → i < length x.normal.tracks → TellsStream n x.fast i (turned_track (setup_of s) p run.normal e i (told_at run i)).stream (d.streams i ++ stream_by c k o e i)
   stream_ended i low =
       let client = some_at x.clients i (let count = before.count in omega (arith, low, count)) in
-      let was : TellsStream x.normal x.fast i (told_at run i).stream = (told.tracks i client.0 client.1).stream in
-      let same = stream_still (setup_of s) p run.normal i (told_at run i).stream e still in
+      let was : TellsStream x.normal x.fast i (told_at run i).stream (d.streams i) = (told.tracks i client.0 client.1).stream in
+      let same = stream_still (setup_of s) p run.normal i (told_at run i).stream (d.streams i) e still in
       let none : hand_list e i ≡ [] = ap (λ (t : Turn). hand_list t i) still in
-      stream_same n x.fast i (told_at run i).stream _ same.0 same.1 (record {
-        home = (λ t is. let r = stays.home i t is in part_told (told_at run i).stream r.0 t r.2 (was.home r.0 r.1));
+      subst (TellsStream n x.fast i (turned_track (setup_of s) p run.normal e i (told_at run i)).stream) (sym (stream_none i)) (record {
+        home = (λ t is. let r = stays.home i t is in subst (λ (did : ServerDone). TellsServer did t) same.0 (part_told (done_on (told_at run i).stream (d.streams i)) r.0 t r.2 (was.home r.0 r.1)));
         away = (λ gone. absurd (true≢false (sym (all_home i) ∙ gone)));
-        hand = legal.lists.hands i ∙ ap (λ (hs : List HandEvent). hand_events x.normal.hands i ++ hs) none ∙ append-nil (hand_events x.normal.hands i) ∙ was.hand;
+        hand = legal.lists.hands i ∙ ap (λ (hs : List HandEvent). hand_events x.normal.hands i ++ hs) none ∙ append-nil (hand_events x.normal.hands i) ∙ was.hand ∙ sym same.2;
       })
 
-  pub commands_ended : (i : ℕ) (t : ServerState) → i < length x.normal.tracks → slice_get n.commands i ≡ Some t → TellsCommands (turned_track (setup_of s) p run.normal e i (told_at run i)).commands t
+  pub commands_ended : (i : ℕ) (t : ServerState) → i < length x.normal.tracks → slice_get n.commands i ≡ Some t → TellsCommands (turned_track (setup_of s) p run.normal e i (told_at run i)).commands (d.commands i ++ commands_by c k o e i) t
   commands_ended i t low is =
       let b : BlockTold = (told_at run i).commands in
       let client = some_at x.clients i (let count = before.count in omega (arith, low, count)) in
       let here = some_at x.normal.commands i (let same = before.normal.tied.sizes.commands_are in omega (arith, low, same)) in
-      let was : TellsCommands b here.0 = (told.tracks i client.0 client.1).commands here.0 here.1 in
+      let was : TellsCommands b (d.commands i) here.0 = (told.tracks i client.0 client.1).commands here.0 here.1 in
       let turned = legal.lists.commands i here.0 here.1 in
       let one : turned.0 ≡ t = same_Some turned.0 t (sym turned.1 ∙ is) in
-      let adds : Adds here.0 (command_list c o e (tracks_at c (learnt o) k e i) i) (words_taken (track_in e i).looks) t =
-      subst (λ (y : ServerState). Adds here.0 (command_list c o e (tracks_at c (learnt o) k e i) i) (words_taken (track_in e i).looks) y) one turned.2 in
-      let none : command_list c o e (tracks_at c (learnt o) k e i) i ≡ [] = ap (λ (b : Bool). if b then [] else command_events_of c o (track_in e i) (tracks_at c (learnt o) k e i) i) ends in
+      let adds : Adds here.0 (commands_by c k o e i) (words_taken (track_in e i).looks) t = subst (λ (y : ServerState). Adds here.0 (commands_by c k o e i) (words_taken (track_in e i).looks) y) one turned.2 in
       let words : words_taken (track_in e i).looks ≡ [] = ap (λ (t : Turn). words_taken (track_in t i).looks) still in
-      let same = commands_still (setup_of s) p run.normal i b e still in
-      commands_same b _ t same.0 same.1 (record {
-        server = let still_list : t.pass.part.events ≡ here.0.pass.part.events = adds.list ∙ ap (λ (es : List ServerEvent). here.0.pass.part.events ++ es) none ∙ append-nil here.0.pass.part.events in record {
+      let same = commands_still (setup_of s) p run.normal i b (d.commands i) e still in
+      subst (λ (es : List ServerEvent). TellsCommands (turned_track (setup_of s) p run.normal e i (told_at run i)).commands es t) (sym (commands_none i)) (record {
+        server = subst (λ (did : ServerDone). TellsServer did t) same.0 (record {
           shape = adds.shape ∙ was.server.shape;
-          events = (λ tame. still_list ∙ was.server.events tame);
-          alike = subst (λ (es : List ServerEvent). TellAlike b.shape es (told_of.server_list b)) (sym still_list) was.server.alike;
+          events = adds.list ∙ ap (λ (es : List ServerEvent). here.0.pass.part.events ++ es) (commands_nothing i) ∙ append-nil here.0.pass.part.events ∙ was.server.events;
           taken = adds.took ∙ ap (λ (ws : List ℕ). here.0.pass.part.frames ++ ws) words ∙ append-nil here.0.pass.part.frames ∙ was.server.taken;
-        };
+        });
         whole = legal.lists.whole i here.0 t here.1 is ∙ was.whole;
-        none = was.none;
+        none = same.2 ∙ was.none;
       })
+
+  pub track_over : (i : ℕ) → i < length x.normal.tracks → TrackDid (deeds_turned c k o e d) i (turned_track (setup_of s) p run.normal e i (told_at run i))
+  track_over i low =
+      let client = some_at x.clients i (let count = before.count in omega (arith, low, count)) in
+      let was : TrackDid d i (told_at run i) = (told.tracks i client.0 client.1).did in
+      let stream = stream_still (setup_of s) p run.normal i (told_at run i).stream (d.streams i) e still in
+      let commands = commands_still (setup_of s) p run.normal i (told_at run i).commands (d.commands i) e still in record {
+        stream = subst (DeedTold (turned_track (setup_of s) p run.normal e i (told_at run i)).stream) (sym (stream_none i)) (did_same (told_at run i).stream (turned_track (setup_of s) p run.normal e i (told_at run i)).stream (d.streams i) refl stream.1 was.stream);
+        commands = subst (DeedTold (turned_track (setup_of s) p run.normal e i (told_at run i)).commands) (sym (commands_none i)) (did_same (told_at run i).commands (turned_track (setup_of s) p run.normal e i (told_at run i)).commands (d.commands i) refl commands.1 was.commands);
+      }

@@ -21,6 +21,7 @@ use Rattle.af_party.specs.Parties.{PartyState}
 use Rattle.af_session.specs.Together.{SessionState}
 use Rattle.af_told_law.specs.Sizes.{AreSmall, IsMarkedRun, IsSmallRun, IsTrackMarked, IsTrackSmall}
 use Rattle.af_told_law.specs.Tells.{Tells}
+use Rattle.af_told_law.specs.Deeds.{Deeds}
 
 -- ## Lists without pokes
 
@@ -95,7 +96,7 @@ module _ (marks : Marks) where
 
 -- ## What is told
 
-module _ (s : Session) (run : Run) (y : SessionState) (h : Tells s run y) (small : IsSmallRun run) where
+module _ (s : Session) (run : Run) {d : Deeds} (y : SessionState) (h : Tells s run d y) (small : IsSmallRun run) where
   at_track : (i : ℕ) (p : PartyState) → slice_get y.clients i ≡ Some p → IsTrackSmall (told_at run i)
   at_track i p is = small i (let w = slice_get_within y.clients i p is in let a = h.count.0 in let b = h.count.1 in omega (arith, w, a, b))
 

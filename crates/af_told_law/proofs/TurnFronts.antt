@@ -20,22 +20,14 @@ use Rattle.af_model.specs.declared.shape.Shape.{Shape}
 use Rattle.af_model.specs.Cycles.{Listed, LooksBy, after_look, cycle_events, kept}
 use Rattle.af_model.specs.ServerCalls.{ServerKept, look_at, look_events, server_begins, server_keeps}
 use Rattle.af_model.specs.Spelled.{AllSeeOwn, own_front}
-use Rattle.af_normal.specs.LegalTurned.{GoesOnFrom}
-use Rattle.af_normal.specs.Serving.{Adds}
 use Rattle.af_runs.specs.Fronts.{front_by_answer, front_of, fronts_by, is_own_inside, lawful_front, leaves_open}
-use Rattle.af_server.specs.Order.{ServerState}
-use Rattle.af_server.specs.Slot.{listed}
 use Rattle.af_told_law.specs.Outsides.{LooksTold, SameFront, SameFronts, TakeTold}
-use Rattle.af_told_law.specs.Own.{SawOwn}
 use Rattle.af_told_law.proofs.OwnFronts.{own_told}
 use Rattle.af_told_law.proofs.LegalAlike.{command_same}
+use Rattle.af_told_law.proofs.MixLooks.{own_split}
+use Rattle.af_told_law.specs.Deeds.{SawOwnOf}
 
 -- ## One look
-
--- each front of a list in two parts
-split_own : (k : Shape) (now : ServerKept) (xs ys : List ServerEvent) → AllSeeOwn k now (xs ++ ys) → AllSeeOwn k now xs × AllSeeOwn k (fold (server_keeps k) now xs) ys
-split_own k now [] ys own = (tt, own)
-split_own k now (x ∷ xs) ys own = let rest = split_own k (server_keeps k now x) xs ys own.1 in ((own.0, rest.0), rest.1)
 
 -- where the answer doesn't leave the front open, both rules tell the same
 closed_told : (asked : ℕ) (s : Listed) (slot : SlotEntry) → leaves_open s.shape asked slot.seen ≡ false → front_of asked s slot ≡ lawful_front asked s slot
@@ -70,7 +62,7 @@ looks_told s [] (f ∷ fs) legal own = elim legal [ ]
 looks_told s (look ∷ looks) [] legal own = elim legal [ ]
 looks_told s (look ∷ looks) (f ∷ fs) legal own =
     let es : List ServerEvent = command_events s look f in
-    let parts = split_own s.shape (kept s) es (all_command_events (did s es) looks fs) own in
+    let parts = own_split s.shape (kept s) es (all_command_events (did s es) looks fs) own in
     let one = look_told 2 s (as_slot look) f legal.0 (command_own s look f parts.0) in
     let after : fold (server_keeps s.shape) (kept s) es ≡ kept (did s es) = sym (fold-append (server_keeps s.shape) (server_begins s.shape) s.events es) in
     let rest = looks_told (did s es) looks fs legal.2 (subst (λ (k : ServerKept). AllSeeOwn s.shape k (all_command_events (did s es) looks fs)) after parts.1) in
@@ -91,7 +83,7 @@ cycle_own many s slot f own = by_shut (is_some (kept s).shut) own
 takes_told : (c : Setup) (s : Listed) (f : ℕ) (takes : List TakeSeen) → AllByRecursion (λ (take : TakeSeen). LooksBy (asked c) s take.slot f) takes → AllSeeOwn s.shape (kept s) (flat_map (λ (take : TakeSeen). cycle_events (asked c) s take.slot f) takes) → TakeTold c s f takes
 takes_told c s f [] legal own = (inl refl, refl)
 takes_told c s f (take ∷ takes) legal own =
-    let parts = split_own s.shape (kept s) (cycle_events (asked c) s take.slot f) (flat_map (λ (take : TakeSeen). cycle_events (asked c) s take.slot f) takes) own in
+    let parts = own_split s.shape (kept s) (cycle_events (asked c) s take.slot f) (flat_map (λ (take : TakeSeen). cycle_events (asked c) s take.slot f) takes) own in
     let one = look_told (asked c) s take.slot f legal.0 (cycle_own (asked c) s take.slot f parts.0) in
     (inr one.0, one.1)
 
@@ -109,22 +101,17 @@ taken_looks c o i (take ∷ takes) legal = by_track (take.track == i) refl (take
 
 -- ## The proxies after the turn
 
--- each front of a server that went on from a list
-went_on : (s : Listed) (events : List ServerEvent) (t : ServerState) → t.pass.part.events ≡ s.events ++ events → t.pass.part.shape ≡ s.shape → SawOwn t → AllSeeOwn s.shape (kept s) events
-went_on s events t list shape own =
-    (split_own s.shape (server_begins s.shape) s.events events (subst (λ (x : Shape × List ServerEvent). AllSeeOwn x.0 (server_begins x.0) x.1) (λ j. (shape j, list j)) own)).1
-
-module _ (c : Setup) (o : Outside) (e : Turn) (tracks : List TrackKept) (i : ℕ) (t : ServerState) (runs : e.ended ≡ false) (own : SawOwn t) where
+module _ (c : Setup) (o : Outside) (e : Turn) (tracks : List TrackKept) (i : ℕ) (runs : e.ended ≡ false) where
   -- of a stream that is home, or was lent
-  pub stream_told : AllByRecursion (LegalTake c o) e.mixes → GoesOnFrom (o.streams i) (stream_list c o e tracks i) t → TakeTold c (o.streams i) (o.stream_front i) (takes_from e.mixes i)
-  stream_told legal goes =
+  pub stream_told : SawOwnOf (o.streams i).shape ((o.streams i).events ++ stream_list c o e tracks i) → AllByRecursion (LegalTake c o) e.mixes → TakeTold c (o.streams i) (o.stream_front i) (takes_from e.mixes i)
+  stream_told own legal =
       let s : Listed = o.streams i in
       let track : TrackKept = track_at tracks i in
       let found : Bool = not track.life.ended && is_found_shut (heard (learnt o) i track) (track_in e i).looks in
       let flags : List ServerEvent = if is_home track.holder then (if found then server.SetFlags 4 ∷ [] else []) else [] in
       let list : stream_list c o e tracks i ≡ flags ++ mix_events c o e.mixes i = ap (λ (b : Bool). if b then [] else flags ++ mix_events c o e.mixes i) runs in
-      let all : AllSeeOwn s.shape (kept s) (flags ++ mix_events c o e.mixes i) = went_on s (flags ++ mix_events c o e.mixes i) t (goes.0 ∙ ap (λ (es : List ServerEvent). s.events ++ es) list) goes.1 own in
-      let parts = split_own s.shape (kept s) flags (mix_events c o e.mixes i) all in
+      let all : AllSeeOwn s.shape (kept s) (flags ++ mix_events c o e.mixes i) = (own_split s.shape (server_begins s.shape) s.events (flags ++ mix_events c o e.mixes i) (subst (λ (es : List ServerEvent). SawOwnOf s.shape (s.events ++ es)) list own)).1 in
+      let parts = own_split s.shape (kept s) flags (mix_events c o e.mixes i) all in
       takes_told c s (o.stream_front i) (takes_from e.mixes i) (taken_looks c o i e.mixes legal)
       (subst (λ (k : ServerKept). AllSeeOwn s.shape k (mix_events c o e.mixes i)) (flags_keep s.shape (kept s) (is_home track.holder) found) parts.1)
     where
@@ -134,14 +121,14 @@ module _ (c : Setup) (o : Outside) (e : Turn) (tracks : List TrackKept) (i : ℕ
       flags_keep shape now false b = refl
 
   -- of a command block
-  pub commands_told : (s : ServerState) (words : List ℕ) → o.commands i ≡ listed s → LegalLooks (o.commands i) (track_in e i).looks (o.command_fronts i) → Adds s (command_list c o e tracks i) words t
-      → LooksTold (o.commands i) (track_in e i).looks (o.command_fronts i)
-  commands_told s words is legal adds =
+  pub commands_told : SawOwnOf (o.commands i).shape ((o.commands i).events ++ command_list c o e tracks i) → LegalLooks (o.commands i) (track_in e i).looks (o.command_fronts i) → LooksTold (o.commands i) (track_in e i).looks (o.command_fronts i)
+  commands_told own legal =
+      let s : Listed = o.commands i in
       let looks : List CommandLook = (track_in e i).looks in
-      let first : List ServerEvent = all_command_events (o.commands i) looks (o.command_fronts i) in
+      let first : List ServerEvent = all_command_events s looks (o.command_fronts i) in
       let flags : List ServerEvent = invalid (learnt o) (track_in e i) tracks i in
       let status : List ServerEvent = status_events (track_in e i).status in
       let list : command_list c o e tracks i ≡ first ++ flags ++ status = ap (λ (b : Bool). if b then [] else first ++ flags ++ status) runs in
-      let all : AllSeeOwn (o.commands i).shape (kept (o.commands i)) (first ++ flags ++ status) = went_on (o.commands i) (first ++ flags ++ status) t (adds.list ∙ (λ j. (sym is j).events ++ list j)) (adds.shape ∙ ap (λ (x : Listed). x.shape) (sym is)) own in
-      let some : AllSeeOwn (o.commands i).shape (kept (o.commands i)) (first ++ flags) = (split_own (o.commands i).shape (kept (o.commands i)) (first ++ flags) status all).0 in
-      looks_told (o.commands i) looks (o.command_fronts i) legal (split_own (o.commands i).shape (kept (o.commands i)) first flags some).0
+      let all : AllSeeOwn s.shape (kept s) (first ++ flags ++ status) = (own_split s.shape (server_begins s.shape) s.events (first ++ flags ++ status) (subst (λ (es : List ServerEvent). SawOwnOf s.shape (s.events ++ es)) list own)).1 in
+      let some : AllSeeOwn s.shape (kept s) (first ++ flags) = (own_split s.shape (kept s) (first ++ flags) status all).0 in
+      looks_told s looks (o.command_fronts i) legal (own_split s.shape (kept s) first flags some).0

@@ -18,6 +18,7 @@ use Rattle.af_runs.specs.Sessions.{Session, setup_of}
 use Rattle.af_session.specs.Together.{SessionState}
 use Rattle.af_told_law.specs.Tells.{Tells}
 use Rattle.af_told_law.specs.NormalLaws.{ShowsFront}
+use Rattle.af_told_law.specs.Deeds.{Deeds}
 
 -- ## The lists of two ends after events of the first
 
@@ -36,7 +37,7 @@ module _ {A B : Type 0} where
 
 -- ## The pipe
 
-module _ (s : Session) (run : Run) (x : SessionState) (n : NormalState) (o : Outside) (told : Tells s run x) (legal : IsLegal o x.normal n) (front : ShowsFront (setup_of s) x.normal n (turn_of n.entry))
+module _ (s : Session) (run : Run) {d : Deeds} (x : SessionState) (n : NormalState) (o : Outside) (told : Tells s run d x) (legal : IsLegal o x.normal n) (front : ShowsFront (setup_of s) x.normal n (turn_of n.entry))
     (cells : x.normal.pipe.pass.part.shape.cells ≡ pipe_cells (setup_of s)) where
   abbrev e : Turn
   e = turn_of n.entry

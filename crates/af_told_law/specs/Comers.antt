@@ -10,11 +10,12 @@ use Rattle.af_server.specs.Order.{ServerState}
 use Rattle.af_stateq.specs.Mutates.{at}
 use Rattle.af_session.specs.Together.{SessionState}
 use Rattle.af_told_law.specs.Tells.{TellsServer, held_slot, is_coming, items_given, none_comes}
+use Rattle.af_told_law.specs.Deeds.{Deeds, done_on}
 
 -- each stream proxy that comes home by the acknowledgement seen in the turn, with these items back, is there and tells its block
-abbrev pub ComersTell : Run → NormalState → Turn → List (Option ServerState) → Type 0
-ComersTell run m e back = (i : ℕ) → i < length m.tracks → (e.ack && is_returning (track_at m.tracks i).holder) ≡ true → is_home (track_at (after_ack e.ack (kept_of m)).tracks i).holder ≡ true
-    → (t : ServerState) × (in_hand back m.mutator.returned (slot_number (track_at m.tracks i)) ≡ Some t) × TellsServer (told_at run i).stream t
+abbrev pub ComersTell : Run → Deeds → NormalState → Turn → List (Option ServerState) → Type 0
+ComersTell run d m e back = (i : ℕ) → i < length m.tracks → (e.ack && is_returning (track_at m.tracks i).holder) ≡ true → is_home (track_at (after_ack e.ack (kept_of m)).tracks i).holder ≡ true
+    → (t : ServerState) × (in_hand back m.mutator.returned (slot_number (track_at m.tracks i)) ≡ Some t) × TellsServer (done_on (told_at run i).stream (d.streams i)) t
 
 -- How the proxy of a returning track comes home with these items: the observer doesn't hold it, and it comes with the items that were given back, or was in the mutator's hand before
 pub record ComesBy (x : SessionState) (i : ℕ) (back : List (Option ServerState)) : Type 0 where

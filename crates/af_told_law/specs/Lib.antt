@@ -1,4 +1,5 @@
 pub mod Alike
+pub mod Deeds
 pub mod Tells
 pub mod Own
 pub mod Sizes

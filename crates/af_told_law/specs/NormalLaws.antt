@@ -3,7 +3,7 @@ use Rattle.std.specs.Prelude.{Some, [], false, length, slice_get, ℕ, ◌++◌,
 use Rattle.af_base.specs.Turn.{Turn, turn_of}
 use Rattle.af_life.specs.Kept.{Outside, Setup, pipe_size}
 use Rattle.af_normal.specs.LegalTurned.{IsLegal}
-use Rattle.af_normal.specs.State.{NormalState, kept_of}
+use Rattle.af_normal.specs.State.{NormalState, kept_of, setup_of as mixer_setup}
 use Rattle.af_normal.specs.TurnMade.{TurnMade, answer_of}
 use Rattle.af_link.specs.declared.links.Links.{Links}
 use Rattle.af_runs.specs.Found.{TurnFound, outside_of}
@@ -12,7 +12,6 @@ use Rattle.af_runs.specs.Sessions.{Session, cycle_frames, setup_of, track_count}
 use Rattle.af_server.specs.Order.{ServerState}
 use Rattle.af_session.specs.Together.{AreTogether, SessionState}
 use Rattle.af_told_law.specs.Between.{StandsBefore}
-use Rattle.af_told_law.specs.Own.{SeesOwn}
 use Rattle.af_told_law.specs.QueueTurned.{QueueKnown}
 use Rattle.af_told_law.specs.Comers.{ComersTell}
 use Rattle.af_told_law.specs.Tells.{Tells, TellsCommands, TellsStream}
@@ -25,6 +24,7 @@ use Rattle.af_life.specs.Plays.{put_by}
 use Rattle.af_model.specs.declared.states.MutatorEvent.TheVariants as mutator
 use Rattle.af_base.specs.declared.event.ClientEvent.TheVariants as client
 use Rattle.af_model.specs.declared.states.ObserverEvent.TheVariants as observer
+use Rattle.af_told_law.specs.Deeds.{Deeds, TrackDid, deeds_turned}
 
 -- what a turn that found this makes of a track
 abbrev pub track_turned : Session → TurnFound → Run → Turn → ℕ → TrackTold
@@ -48,14 +48,19 @@ pub record TurnShown (s : Session) (run : Run) (x : SessionState) (n : NormalSta
   pub later : HasHistory x.normal.mutator.past.first (n.mutator.past.events ++ mutator.Learn polled ∷ []) (x.fast.observer.past.events ++ observer.Learn pushed ∷ [])
   pub front : ShowsFront (setup_of s) x.normal n (turn_of n.entry)
 
+-- what the servers did up to the end of the turn that led to n and saw this
+abbrev pub did_by : Outside → SessionState → NormalState → Deeds → Deeds
+did_by o x n d = deeds_turned (mixer_setup x.normal) (kept_of x.normal) o (turn_of n.entry) d
+
 -- the proxies that came home are told, and after the turn each track's stream and command proxy
-pub record PartsTold (s : Session) (run : Run) (x : SessionState) (n : NormalState) (o : Outside) (f : TurnFound) (legal : IsLegal o x.normal n) : Type 0 where
-  pub comers : (turn_of n.entry).ended ≡ false → ComersTell run x.normal (turn_of n.entry) legal.lists.back
-  pub streams : (i : ℕ) → i < track_count s → TellsStream n x.fast i (track_turned s f run (turn_of n.entry) i).stream
-  pub commands : (i : ℕ) (t : ServerState) → i < track_count s → slice_get n.commands i ≡ Some t → TellsCommands (track_turned s f run (turn_of n.entry) i).commands t
+pub record PartsTold (s : Session) (run : Run) (d : Deeds) (x : SessionState) (n : NormalState) (o : Outside) (f : TurnFound) (legal : IsLegal o x.normal n) : Type 0 where
+  pub comers : (turn_of n.entry).ended ≡ false → ComersTell run d x.normal (turn_of n.entry) legal.lists.back
+  pub streams : (i : ℕ) → i < track_count s → TellsStream n x.fast i (track_turned s f run (turn_of n.entry) i).stream ((did_by o x n d).streams i)
+  pub commands : (i : ℕ) (t : ServerState) → i < track_count s → slice_get n.commands i ≡ Some t → TellsCommands (track_turned s f run (turn_of n.entry) i).commands ((did_by o x n d).commands i) t
+  pub did : (i : ℕ) → i < track_count s → TrackDid (did_by o x n d) i (track_turned s f run (turn_of n.entry) i)
 
 -- so they are for each turn
 abbrev pub PartsAreTold : Session → Type 0
-PartsAreTold s = (links : Links) (run : Run) (x : SessionState) (n : NormalState) (o : Outside) (f : TurnFound) → AreTogether links x → AreTogether links (record x { normal = n }) → Tells s run x → StandsBefore x
-    → (legal : IsLegal o x.normal n) → TurnMade (answer_of (turn_of n.entry)) x.normal n → TurnShown s run x n o f → SeesOwn (record x { normal = n }) → QueueKnown (cycle_frames s) run x.normal → x.normal.ended ≡ false
-    → PartsTold s run x n o f legal
+PartsAreTold s = (links : Links) (run : Run) (d : Deeds) (x : SessionState) (n : NormalState) (o : Outside) (f : TurnFound) → AreTogether links x → AreTogether links (record x { normal = n }) → Tells s run d x → StandsBefore x
+    → (legal : IsLegal o x.normal n) → TurnMade (answer_of (turn_of n.entry)) x.normal n → TurnShown s run x n o f → QueueKnown (cycle_frames s) run x.normal → x.normal.ended ≡ false
+    → PartsTold s run d x n o f legal

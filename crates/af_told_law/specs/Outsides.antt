@@ -1,5 +1,5 @@
 -- When a turn of the normal mixer reads the same of two outsides.
-use Rattle.std.specs.Prelude.{◌≡◌, ℕ, ◌⊎◌, ◌<◌, true, false, is_some, length, List, [], ◌∷◌}
+use Rattle.std.specs.Prelude.{List, [], false, is_some, length, true, ℕ, ◌++◌, ◌<◌, ◌∷◌, ◌≡◌, ◌⊎◌}
 use Rattle.af_base.specs.declared.log.SlotEntry.{SlotEntry}
 use Rattle.af_base.specs.declared.turn.CommandLook.{CommandLook}
 use Rattle.af_base.specs.Turn.{TakeSeen, Turn}
@@ -9,13 +9,14 @@ use Rattle.af_life.specs.Kept.{Learnt, NormalKept, Outside, Setup, asked, is_hom
 use Rattle.af_life.specs.Looks.{LegalLooks, command_events, did}
 use Rattle.af_life.specs.TurnEvents.{takes_from}
 use Rattle.af_model.specs.Cycles.{Listed, LooksBy, kept}
-use Rattle.af_runs.specs.Blocks.{is_tame, listed}
+use Rattle.af_runs.specs.Blocks.{listed}
 use Rattle.af_runs.specs.Found.{TurnFound, take_front}
 use Rattle.af_runs.specs.Fronts.{front_of, fronts_by, lawful_front}
 use Rattle.af_told_law.specs.Alike.{TellAlike}
 use Rattle.af_base.specs.declared.report.Report.{Report}
 use Rattle.af_model.specs.Reports.{report_at}
 use Rattle.af_runs.specs.Runs.{Run, told_at}
+use Rattle.af_told_law.specs.Deeds.{SawOwnOf, commands_by, stream_by}
 
 -- the reports are of one cycle, and say the same of the slot of each track whose proxy isn't home
 pub record HeardAlike (tracks : List TrackKept) (r q : Report) : Type 0 where
@@ -67,17 +68,24 @@ TakeTold c s f takes = ((takes ≡ []) ⊎ SameFront s f (take_front (front_of (
 abbrev pub LooksTold : Listed → List CommandLook → List ℕ → Type 0
 LooksTold s looks fs = SameFronts s looks fs (fronts_by front_of s looks) × (fronts_by front_of s looks ≡ fronts_by lawful_front s looks)
 
+-- each front that the stream server of a track saw up to the end of the turn is its own, and each that its command server saw
+abbrev pub SawStream : Setup → NormalKept → Turn → Outside → ℕ → Type 0
+SawStream c m e o i = SawOwnOf (o.streams i).shape ((o.streams i).events ++ stream_by c m o e i)
+
+abbrev pub SawCommands : Setup → NormalKept → Turn → Outside → ℕ → Type 0
+SawCommands c m e o i = SawOwnOf (o.commands i).shape ((o.commands i).events ++ commands_by c m o e i)
+
 -- a turn finds the two blocks of each track as a run tells them
 pub record FindsBlocks (run : Run) (f : TurnFound) : Type 0 where
   pub streams : (i : ℕ) → f.streams i ≡ (told_at run i).stream
   pub commands : (i : ℕ) → f.commands i ≡ (told_at run i).commands
 
--- What a turn saw is what was found: what the report says of the stream proxies that aren't home once the acknowledgement was seen, and what the lists of those that are, and those of the command proxies, tell. On a block that wasn't poked the lists and the fronts are the same
+-- What a turn saw is what was found: what the report says of the stream proxies that aren't home once the acknowledgement was seen, and what the lists of those that are, and those of the command proxies, tell. Where each front that a server saw up to the end of the turn is its own the lists and the fronts are the same
 pub record IsFound (c : Setup) (m : NormalKept) (e : Turn) (o : Outside) (f : TurnFound) : Type 0 where
   pub report : HeardAlike (after_ack e.ack m).tracks o.report f.report
   pub streams : (i : ℕ) → i < length m.tracks → is_home (track_at (after_ack e.ack m).tracks i).holder ≡ true → ListAlike (o.streams i) (listed (f.streams i))
   pub commands : (i : ℕ) → i < length m.tracks → ListAlike (o.commands i) (listed (f.commands i))
-  pub same_streams : (i : ℕ) → i < length m.tracks → is_tame (f.streams i) ≡ true → is_home (track_at (after_ack e.ack m).tracks i).holder ≡ true → o.streams i ≡ listed (f.streams i)
-  pub same_commands : (i : ℕ) → i < length m.tracks → is_tame (f.commands i) ≡ true → o.commands i ≡ listed (f.commands i)
-  pub takes : (i : ℕ) → i < length m.tracks → is_tame (f.streams i) ≡ true → TakeTold c (o.streams i) (o.stream_front i) (takes_from e.mixes i)
-  pub looks : (i : ℕ) → i < length m.tracks → is_tame (f.commands i) ≡ true → LooksTold (o.commands i) (track_in e i).looks (o.command_fronts i)
+  pub same_streams : (i : ℕ) → i < length m.tracks → is_home (track_at (after_ack e.ack m).tracks i).holder ≡ true → SawStream c m e o i → o.streams i ≡ listed (f.streams i)
+  pub same_commands : (i : ℕ) → i < length m.tracks → SawCommands c m e o i → o.commands i ≡ listed (f.commands i)
+  pub takes : (i : ℕ) → i < length m.tracks → SawStream c m e o i → TakeTold c (o.streams i) (o.stream_front i) (takes_from e.mixes i)
+  pub looks : (i : ℕ) → i < length m.tracks → SawCommands c m e o i → LooksTold (o.commands i) (track_in e i).looks (o.command_fronts i)

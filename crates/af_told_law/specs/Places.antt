@@ -8,7 +8,7 @@ use Rattle.af_life.specs.Edits.{must_enter}
 use Rattle.af_life.specs.Heard.{learnt}
 use Rattle.af_life.specs.Kept.{Outside, is_home, slot_number, track_at}
 use Rattle.af_life.specs.Turn.{after_edits}
-use Rattle.af_life.specs.TurnEvents.{going, mutator_list, stream_list, takes_from, tracks_at}
+use Rattle.af_life.specs.TurnEvents.{going, mutator_list, takes_from}
 use Rattle.af_link.specs.declared.links.Links.{Links}
 use Rattle.af_model.specs.StateQueue.{MutatorPoint, carries, mutated}
 use Rattle.af_normal.specs.LegalTurned.{IsLegal, home_stream, in_hand, in_queue, served_tracks}
@@ -21,6 +21,7 @@ use Rattle.af_runs.specs.KeptLists.{marked}
 use Rattle.af_runs.specs.Told.{is_pushed, items_of}
 use Rattle.af_server.specs.Order.{ServerState}
 use Rattle.af_stateq.specs.Mutates.{at, is_out}
+use Rattle.af_told_law.specs.Deeds.{stream_by}
 
 -- the words that a turn took of the track i, as its stream block has them taken
 abbrev pub words_by : Turn → ℕ → List ℕ
@@ -28,7 +29,7 @@ words_by e i = going e (map packed_word (flat_map (λ take. take.frames) (takes_
 
 -- what the stream proxy of the track i does in a turn of x that saw this
 abbrev pub events_by : Outside → NormalState → Turn → ℕ → List ServerEvent
-events_by o x e i = stream_list (setup_of x) o e (tracks_at (setup_of x) (learnt o) (kept_of x) e i) i
+events_by o x e i = stream_by (setup_of x) (kept_of x) o e i
 
 -- the proxy t is that of the track i that was home in the turn, or came home by its acknowledgement, and did and took what the turn tells
 pub record ComesFrom (o : Outside) (back : List (Option ServerState)) (x : NormalState) (e : Turn) (i : ℕ) (t : ServerState) : Type 0 where

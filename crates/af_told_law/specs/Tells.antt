@@ -18,7 +18,7 @@ use Rattle.af_normal.specs.LegalTurned.{hand_events}
 use Rattle.af_normal.specs.Mixing.{stream_at}
 use Rattle.af_normal.specs.State.{NormalState, kept_of, setup_of as mixer_setup}
 use Rattle.af_party.specs.Parties.{PartyState, track_of}
-use Rattle.af_runs.specs.Blocks.{BlockTold, hand_list, is_tame, server_list}
+use Rattle.af_runs.specs.Blocks.{BlockTold, hand_list}
 use Rattle.af_model.specs.Journals.{EntrySeen, slot_frames}
 use Rattle.af_runs.specs.KeptLists.{KeepsMutator, KeepsPipe, KeepsReader, marked}
 use Rattle.af_runs.specs.Runs.{Run, TrackTold, fast_ended, frames_before, last_report, sides_of, told_at}
@@ -31,20 +31,20 @@ use Rattle.af_stateq.specs.Mutates.{at}
 use Rattle.af_session.specs.Met.{item_at, slot_for}
 use Rattle.af_session.specs.Rounds.{Given, file_at, ops_at}
 use Rattle.af_session.specs.Together.{SessionState}
-use Rattle.af_told_law.specs.Alike.{TellAlike}
+use Rattle.af_base.specs.declared.event.ServerEvent.{ServerEvent}
+use Rattle.af_told_law.specs.Deeds.{Deeds, GoOn, ServerDone, TrackDid, done_on}
 
 -- ## The proxies of a track
 
--- The proxy has the sizes of its block, and took what is told. It did what is told while the block is tame; on one that was poked a look may have seen another front than the one told, by which it answered and left the same
-pub record TellsServer (b : BlockTold) (s : ServerState) : Type 0 where
-  pub shape : s.pass.part.shape ≡ b.shape
-  pub events : is_tame b ≡ true → s.pass.part.events ≡ server_list b
-  pub alike : TellAlike b.shape s.pass.part.events (server_list b)
-  pub taken : s.pass.part.frames ≡ b.taken
+-- the proxy has these sizes, and did and took this
+pub record TellsServer (k : ServerDone) (s : ServerState) : Type 0 where
+  pub shape : s.pass.part.shape ≡ k.shape
+  pub events : s.pass.part.events ≡ k.events
+  pub taken : s.pass.part.frames ≡ k.taken
 
--- so does one that may be there
-abbrev pub IfThere : BlockTold → Option ServerState → Type 0
-IfThere b o = (s : ServerState) → o ≡ Some s → TellsServer b s
+-- so did one that may be there
+abbrev pub IfThere : ServerDone → Option ServerState → Type 0
+IfThere k o = (s : ServerState) → o ≡ Some s → TellsServer k s
 
 -- a state was pushed that the observer hasn't
 abbrev pub is_going : NormalState → MixerState → Bool
@@ -74,22 +74,22 @@ abbrev pub none_comes : NormalState → MixerState → ℕ → Type 0
 none_comes m f slot = is_coming m f ≡ true → at (items_given f) slot ≡ None
 
 -- The stream proxy of a track that has this slot, and isn't home: the observer holds it; or else it went with the last push, or was given back; or else it waits for a push, or is in the mutator's hand
-pub record TellsAway (m : NormalState) (f : MixerState) (i slot : ℕ) (b : BlockTold) : Type 0 where
-  pub held : IfThere b (item_at f.observer.items (held_slot f i))
-  pub goes : held_slot f i ≡ None → is_going m f ≡ true → IfThere b (at (items_sent m) slot)
-  pub comes : held_slot f i ≡ None → is_coming m f ≡ true → IfThere b (at (items_given f) slot)
-  pub waits : held_slot f i ≡ None → none_comes m f slot → IfThere b (at m.mutator.pending slot)
-  pub back : held_slot f i ≡ None → none_comes m f slot → IfThere b (at m.mutator.returned slot)
+pub record TellsAway (m : NormalState) (f : MixerState) (i slot : ℕ) (k : ServerDone) : Type 0 where
+  pub held : IfThere k (item_at f.observer.items (held_slot f i))
+  pub goes : held_slot f i ≡ None → is_going m f ≡ true → IfThere k (at (items_sent m) slot)
+  pub comes : held_slot f i ≡ None → is_coming m f ≡ true → IfThere k (at (items_given f) slot)
+  pub waits : held_slot f i ≡ None → none_comes m f slot → IfThere k (at m.mutator.pending slot)
+  pub back : held_slot f i ≡ None → none_comes m f slot → IfThere k (at m.mutator.returned slot)
 
--- a stream's proxy, home or away, and its hand
-pub record TellsStream (m : NormalState) (f : MixerState) (i : ℕ) (b : BlockTold) : Type 0 where
-  pub home : IfThere b (stream_at m.streams i)
-  pub away : is_home (track_at m.tracks i).holder ≡ false → TellsAway m f i (slot_number (track_at m.tracks i)) b
+-- a stream's proxy, home or away, which did this, and its hand
+pub record TellsStream (m : NormalState) (f : MixerState) (i : ℕ) (b : BlockTold) (deed : List ServerEvent) : Type 0 where
+  pub home : IfThere (done_on b deed) (stream_at m.streams i)
+  pub away : is_home (track_at m.tracks i).holder ≡ false → TellsAway m f i (slot_number (track_at m.tracks i)) (done_on b deed)
   pub hand : hand_events m.hands i ≡ hand_list b
 
 -- a command proxy, which keeps its hand
-pub record TellsCommands (b : BlockTold) (s : ServerState) : Type 0 where
-  pub server : TellsServer b s
+pub record TellsCommands (b : BlockTold) (deed : List ServerEvent) (s : ServerState) : Type 0 where
+  pub server : TellsServer (done_on b deed) s
   pub whole : s.pass.has_hand ≡ true
   pub none : hand_list b ≡ []
 
@@ -97,11 +97,12 @@ pub record TellsCommands (b : BlockTold) (s : ServerState) : Type 0 where
 abbrev pub given_of : Session → Given
 given_of s = record { tracks = s.script.tracks; files = s.files }
 
--- a track: its client p with both proxies, and their servers
-pub record TellsTrack (s : Session) (m : NormalState) (f : MixerState) (i : ℕ) (t : TrackTold) (p : PartyState) : Type 0 where
+-- a track: its client p with both proxies, and their servers, which did this
+pub record TellsTrack (s : Session) (m : NormalState) (f : MixerState) (d : Deeds) (i : ℕ) (t : TrackTold) (p : PartyState) : Type 0 where
   pub client : sides_of t ≡ track_of (ops_at (given_of s) i) (file_at (given_of s) i) p
-  pub stream : TellsStream m f i t.stream
-  pub commands : (c : ServerState) → slice_get m.commands i ≡ Some c → TellsCommands t.commands c
+  pub stream : TellsStream m f i t.stream (d.streams i)
+  pub commands : (c : ServerState) → slice_get m.commands i ≡ Some c → TellsCommands t.commands (d.commands i) c
+  pub did : TrackDid d i t
 
 -- ## The two mixers
 
@@ -156,13 +157,19 @@ pub record TellsFast (s : Session) (run : Run) (f : MixerState) : Type 0 where
 
 -- ## All
 
--- the run tells what the parties are and did
-pub record Tells (s : Session) (run : Run) (x : SessionState) : Type 0 where
+-- the run tells what the parties are and did, the servers by these lists
+pub record Tells (s : Session) (run : Run) (d : Deeds) (x : SessionState) : Type 0 where
   pub count : (length run.tracks ≡ track_count s) × (length x.clients ≡ track_count s)
-  pub tracks : (i : ℕ) (p : PartyState) → slice_get x.clients i ≡ Some p → TellsTrack s x.normal x.fast i (told_at run i) p
+  pub tracks : (i : ℕ) (p : PartyState) → slice_get x.clients i ≡ Some p → TellsTrack s x.normal x.fast d i (told_at run i) p
   pub shared : TellsShared s run x.normal x.fast
   pub normal : TellsNormal s run x.normal
   pub fast : TellsFast s run x.fast
+
+-- what a step leaves, from servers that did this
+pub record Leaves (s : Session) (before : Deeds) (after : Run) (y : SessionState) : Type 0 where
+  pub deeds : Deeds
+  pub goes : GoOn before deeds
+  pub told : Tells s after deeds y
 
 -- ## Polls
 
