@@ -26,7 +26,7 @@ none_else zero j = refl
 none_else (suc n) zero = refl
 none_else (suc n) (suc j) = none_else n j
 
-module _ (links : Links) (s : Session) (marks : Marks) (run : Run) (i : ℕ) (x : SessionState) (r : RoundNoted) (bytes : List ℕ) (y : SessionState) (entries : List EntrySeen) (h : Tells s run x)
+module _ (links : Links) (s : Session) (marks : Marks) (run : Run) (i : ℕ) (x : SessionState) (r : RoundNoted) (bytes : List ℕ) (y : SessionState) (entries : List EntrySeen) {d : Deeds} (h : Tells s run d x) (saw : SawOwnBy (tame_marks run) run d)
     (w : IsRound (given_of s) (makes.Client i) x r bytes y) (turned : AreTogether links w.turned) (met : AreTogether links w.met) where
   abbrev calls : List ClientCall
   calls = w.turns.1

@@ -309,9 +309,10 @@ module _ (links : Links) (s : Session) (run : Run) (d : Deeds) (x : SessionState
 pub mix_told : (links : Links) (s : Session) (run : Run) (d : Deeds) (x : SessionState) (g : MixerState) (out : List Frame) (answer : Cycle) (out' : List Frame) → MixIsTold links s run d x g out answer out'
 mix_told links s run d x g out answer out' together after lead on mixes sizes queue counted sees told =
     let added = mixes.adds on in
-    let may : MayMix links s run d x g = record { together = together; after = after; lead = lead; queue = queue; counted = counted; sees = sees; told = told } in
-    (
-      added.0, added.1, added.2.entries,
+    let may : MayMix links s run d x g = record { together = together; after = after; lead = lead; queue = queue; counted = counted; sees = sees; told = told } in (
+      added.0,
+      added.1,
+      added.2.entries,
       record { deeds = left links s run d x g may added.0 added.2 sizes; goes = goes_on links s run d x g may added.0 added.2 sizes; told = told_all links s run d x g may added.0 added.2 sizes },
       rests links s run d x g may added.0 added.2 sizes,
       legal_entry links s run d x g may added.0 added.2 sizes,

@@ -40,10 +40,6 @@ there_some : {X : Type 0} (o : Option X) → is_some o ≡ true → (x : X) × (
 there_some None e = absurd (true≢false (sym e))
 there_some (Some x) e = (x, refl)
 
--- a proxy that tells a block that wasn't poked has its list
-pub server_listed : (b : BlockTold) (t : ServerState) → TellsServer b t → is_tame b ≡ true → listed t ≡ told_list b
-server_listed b t told tame = λ j. record { shape = told.shape j; events = told.events tame j }
-
 -- a track that isn't returning, or of which no acknowledgement was seen, stays as it is
 ack_stays : (ack : Bool) (m : NormalKept) (i : ℕ) → (ack && is_returning (track_at m.tracks i).holder) ≡ false → track_at (after_ack ack m).tracks i ≡ track_at m.tracks i
 unfolding welcomed

@@ -81,8 +81,8 @@ module _ (c : Setup) (k l : Learnt) where
       let before : now ≡ served_to c l seen tracks n = served_to_same seen tracks n alike in
       set_same now n (served c k (seen_at seen n).looks now n) (served c l (seen_at seen n).looks now n)
       (λ low. let long : length now ≡ length tracks = served_len c k seen tracks n in
-          served_same (seen_at seen n).looks now n (reported_yet seen tracks n alike (omega (arith, low, long)))
-          (λ home. alike.own n (omega (arith, low, long)) (sym (ap (λ (s : TrackKept). is_home s.holder) (not_yet c k seen tracks n n (omega arith))) ∙ home)))
+      served_same (seen_at seen n).looks now n (reported_yet seen tracks n alike (omega (arith, low, long)))
+      (λ home. alike.own n (omega (arith, low, long)) (sym (ap (λ (s : TrackKept). is_home s.holder) (not_yet c k seen tracks n n (omega arith))) ∙ home)))
       ∙ (λ j. slice_set (before j) n (served c l (seen_at seen n).looks (before j) n))
 
 -- serving leaves each proxy where it is
