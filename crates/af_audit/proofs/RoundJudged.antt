@@ -21,8 +21,8 @@ use Rattle.af_judge.proofs.QueueRun.{goes_ended}
 use Rattle.af_judge.proofs.SharedFollows.{beside_ended, beside_met, queue_met_so, shared_judged}
 use Rattle.af_life.specs.Kept.{NormalKept, is_home, track_at}
 use Rattle.af_runs.specs.Blocks.{Marks}
-use Rattle.af_runs.specs.Rounds.{IsFastTurn, LegalEntries, LegalFastTurn, LegalNormalTurn, SharedHistories, TrackHistories, after_round, after_turn, all_played, early_count, early_of, fills, late_of, met_after, most_cycles}
-use Rattle.af_runs.specs.Runs.{Run, all_ended, fast_ended, fast_party, met, normal_party, sides_of, takes_part, told_at, with_calls}
+use Rattle.af_runs.specs.Rounds.{IsFastTurn, LegalEntries, LegalFastTurn, LegalNormalTurn, SharedHistories, TrackHistories, after_round, after_turn, all_played, early_count, early_of, fills, late_of, met_after}
+use Rattle.af_runs.specs.Runs.{Run, all_ended, fast_ended, fast_party, met, normal_party, sides_of, takes_part, told_at, with_calls, most_cycles}
 use Rattle.af_runs.specs.Sessions.{Session, spec_of, track_count}
 use Rattle.af_runs.specs.Told.{state_at}
 use Rattle.af_audit.specs.declared.run_judge.Found.{Found}
