@@ -35,6 +35,7 @@ use Rattle.af_audit.proofs.MixerTurns.{before_normal, turn_legal}
 use Rattle.af_audit.proofs.TrackStands.{TrackStands, stands_called, stands_ended, stands_met, stands_mixed, stands_turned}
 use Rattle.af_audit.proofs.Booleans.{neither, no}
 use Rattle.af_audit.proofs.FirstFound.{found_at}
+use Rattle.af_runs.proofs.StatesFor.{state_known}
 
 -- ## The look of an entry at a track
 

@@ -41,6 +41,14 @@ state_pushed s run k some low = any_default (state_of run.states k) _ (initial (
 pub state_waits : (s : Session) (run : Run) (k : ℕ) → length run.states < k → state_for s run k ≡ run.normal.draft
 state_waits s run k far = second_of (state_of run.states k) (k == 0) (state_at (cycle_frames s) run.states run.current) run.normal.draft (state_beyond run.states k far) (ne_eqb k 0 (λ e. omega (arith, e, far)))
 
+-- the number of the state adopted last as that state
+pub state_adopted : (s : Session) (run : Run) → run.current ≤ length run.states → state_for s run run.current ≡ state_at (cycle_frames s) run.states run.current
+state_adopted s run low = by run.current refl low
+  where
+    by : (k : ℕ) → run.current ≡ k → k ≤ length run.states → state_for s run k ≡ state_at (cycle_frames s) run.states k
+    by zero is low = ap (state_at (cycle_frames s) run.states) is
+    by (suc k) is low = state_pushed s run (suc k) (omega arith) low
+
 -- once a mixer has polled a number that was pushed, or 0, it counts as the state of that number
 pub polled_pushed : (s : Session) (run : Run) (k : ℕ) → k ≤ length run.states → state_for s (with_poll s k run) k ≡ state_at (cycle_frames s) run.states k
 unfolding with_poll
