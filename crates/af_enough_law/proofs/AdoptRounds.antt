@@ -1,6 +1,5 @@
 -- The round in which the fast mixer comes to have a proxy at the latest: the last state pushed before it plays the track, which stays lent. The proxy takes part in its meeting, and from there on it is carried as one that flows.
 use Rattle.std.proofs.Common.{◌≡◌, ◌⊎◌, inl, inr, ℕ, ◌≤◌, ◌<◌, ◌==◌, unwrap_or, is_some, if◌then◌else◌, Bool, true, false, true≢false, All, Option, Some, List, [], ◌++◌, length, length-append, refl, sym, ap, ◌∙◌, subst, arith, eqb-true}
-use Rattle.std.specs.Prelude.{max}
 use Rattle.af_base.specs.declared.report.SlotReport.{SlotReport}
 use Rattle.af_base.specs.declared.state.FastState.{FastState}
 use Rattle.af_base.specs.declared.state.FastTrack.{FastTrack}
@@ -16,7 +15,7 @@ use Rattle.af_model.specs.Journals.{RoundSeen}
 use Rattle.af_model.specs.Reports.{report_at}
 use Rattle.af_runs.specs.Blocks.{Marks, client_list, server_list}
 use Rattle.af_runs.specs.Rounds.{LegalRound, before_turn, after_turn, met_after, after_round}
-use Rattle.af_runs.specs.Runs.{Run, told_at, with_calls, with_cycles, report_of, takes_part, holds}
+use Rattle.af_runs.specs.Runs.{Run, told_at, with_calls, with_cycles, report_of, takes_part, holds, load_of}
 use Rattle.af_runs.specs.Sessions.{Session, track_count, setup_of, cycle_frames}
 use Rattle.af_enough_law.specs.Carried.{SessionCarried}
 use Rattle.af_enough_law.specs.Drafts.{is_busy}
@@ -212,7 +211,7 @@ module _ (s : Session) (marks : Marks) (scales : All (λ (x : Setting). x.scale 
         report : (slot_reported (learnt t.by.outside) g).generation ≡ g.generation → (slot_reported (learnt t.by.outside) g).shut ≡ false
         report e =
             let within = found_within s run round marks false t.turn legal c.stands.stored c.reports t.is goes c.stands.logged in
-            let m : ℕ = max (length (with_calls round run).entries) t.turn.cycle in
+            let m : ℕ = load_of (with_calls round run) t.turn in
             let number = ap number_of ((greeted_alike t.turn.ack run.normal.last (track_at run.normal.tracks i)).slot ∙ l.slot_is) in
             let found : SaysOpenOf item (report_at (report_of (with_cycles s round.entries (with_calls round run)).reports m).slots slot) =
             meets_open s marks run round i slot item legal meeting (λ k y above is. inl (pushed_plays k y above is)) turn_adds adopted_seen m within.0 within.1 in

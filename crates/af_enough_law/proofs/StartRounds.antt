@@ -1,6 +1,5 @@
 -- The rounds in which a proxy is lent and on its way: what the turns hear of it, and what they leave.
 use Rattle.std.proofs.Common.{◌≡◌, ℕ, ◌+◌, ◌≤◌, ◌<◌, unwrap_or, if◌then◌else◌, Bool, true, false, All, Option, length, refl, sym, ap, ◌∙◌, subst, arith}
-use Rattle.std.specs.Prelude.{max}
 use Rattle.af_base.specs.declared.report.SlotReport.{SlotReport}
 use Rattle.af_base.specs.declared.state.FastTrack.{FastTrack}
 use Rattle.af_base.specs.Log.{slots}
@@ -18,7 +17,7 @@ use Rattle.af_model.specs.Reports.{report_at}
 use Rattle.af_model.specs.StateQueue.{slot_of, carries}
 use Rattle.af_runs.specs.Blocks.{Marks, server_list}
 use Rattle.af_runs.specs.Rounds.{LegalRound, early_of, late_of, after_turn, met_after, after_round}
-use Rattle.af_runs.specs.Runs.{Run, told_at, with_calls, with_cycles, report_of}
+use Rattle.af_runs.specs.Runs.{Run, told_at, with_calls, with_cycles, report_of, load_of}
 use Rattle.af_runs.specs.Sessions.{Session, track_count, setup_of}
 use Rattle.af_enough_law.specs.Carried.{SessionStands}
 use Rattle.af_enough_law.specs.Courses.{none_shut}
@@ -194,7 +193,7 @@ module _ (s : Session) (marks : Marks) (scales : All (λ (x : Setting). x.scale 
           report : (slot_reported (learnt t.by.outside) g).generation ≡ g.generation → (slot_reported (learnt t.by.outside) g).shut ≡ false
           report e =
               let within = found_within s run round marks false t.turn legal c.stored reports t.is goes c.logged in
-              let m : ℕ = max (length (with_calls round run).entries) t.turn.cycle in
+              let m : ℕ = load_of (with_calls round run) t.turn in
               let number = ap number_of ((greeted_alike t.turn.ack run.normal.last (track_at run.normal.tracks i)).slot ∙ u.lending.slot_is) in
               let found : (report_at (report_of (with_cycles s round.entries (with_calls round run)).reports m).slots slot).generation + 1 ≤ item.generation =
               found_generation s run round slot u.lending.low (λ g. g + 1 ≤ item.generation) m u.fresh u.told within.0 within.1 in

@@ -1,6 +1,5 @@
 -- A round of a stopped track: its turn doesn't hear that its stream is shut, wherever its proxy is, and leaves the proxy in such a place. What isn't told by the history of this round is told by that of the next one.
 use Rattle.std.proofs.Common.{◌≡◌, ◌⊎◌, inl, inr, ℕ, ◌≤◌, ◌<◌, ◌==◌, unwrap_or, is_some, Bool, true, false, true≢false, All, Option, Some, ◌++◌, length, length-append, refl, sym, ap, ◌∙◌, subst, arith}
-use Rattle.std.specs.Prelude.{max}
 use Rattle.af_base.specs.declared.report.SlotReport.{SlotReport}
 use Rattle.af_base.specs.declared.state.FastState.{FastState}
 use Rattle.af_base.specs.declared.state.FastTrack.{FastTrack}
@@ -18,7 +17,7 @@ use Rattle.af_model.specs.Reports.{report_at}
 use Rattle.af_model.specs.StateQueue.{carries}
 use Rattle.af_runs.specs.Blocks.{Marks}
 use Rattle.af_runs.specs.Rounds.{LegalRound, met_after, after_round}
-use Rattle.af_runs.specs.Runs.{Run, told_at, with_calls, with_cycles, report_of, takes_part}
+use Rattle.af_runs.specs.Runs.{Run, told_at, with_calls, with_cycles, report_of, takes_part, load_of}
 use Rattle.af_runs.specs.Sessions.{Session, track_count, setup_of, cycle_frames}
 use Rattle.af_enough_law.specs.Acks.{KnowsAcked}
 use Rattle.af_enough_law.specs.Carried.{SessionCarried}
@@ -189,7 +188,7 @@ module _ (s : Session) (marks : Marks) (scales : All (λ (x : Setting). x.scale 
       report : slot_reported (learnt t.by.outside) g ≡ slot_told run slot
       report =
           let within = found_within s run round marks false t.turn legal c.stands.stored c.reports t.is runs c.stands.logged in
-          let m : ℕ = max (length (with_calls round run).entries) t.turn.cycle in
+          let m : ℕ = load_of (with_calls round run) t.turn in
           ap (λ (k : Learnt). slot_reported k g) t.sees
           ∙ ap (λ (j : ℕ). report_at (report_of (with_cycles s round.entries (with_calls round run)).reports m).slots j) number_g ∙ kept.found m within.0 within.1
 
@@ -263,7 +262,7 @@ module _ (s : Session) (marks : Marks) (scales : All (λ (x : Setting). x.scale 
       report_open : Foreseen (told_at after i).stream → SaysOpen (slot_reported (learnt t.by.outside) g) item
       report_open seen =
           let within = found_within s run round marks false t.turn legal c.stands.stored c.reports t.is runs c.stands.logged in
-          let m : ℕ = max (length (with_calls round run).entries) t.turn.cycle in
+          let m : ℕ = load_of (with_calls round run) t.turn in
           subst (λ (r : SlotReport). SaysOpen r item)
           (ap (λ (j : ℕ). report_at (report_of (with_cycles s round.entries (with_calls round run)).reports m).slots j) (sym number_g) ∙ ap (λ (k : Learnt). slot_reported k g) (sym t.sees))
           ((open_by seen).found m within.0 within.1)

@@ -22,9 +22,18 @@ state_beyond [] (suc k) far = refl
 state_beyond (x ∷ xs) (suc zero) far = absurd (let z : ⊥ = omega (arith, far) in z)
 state_beyond (x ∷ xs) (suc (suc k)) far = state_beyond xs (suc k) (omega (arith, far))
 
+-- only a number from 1 on has a state
+pub known_some : (xs : List FastState) (k : ℕ) (x : FastState) → state_of xs k ≡ Some x → 1 ≤ k
+known_some xs zero x is = absurd (true≢false (ap is_some (sym is)))
+known_some xs (suc k) x is = omega arith
+
 any_default : (o : Option FastState) (x y : FastState) → is_some o ≡ true → unwrap_or o x ≡ unwrap_or o y
 any_default (Some z) x y some = refl
 any_default None x y some = absurd (true≢false (sym some))
+
+same_second : (b : Bool) (x y z : FastState) → b ≡ false → (if b then x else z) ≡ (if b then y else z)
+same_second true x y z off = absurd (true≢false off)
+same_second false x y z off = refl
 
 second_of : (o : Option FastState) (b : Bool) (x y : FastState) → o ≡ None → b ≡ false → unwrap_or o (if b then x else y) ≡ y
 second_of o b x y none off = ap (λ (p : Option FastState). unwrap_or p (if b then x else y)) none ∙ ap (λ (c : Bool). if c then x else y) off
@@ -54,6 +63,16 @@ pub polled_pushed : (s : Session) (run : Run) (k : ℕ) → k ≤ length run.sta
 unfolding with_poll
 polled_pushed s run zero low = ap (λ (b : Bool). state_at (cycle_frames s) run.states (if b then 0 else run.current)) (le-leb 0 (length run.states) low)
 polled_pushed s run (suc k) low = any_default (state_of run.states (suc k)) _ (initial (cycle_frames s)) (state_there run.states (suc k) (omega arith) low)
+
+-- a number of a state counts as that state
+pub polled_known : (s : Session) (run : Run) (k : ℕ) (x : FastState) → state_of run.states k ≡ Some x → state_for s (with_poll s k run) k ≡ x
+unfolding with_poll
+polled_known s run k x is = state_known s (with_poll s k run) k x is
+
+-- another number than 0 counts as before, whatever was polled
+pub polled_other : (s : Session) (run : Run) (k j : ℕ) → 1 ≤ j → state_for s (with_poll s k run) j ≡ state_for s run j
+unfolding with_poll
+polled_other s run k j some = ap (λ (x : FastState). unwrap_or (state_of run.states j) x) (same_second (j == 0) _ _ run.normal.draft (ne_eqb j 0 (λ e. omega (arith, e, some))))
 
 -- and one that wasn't pushed as the draft
 pub polled_waits : (s : Session) (run : Run) (k : ℕ) → length run.states < k → state_for s (with_poll s k run) k ≡ run.normal.draft
