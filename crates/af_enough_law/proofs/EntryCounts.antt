@@ -76,9 +76,8 @@ module _ (s : Session) (run : Run) (round : RoundSeen) where
       let found = cycles_reports s round.entries (with_calls round run) in
       let calls = ap length (calls_same round run).reports in
       let logged = ap length (calls_same round run).entries in
-      let most : ℕ = min (max (length (with_calls round run).entries) e.cycle) (length (with_calls round run).entries + 16) in
-      let first : length run.reports ≤ most = omega (arith, low, logged, same) in
-      let last : most ≤ length (with_cycles s round.entries (with_calls round run)).reports = omega (arith, low, high, after, found, calls, logged, same) in
+      let first : length run.reports ≤ min (max (length (with_calls round run).entries) e.cycle) (length (with_calls round run).entries + 16) = omega (arith, low, logged, same) in
+      let last : min (max (length (with_calls round run).entries) e.cycle) (length (with_calls round run).entries + 16) ≤ length (with_cycles s round.entries (with_calls round run)).reports = omega (arith, low, high, after, found, calls, logged, same) in
       (first, last)
 
 -- ## The state adopted

@@ -27,7 +27,6 @@ use Rattle.af_enough_law.proofs.CommandsGo.{OpenTurn}
 use Rattle.af_enough_law.proofs.Drafts.{holder_turned}
 use Rattle.af_enough_law.proofs.Ends.{silent}
 use Rattle.af_enough_law.proofs.EntryCounts.{found_within}
-use Rattle.af_enough_law.proofs.FastFound.{state_none}
 use Rattle.af_enough_law.proofs.FastRounds.{ends_part}
 use Rattle.af_enough_law.proofs.Following.{greeted_in, greeted_alike}
 use Rattle.af_enough_law.proofs.Foreseen.{Foreseen, KeepsTo, keeps_to, part_seen}
@@ -36,7 +35,7 @@ use Rattle.af_enough_law.proofs.HomeRounds.{keeps_of}
 use Rattle.af_enough_law.proofs.LastStates.{round_last}
 use Rattle.af_enough_law.proofs.LeftEntries.{IsOut, SaysOpen}
 use Rattle.af_enough_law.proofs.LeftFound.{Flowing, FoundOpen, found_open}
-use Rattle.af_enough_law.proofs.LentRounds.{LentCarried, heard_away, heard_opened, state_last}
+use Rattle.af_enough_law.proofs.LentRounds.{LentCarried, heard_away, heard_opened, state_last, draft_item}
 use Rattle.af_enough_law.proofs.LentTurns.{turn_leaves}
 use Rattle.af_enough_law.proofs.Lookahead.{Coming, missed, greeted_coming, home_then, seen_before, ended_then}
 use Rattle.af_enough_law.proofs.Orders.{lent_carried}
@@ -46,6 +45,7 @@ use Rattle.af_enough_law.proofs.SessionRounds.{turn_of, turn_runs, push_of, stat
 use Rattle.af_enough_law.proofs.Slots.{slot_stays}
 use Rattle.af_enough_law.proofs.TrackCarried.{TrackCarried}
 use Rattle.af_enough_law.proofs.TurnLives.{shut_turned}
+use Rattle.af_runs.proofs.StatesFor.{state_beyond}
 
 -- not all is over while a proxy is away
 pub some_away : (tracks : List TrackKept) (i : ℕ) → i < length tracks → is_home (track_at tracks i).holder ≡ false → is_over tracks ≡ false
@@ -139,10 +139,9 @@ module _ (s : Session) (marks : Marks) (scales : All (λ (x : Setting). x.scale 
     states = l.some;
     last = state_last run.states (cycle_frames s) run.normal.last l.some c.stands.last;
     plays = l.last;
-    used = l.used;
+    draft = inl (draft_item s run i slot item c.stands.order c.stands.items l.lent l.slot_is l.item_is);
     told = l.told;
     quiet = track.calm.stream;
-    current = c.stands.queue.current;
     going = c.stands.going;
     knows = c.states;
   }
@@ -169,7 +168,7 @@ module _ (s : Session) (marks : Marks) (scales : All (λ (x : Setting). x.scale 
       by_push false pushed more = subst (IsOut slot i) (sym (made.done pushed).1) out_then
 
       by : (m ≤ length after.states) ⊎ (length after.states < m) → IsOut slot i y
-      by (inr far) = absurd (true≢false (sym (ap is_some is) ∙ ap is_some (state_none after.states m far)))
+      by (inr far) = absurd (true≢false (sym (ap is_some is) ∙ ap is_some (state_beyond after.states m far)))
       by (inl high) =
           let count = states_few s marks scales long run round legal c.stands in
           let at : m ≡ length after.states = omega (arith, above, high, count) in

@@ -35,7 +35,6 @@ use Rattle.af_enough_law.specs.Items.{AreItems, item_of}
 use Rattle.af_enough_law.specs.NormalRounds.{TurnMade}
 use Rattle.af_enough_law.proofs.Commanding.{le_cases}
 use Rattle.af_enough_law.proofs.Ends.{order_turn}
-use Rattle.af_enough_law.proofs.FastFound.{state_none}
 use Rattle.af_enough_law.proofs.FastMixes.{state_more}
 use Rattle.af_enough_law.proofs.FastPolls.{round_states, turn_more}
 use Rattle.af_enough_law.proofs.Generations.{attached_stays, lent_plays}
@@ -47,6 +46,7 @@ use Rattle.af_enough_law.proofs.SessionRounds.{turn_of, turn_runs, push_of, stat
 use Rattle.af_enough_law.proofs.Slots.{IsOpened, slot_stays}
 use Rattle.af_enough_law.proofs.TrackCarried.{TrackCarried}
 use Rattle.af_enough_law.proofs.TrackGoes.{CalmStream}
+use Rattle.af_runs.proofs.StatesFor.{state_beyond}
 
 -- ## The draft
 
@@ -235,7 +235,7 @@ module _ (s : Session) (marks : Marks) (scales : All (λ (x : Setting). x.scale 
         where
           by_place : (k ≤ length after.states) ⊎ (length after.states < k) → k ≤ length after.states
           by_place (inl low) = low
-          by_place (inr far) = absurd (true≢false (sym (ap is_some is) ∙ ap is_some (state_none after.states k far)))
+          by_place (inr far) = absurd (true≢false (sym (ap is_some is) ∙ ap is_some (state_beyond after.states k far)))
 
       by : (k : ℕ) (x : FastState) → state_of after.states k ≡ Some x → (k ≡ length run.states) ⊎ (length run.states < k) → k ≤ length after.states → Plays slot item x
       by k x is (inl same) high =
