@@ -197,7 +197,8 @@ fn sound_of(alloc: Global, (_, length, before, bytes): Session<'_>) -> Result<Ve
     let mut sound = Vec::new(alloc);
     add(&mut sound, "\0", before)?;
     sound.extend_from_slice(&numbered(alloc, length)?)?;
-    for _ in before + length..bytes {
+    let made = sound.len();
+    for _ in made..bytes {
         sound.push(0)?;
     }
     Ok(sound)
