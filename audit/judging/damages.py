@@ -45,7 +45,40 @@ channels = 2
 file = "low"
 ops = ["open", "start", "write 2", "poke command 0 300", "yield"]
 """
+LATE = """version = 1
+frames = 2
+normal = 1
+cycles = 300
+[[track]]
+kind = "fast"
+frames = 4
+channels = 2
+file = "empty"
+ops = ["open", "start"]
+[[track]]
+kind = "fast"
+frames = 4
+channels = 2
+file = "high"
+ops = ["open", "yield", "start", "write 1", "stop", "drain"]
+"""
 FILES = {"empty": [], "low": [100 + 2 * at | (101 + 2 * at) << 16 for at in range(6)], "high": [1000 + 2 * at | (1001 + 2 * at) << 16 for at in range(10)]}
+
+# A journal of LATE that no order of a play makes. In round 1 track 1 was attached to slot 2, and that push was Busy. In round 2 the normal
+# mixer's turn pushes state 2, and loads the report of the entries behind it: only the draft tells that their slot 2 is that of track 1.
+LATE_JOURNAL = "\n".join(
+    ["R\nC 0\ns 0 1 0\ns 0 2 0\nt 0\nC 1\ns 0 1 0\nN 8 1 1\nq 0 0 4 f 2\nh 0000000100000000\nq 0 0 4 f 2\nh 0000000200000000\nq 0 0 4 e\na 0 514"]
+    + ["q 1 0 2 f 2\nh 0000000100000000\nq 1 0 2 e\na 1 257\nP 1 1\nF\ny 0 1\nR\nC 0\nt 514\ns 4 6 0\nC 1\ns 2 2 0\nt 257\nN 8 0 1"]
+    + ["q 0 0 6 f 2\nh 0000000600000000\nq 0 0 6 e\na 0 770\nq 1 0 4 f 2\nh 0000000200000000\nq 1 0 4 e\na 1 514\nP 2 0 1\nF"]
+    + ["y 1 0\nz 0 4096 0 268439552 0 0 e\nz 1 4096 0 268439552 0 0 e"] * 16
+    + ["R\nC 1\nt 514\np 0 1\nk 0\ns 4 4 1\nt 514\nN 8 1 33\nq 1 0 6 f 2\nh 0000000400000001\nq 1 0 6 e\na 1 791\nP 1 2\nF"]
+    + ["y 2 0\nz 0 4096 0 268439552 0 0 e\nz 2 4096 0 268439552 0 1 f 1\nh 03e903e8"]
+    + ["y 2 0\nz 0 4096 0 268439552 0 0 e\nz 2 4096 0 268439552 0 1 e"] * 15
+    + ["R\nC 1\nt 791\nN 8 1 33\nq 1 0 6 e\na 1 792\nP 1 3\nF\ny 3 2\nR\nC 1\nt 792\ns 6 6 0\nN 8 1 34\nq 1 0 8 f 2"]
+    + ["h 0000000600000000\nq 1 0 8 e\na 1 1048\nP 1 4\nF\ny 4 3\nR\nE"]
+)
+LATE_SOUND = bytes(128) + bytes.fromhex("e803e903") + bytes(124)
+
 TRACK_1 = "4096 0 268439552"   # scale, mark and gains of slot 1
 
 # Each damage: its session, the line that is changed (by its number) and what stands there, what stands there after (None
@@ -150,4 +183,11 @@ DAMAGES = [
     (POKED, 106, f"z 1 {TRACK_1} 0 5 x 0 5", f"z 1 {TRACK_1} 0 5 x 0 6", "round 1 party 3"),
     (POKED, 106, f"z 1 {TRACK_1} 0 5 x 0 5", f"z 1 {TRACK_1} 0 4 f 2\nh 0000000000000000", "legal"),  # after the poke any words may be seen
     (POKED, 109, f"z 1 {TRACK_1} 0 5 x 0 5", f"z 1 {TRACK_1} 1 5 x 0 5", "round 1 party 3"),
+    (LATE, 95, "N 8 1 33", "N 8 1 33", "legal"),
+    (LATE, 95, "N 8 1 33", "N 8 1 18", "legal"),          # the first of those entries took the frame
+    (LATE, 95, "N 8 1 33", "N 8 1 17", "round 2 party 2"),
+    (LATE, 95, "N 8 1 33", "N 8 1 34", "round 2 party 2"),
+    (LATE, 99, "a 1 791", "a 1 774", "round 2 party 2"),  # the turn hears of the frame, by its draft
+    (LATE, 99, "a 1 791", "a 1 775", "round 2 party 2"),
+    (LATE, 95, "N 8 1 33\nq 1 0 6 f 2\nh 0000000400000001\nq 1 0 6 e\na 1 791", "N 8 1 17\nq 1 0 6 f 2\nh 0000000400000001\nq 1 0 6 e\na 1 774", "round 3 party 1"),  # then the client reads a word that was never stored
 ]

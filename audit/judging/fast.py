@@ -2,6 +2,8 @@
 from .normal import NO_REPORT, NO_STATE, kind_of_look, raised
 from .text import COLD, EXIT, IDLE, MIXED
 
+CYCLES = 16                    # the most cycles of a turn
+
 
 class Fast:
     """The fast mixer, over the tracks and the states of the normal mixer."""
@@ -16,9 +18,11 @@ class Fast:
         self.reports = []        # those of this round
 
     def state(self, number):
-        """The state of a number: the one adopted last, where it isn't pushed yet."""
+        """The state of a number: number 0 counts as the one adopted last, and one that isn't pushed yet as the draft."""
         pushed = self.normal.pushed
-        number = number if number <= len(pushed) else self.current
+        if number > len(pushed):
+            return self.normal.draft()
+        number = number or self.current
         return pushed[number - 1] if number else NO_STATE
 
     def holds(self, track):
@@ -70,8 +74,9 @@ class Fast:
         return right
 
     def report_of(self, cycle, later):
-        """The report that a turn loaded, where these entries are still to come in its round."""
+        """The report that a turn loaded, where these entries are still to come in its round. None comes behind the first 16."""
         before = self.entries - len(self.reports)
+        cycle = min(cycle, before + CYCLES)
         if cycle <= before:
             return self.before
         if cycle <= self.entries:
@@ -79,7 +84,7 @@ class Fast:
         return self.report_ahead(later[:cycle - self.entries])
 
     def report_ahead(self, entries):
-        """The report after further entries. One of a state that isn't pushed yet counts by the slots that it shows."""
+        """The report after further entries. One of a state that isn't pushed yet counts by the slots of the draft that it shows."""
         report, servers = self.report, {}
 
         def server(track):

@@ -137,6 +137,10 @@ class Normal:
         """The state pushed last."""
         return self.pushed[-1] if self.pushed else NO_STATE
 
+    def draft(self):
+        """The state that it would push now."""
+        return State(dict(self.slots), self.command, self.cold)
+
     def turn(self, turn, report):
         """Tells a turn that loaded a report, and answers whether it is legal."""
         self.handed = True
@@ -262,7 +266,7 @@ class Normal:
         if push[0] == 2:
             return self.dirty and number > 0 and push[1:] == (word_of(number - 1), word_of(number))
         right = self.dirty and push[1] == number + 1
-        self.pushed.append(State(dict(self.slots), self.command, self.cold))
+        self.pushed.append(self.draft())
         self.dirty = False
         return right
 

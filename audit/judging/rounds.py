@@ -3,12 +3,11 @@ import struct
 
 from .blocks import Block, shape_of
 from .clients import Client
-from .fast import Fast
+from .fast import CYCLES, Fast
 from .normal import Normal, Track, word_of
 from .shared import Pipe, Queue
 from .text import MIXED
 
-CYCLES = 16                    # the most cycles of a fast turn
 UNITY = 0x1000
 
 
@@ -133,7 +132,8 @@ class Run:
 
     def shared_histories(self, told):
         """The queue, the report and the pipe have histories."""
-        report = told.turn is None or told.turn.ended or 0 <= self.fast.entries - told.turn.cycle <= len(told.entries)
+        first = self.fast.entries - len(told.entries)
+        report = told.turn is None or told.turn.ended or first <= told.turn.cycle <= min(self.fast.entries, first + CYCLES)
         return self.queue.meet() and self.pipe.meet() and report
 
     def meetings(self):

@@ -11,8 +11,8 @@ use Rattle.af_base.specs.declared.report.SlotReport.{SlotReport}
 use Rattle.af_base.specs.declared.state.FastState.{FastState}
 use Rattle.af_base.specs.declared.state.FastTrack.{FastTrack}
 use Rattle.af_base.specs.Log.{slots, entry_slot}
+use Rattle.af_life.specs.Kept.{NormalKept}
 use Rattle.af_model.specs.Cycles.{state_of, last_used}
-use Rattle.af_model.specs.Draft.{initial}
 use Rattle.af_model.specs.Journals.{EntrySeen}
 use Rattle.af_model.specs.Reports.{no_slot, counted_look, slot_report, no_report, report_at}
 use Rattle.af_model.specs.StateQueue.{slot_of, carries}
@@ -20,6 +20,7 @@ use Rattle.af_runs.specs.Blocks.{listed}
 use Rattle.af_runs.specs.Runs.{Run, state_for, plays, stream_of, known_of, next_slot, next_report, last_report, report_of, with_poll, with_looks, with_mix, with_cycle, with_cycles}
 use Rattle.af_runs.specs.Sessions.{Session, cycle_frames}
 use Rattle.af_runs.specs.Told.{state_at}
+use Rattle.af_runs.proofs.StatesFor.{state_among}
 use Rattle.af_judge.proofs.EntryTold.{cycle_beside}
 use Rattle.af_audit.proofs.Older.{IsOlder}
 use Rattle.af_audit.proofs.Growing.{grows_cycle, run_told}
@@ -45,13 +46,6 @@ weaker_all P Q (x ∷ xs) f all = (f x all.0, weaker_all P Q xs f all.1)
 -- no state pushed is newer than the draft
 abbrev pub AllOlder : Session → Run → FastState → Type 0
 AllOlder s run draft = (k : ℕ) → IsOlder (state_at (cycle_frames s) run.states k) draft
-
-for_older : (s : Session) (run : Run) (draft : FastState) (k : ℕ) → AllOlder s run draft → IsOlder (state_for s run k) draft
-for_older s run draft k older = by_state (state_of run.states k) refl
-  where
-    by_state : (o : Option FastState) → state_of run.states k ≡ o → IsOlder (unwrap_or o (state_at (cycle_frames s) run.states run.current)) draft
-    by_state None is = older run.current
-    by_state (Some x) is = subst (λ (o : Option FastState). IsOlder (unwrap_or o (initial (cycle_frames s))) draft) is (older k)
 
 either_slot : (P : SlotReport → Type 0) (b : Bool) (r t : SlotReport) → (b ≡ true → P r) → P t → P (if b then r else t)
 either_slot P true r t h g = h refl
@@ -108,35 +102,37 @@ module _ (measure : Measure) where
   -- ## An entry
 
   module _ (s : Session) (draft : FastState) where
-    next_bounded : (now : Run) (entry : CycleEntry) (before : List SlotReport) (i : ℕ) → AllOlder s now draft → SlotBounded draft (of_run measure now) i (report_at before i) → SlotBounded draft (of_run measure now) i (next_slot s now entry before i)
-    next_bounded now entry before i older h =
+    next_bounded : (now : Run) (entry : CycleEntry) (before : List SlotReport) (i : ℕ) → AllOlder s now draft → IsOlder now.normal.draft draft → SlotBounded draft (of_run measure now) i (report_at before i) → SlotBounded draft (of_run measure now) i (next_slot s now entry before i)
+    next_bounded now entry before i older own h =
         let x : FastState = state_for s now entry.state in
         let y : FastState = state_for s now (last_used now.entries) in
         let P = SlotBounded draft (of_run measure now) i in
-        let o : IsOlder x draft = for_older s now draft entry.state older in
+        let o : IsOlder x draft = state_among s (λ (z : FastState). IsOlder z draft) now entry.state older own in
         let look : SlotReport = counted_look (cycle_frames s) (slot_of x i).generation (entry_slot entry i).seen (known_of (listed (stream_of now x i))) (if carries y i then report_at before i else no_slot) in
         either_slot P (is_some (state_of now.states entry.state) || plays x entry i) (slot_report (cycle_frames s) (Some x) (Some y) entry (known_of (listed (stream_of now x i))) i (report_at before i)) (report_at before i)
         (λ b. either_slot P (carries x i) look (report_at before i)
         (λ carried. (o.low i, λ e. subst (λ (n : ℕ). measure.of_report look ≤ of_run measure now n) (ap (λ (t : FastTrack). t.track) (o.same i e)) (measure.reported (cycle_frames s) (slot_of x i).generation (entry_slot entry i).seen (listed (stream_of now x i)) (if carries y i then report_at before i else no_slot)))) h) h
 
-    report_next : (now : Run) (entry : CycleEntry) → AllOlder s now draft → IsBounded measure draft (of_run measure now) (last_report now.reports) → IsBounded measure draft (of_run measure now) (next_report s now entry)
-    report_next now entry older h = by_slots draft (of_run measure now) (next_report s now entry) each
+    report_next : (now : Run) (entry : CycleEntry) → AllOlder s now draft → IsOlder now.normal.draft draft → IsBounded measure draft (of_run measure now) (last_report now.reports) → IsBounded measure draft (of_run measure now) (next_report s now entry)
+    report_next now entry older own h = by_slots draft (of_run measure now) (next_report s now entry) each
       where
         each : (i : ℕ) → SlotBounded draft (of_run measure now) i (report_at (next_report s now entry).slots i)
         each i = elim (cases_lt i slots) as (λ x. SlotBounded draft (of_run measure now) i (report_at (next_report s now entry).slots i)) [
-          | inl low ↦ subst (SlotBounded draft (of_run measure now) i) (sym (get_or-map-range_with_len (next_slot s now entry (last_report now.reports).slots) 0 slots i i no_slot low (omega arith))) (next_bounded now entry (last_report now.reports).slots i older (h.low i, h.within i))
+          | inl low ↦ subst (SlotBounded draft (of_run measure now) i) (sym (get_or-map-range_with_len (next_slot s now entry (last_report now.reports).slots) 0 slots i i no_slot low (omega arith))) (next_bounded now entry (last_report now.reports).slots i older own (h.low i, h.within i))
           | inr high ↦ none_bounded draft (of_run measure now) i (report_at (next_report s now entry).slots i) (get_or_past (next_report s now entry).slots i no_slot (let m = length-map-range_with_len (next_slot s now entry (last_report now.reports).slots) 0 slots in omega (arith, m, high)))
         ]
 
-    pub bounded_cycle : (e : EntrySeen) (run : Run) → AllOlder s run draft → AreBounded draft run → AreBounded draft (with_cycle s run e)
+    pub bounded_cycle : (e : EntrySeen) (run : Run) → AllOlder s run draft → IsOlder run.normal.draft draft → AreBounded draft run → AreBounded draft (with_cycle s run e)
     unfolding with_mix with_poll
-    bounded_cycle e run older all =
+    bounded_cycle e run older own all =
         let now : Run = with_looks s e (with_poll s e.entry.state run) in
         let grown : AllByRecursion (IsBounded measure draft (of_run measure now)) run.reports = weaker_all (IsBounded measure draft (of_run measure run)) (IsBounded measure draft (of_run measure now)) run.reports
         (λ r. bounded_more draft draft (of_run measure run) (of_run measure now) r (record { low = λ i. omega arith; same = λ i g. refl }) (run_told measure run (with_cycle s run e) (grows_cycle s e run))) all in
         more_all (IsBounded measure draft (of_run measure now)) run.reports (next_report s now e.entry) grown
-        (report_next now e.entry older (last_all (IsBounded measure draft (of_run measure now)) run.reports no_report grown (no_bounded draft (of_run measure now))))
+        (report_next now e.entry older own (last_all (IsBounded measure draft (of_run measure now)) run.reports no_report grown (no_bounded draft (of_run measure now))))
 
-    pub bounded_cycles : (es : List EntrySeen) (run : Run) → AllOlder s run draft → AreBounded draft run → AreBounded draft (with_cycles s es run)
-    bounded_cycles [] run older all = all
-    bounded_cycles (e ∷ es) run older all = bounded_cycles es (with_cycle s run e) (subst (λ (xs : List FastState). (k : ℕ) → IsOlder (state_at (cycle_frames s) xs k) draft) (sym (cycle_beside s run e).states) older) (bounded_cycle e run older all)
+    pub bounded_cycles : (es : List EntrySeen) (run : Run) → AllOlder s run draft → IsOlder run.normal.draft draft → AreBounded draft run → AreBounded draft (with_cycles s es run)
+    bounded_cycles [] run older own all = all
+    bounded_cycles (e ∷ es) run older own all =
+        let b = cycle_beside s run e in
+        bounded_cycles es (with_cycle s run e) (subst (λ (xs : List FastState). (k : ℕ) → IsOlder (state_at (cycle_frames s) xs k) draft) (sym b.states) older) (subst (λ (m : NormalKept). IsOlder m.draft draft) (sym b.normal) own) (bounded_cycle e run older own all)

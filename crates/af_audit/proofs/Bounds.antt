@@ -49,7 +49,7 @@ module _ (measure : Measure) where
     pub bounds_cycles : (es : List EntrySeen) (run : Run) → RunBounds s run → RunBounds s (with_cycles s es run)
     bounds_cycles es run h = let b = cycles_beside s es run in let after : Run = with_cycles s es run in record {
       older = subst (λ (p : NormalKept × List FastState). (k : ℕ) → IsOlder (state_at (cycle_frames s) p.1 k) p.0.draft) (λ i. (sym b.normal i, sym b.states i)) h.older;
-      bounded = subst (λ (m : NormalKept). AreBounded measure m.draft after) (sym b.normal) (bounded_cycles measure s run.normal.draft es run h.older h.bounded);
+      bounded = subst (λ (m : NormalKept). AreBounded measure m.draft after) (sym b.normal) (bounded_cycles measure s run.normal.draft es run h.older (older_self run.normal.draft) h.bounded);
       attached = subst (λ (m : NormalKept). AreAttached measure (of_run measure after) m.tracks) (sym b.normal) (attached_more measure (of_run measure run) (of_run measure after) run.normal.tracks (run_told measure run after (grows_cycles s es run)) h.attached);
     }
 

@@ -19,62 +19,25 @@ use Rattle.af_runs.specs.Blocks.{Marks, listed}
 use Rattle.af_runs.specs.Clients.{ends}
 use Rattle.af_runs.specs.Found.{TurnFound, outside_of}
 use Rattle.af_runs.specs.Rounds.{LegalEntries, LegalRound, after_round, after_turn, all_played, before_turn, early_of, found_in, late_of, loaded, met_after, turned}
-use Rattle.af_runs.specs.Runs.{Run, each_track, fast_ended, met, new_run, pushed_by, told_at, with_calls, with_cycle, with_cycles, with_ends, with_load, with_mix, with_poll, with_turn}
+use Rattle.af_runs.specs.Runs.{Run, load_of, each_track, fast_ended, met, new_run, pushed_by, told_at, with_calls, with_cycle, with_cycles, with_ends, with_load, with_mix, with_poll, with_turn}
 use Rattle.af_runs.specs.Sessions.{Session, setup_of, track_count}
 use Rattle.af_script.specs.Form.{IsScript}
 use Rattle.af_judge.proofs.EntriesFollow.{cycles_beside}
 use Rattle.af_judge.proofs.SoundSlots.{sound_served}
 use Rattle.af_judge.proofs.SoundTurns.{sound_acked}
-use Rattle.af_judge.proofs.StatesRuns.{calls_same as beside_calls, RunKept, kept_new, kept_after_turn, kept_round}
+use Rattle.af_judge.proofs.StatesKept.{drafts_same}
+use Rattle.af_judge.proofs.StatesRuns.{calls_same as beside_calls, RunKept, kept_new, kept_after_turn, kept_before, kept_round, scales_of}
 use Rattle.af_audit.proofs.FatesTold.{new_there}
 use Rattle.af_audit.proofs.Attached.{attached_then}
 use Rattle.af_audit.proofs.Bounded.{report_bounded}
 use Rattle.af_audit.proofs.Bounds.{RunBounds, bounds_calls, bounds_cycles, bounds_new, bounds_round}
-use Rattle.af_audit.proofs.FastCurrent.{IsCurrent, calls_same, current_same, cycles_are, legal_parts, round_current}
+use Rattle.af_audit.proofs.EntryParts.{legal_parts}
 use Rattle.af_audit.proofs.Growing.{RunGrows, run_both, run_told, grows_calls, grows_cycles, grows_turned, grows_loaded, grows_met, grows_ends}
 use Rattle.af_audit.proofs.LateRound.{untold, untold_is, first_late, all_late}
 use Rattle.af_audit.proofs.LateRuns.{FirstLate}
 use Rattle.af_audit.proofs.Measure.{Measure, of_run}
 use Rattle.af_audit.proofs.Quiet.{stream_quiet}
 use Rattle.af_audit.proofs.MixerTurns.{before_normal, turn_legal}
-
--- ## Numbers of the state adopted last
-
-adopted_low : (b : Bool) (k c n : ℕ) → nat_le k n ≡ b → c ≤ n → (if b then k else c) ≤ n
-adopted_low true k c n is h = grind (arith, nat_tests, is)
-adopted_low false k c n is h = h
-
-cycle_within : (s : Session) (e : EntrySeen) (run : Run) → run.current ≤ length run.states → (with_cycle s run e).current ≤ length (with_cycle s run e).states
-unfolding with_poll with_mix
-cycle_within s e run h = adopted_low (nat_le e.entry.state (length run.states)) e.entry.state run.current (length run.states) refl h
-
-cycles_within : (s : Session) (es : List EntrySeen) (run : Run) → run.current ≤ length run.states → (with_cycles s es run).current ≤ length (with_cycles s es run).states
-cycles_within s [] run h = h
-cycles_within s (e ∷ es) run h = cycles_within s es (with_cycle s run e) (cycle_within s e run h)
-
-called_within : (round : RoundSeen) (run : Run) → run.current ≤ length run.states → (with_calls round run).current ≤ length (with_calls round run).states
-unfolding with_calls
-called_within round run h = h
-
-turned_within : (s : Session) (found : Turn → TurnFound) (o : Option Turn) (run : Run) → run.current ≤ length run.states → (turned s found o run).current ≤ length (turned s found o run).states
-unfolding with_turn
-turned_within s found None run h = h
-turned_within s found (Some e) run h = let more = length-append run.states (pushed_by (setup_of s) (outside_of (setup_of s) (found e) e) run.normal e) in omega (arith, more, h)
-
-rest_within : (s : Session) (run : Run) (round : RoundSeen) → (with_cycles s (late_of run round) (after_turn s run round)).current ≤ length (with_cycles s (late_of run round) (after_turn s run round)).states → (after_round s run round).current ≤ length (after_round s run round).states
-unfolding with_load met with_ends
-rest_within s run round h = by (met_after s run round).normal.ended (by_load round.turn)
-  where
-    by_load : (o : Option Turn) → (met s (loaded o (with_cycles s (late_of run round) (after_turn s run round)))).current ≤ length (met s (loaded o (with_cycles s (late_of run round) (after_turn s run round)))).states
-    by_load None = h
-    by_load (Some e) = h
-
-    by : (b : Bool) → (met_after s run round).current ≤ length (met_after s run round).states → (let r : Run = if b then each_track (λ track t. record t { client = ends t.client }) (met_after s run round) else met_after s run round in r.current ≤ length r.states)
-    by true l = l
-    by false l = l
-
-round_within : (s : Session) (run : Run) (round : RoundSeen) → run.current ≤ length run.states → (after_round s run round).current ≤ length (after_round s run round).states
-round_within s run round h = rest_within s run round (cycles_within s (late_of run round) (after_turn s run round) (turned_within s (found_in s run round) round.turn (before_turn s run round) (cycles_within s (early_of run round) (with_calls round run) (called_within round run h))))
 
 -- ## A round
 
@@ -115,8 +78,6 @@ module _ (measure : Measure) where
     pub low : n < length run.tracks
     pub kept_so : RunKept s run
     pub bounds : RunBounds measure s run
-    pub current : IsCurrent run
-    pub within : run.current ≤ length run.states
 
   module _ (s : Session) (form : IsScript s.script) (marks : Marks) (run : Run) (round : RoundSeen) (tracks n : ℕ) (is_round : IsRound tracks round) (legal : LegalRound false s marks run round) (h : TellsSo s n run) where
     abbrev c : Setup
@@ -149,10 +110,10 @@ module _ (measure : Measure) where
           let quiet = subst (λ (m : NormalKept). stream_list c (outside_of c f e) e (tracks_at c k m e n) n ≡ []) (sym same) (stream_quiet c n run.normal e h.kept_so.carried.sound by.outside (outside_of c f e) by.legal (ap learnt by.found) away) in
           let there : n < length before.tracks = (let m = (before_grows s run round).many in let l = h.low in omega (arith, m, l)) in
           let so = subst (RunKept s) turn_is (kept_after_turn s form tracks run round is_round.turn h.kept_so) in
-          let now : IsCurrent before = cycles_are s marks (early_of run round) (with_calls round run) parts.0 (current_same run (with_calls round run) (calls_same round run) h.current) in
+          let stays = drafts_same s (scales_of s form) k before.normal before.states (kept_before s form run round h.kept_so) e in
           let called : (with_calls round run).states ≡ run.states = (beside_calls round run).states in
           let states : before.states ≡ run.states = (cycles_beside s (early_of run round) (with_calls round run)).states ∙ called in
-          let late = all_late measure s marks before f e n there quiet now (cycles_within s (early_of run round) (with_calls round run) (called_within round run h.within)) so.follow so.apart (late_of run round)
+          let late = all_late measure s marks before f e n there quiet stays so.apart (late_of run round)
           (subst (λ (xs : List FastState). FirstLate (length xs) (late_of run round)) (sym states) (first_late run round.entries))
           (subst (λ (r : Run). LegalEntries s marks r (late_of run round)) turn_is parts.1) in
           let to_end = run_told measure (with_cycles s (late_of run round) (after_turn s run round)) played (played_grows s run round) n in
@@ -172,7 +133,7 @@ module _ (measure : Measure) where
           let far : Run = untold s run round in
           let b = bounds_cycles measure s round.entries (with_calls round run) (bounds_calls measure s round run h.bounds) in
           let normal : far.normal ≡ run.normal = (cycles_beside s round.entries (with_calls round run)).normal ∙ (beside_calls round run).normal in
-          let told = report_bounded measure far.normal.draft far (max (length run.entries) e.cycle) b.bounded in
+          let told = report_bounded measure far.normal.draft far (load_of run e) b.bounded in
           let draft : far.normal.draft ≡ acked.draft = ap (λ (m : NormalKept). m.draft) normal ∙ sym same in
           let attach = attached_then measure c k (of_run measure run) run.normal e n h.bounds.attached n in
           let more = run_told measure run played (to_played s run round) n in
@@ -199,9 +160,7 @@ module _ (measure : Measure) where
       low = (let m = (to_played s run round).many in let o = (from_played s run round).many in let l = h.low in omega (arith, m, o, l));
       kept_so = kept_round s form tracks run round is_round.turn h.kept_so;
       bounds = bounds_round measure false s marks run round legal h.bounds;
-      current = round_current s marks run round legal h.current;
-      within = round_within s run round h.within;
     }
 
   pub new_tells : (s : Session) (n : ℕ) → n < track_count s → TellsSo s n (new_run s)
-  new_tells s n low = record { low = new_there s n low; kept_so = kept_new s; bounds = bounds_new measure s; current = refl; within = omega arith }
+  new_tells s n low = record { low = new_there s n low; kept_so = kept_new s; bounds = bounds_new measure s }

@@ -13,7 +13,6 @@ use Rattle.af_life.specs.Heard.{learnt}
 use Rattle.af_life.specs.Kept.{Setup, Outside}
 use Rattle.af_life.specs.Turn.{after_edits}
 use Rattle.af_life.specs.TurnEvents.{tracks_at, hand_list, stream_list}
-use Rattle.af_model.specs.Cycles.{last_used}
 use Rattle.af_model.specs.Journals.{EntrySeen, RoundSeen}
 use Rattle.af_model.specs.StateQueue.{slot_of, carries}
 use Rattle.af_runs.specs.Blocks.{Marks, listed, server_list, hand_does}
@@ -23,9 +22,9 @@ use Rattle.af_runs.specs.Runs.{Run, TrackTold, no_track, told_at, turned_track, 
 use Rattle.af_runs.specs.Sessions.{Session, cycle_frames, setup_of}
 use Rattle.af_runs.specs.Told.{state_at, is_pushed}
 use Rattle.af_judge.specs.Entries.{CarriesApart}
-use Rattle.af_judge.specs.QueueTold.{Follow}
+use Rattle.af_judge.specs.StatesKept.{SameSlots}
 use Rattle.af_judge.proofs.EachTrack.{each_at}
-use Rattle.af_judge.proofs.StatesKept.{at_before, at_last}
+use Rattle.af_judge.proofs.StatesKept.{at_last}
 use Rattle.af_audit.proofs.Growing.{run_told, grows_turned}
 use Rattle.af_audit.proofs.TrackStands.{hand-server, server-server}
 use Rattle.af_audit.proofs.Late.{Behind, behind_told}
@@ -75,10 +74,6 @@ module _ (measure : Measure) where
     unfolding with_turn
     turned_none is = ap (λ (p : Bool). a.states ++ (if p then y ∷ [] else [])) is ∙ append-nil a.states
 
-    turned_entries : b.entries ≡ a.entries
-    unfolding with_turn
-    turned_entries = refl
-
     -- a track whose server does nothing in the turn
     same_listed : n < length a.tracks → stream_list c o e (tracks_at c (learnt o) a.normal e n) n ≡ [] → listed (told_at a n).stream ≡ listed (told_at b n).stream
     unfolding with_turn
@@ -89,28 +84,19 @@ module _ (measure : Measure) where
         sym (ap (λ (u : TrackTold). listed u.stream) at
         ∙ ap (λ (l : List ServerEvent). record { shape = t.stream.shape; events = l }) (server-server (hand_does (hand_list e n) t.stream).told es ∙ ap (λ (l : List ServerEvent). l ++ es) (hand-server t.stream.told (hand_list e n)) ∙ ap (λ (l : List ServerEvent). server_list t.stream ++ l) none ∙ append-nil (server_list t.stream)))
 
-    -- the first entry after the turn is of the state that it pushed, and the one adopted last is the one before it
-    module _ (low : n < length a.tracks) (quiet : stream_list c o e (tracks_at c (learnt o) a.normal e n) n ≡ []) (current : a.current ≡ last_used a.entries) (within : a.current ≤ length a.states)
-        (follow : Follow (state_at (cycle_frames s) b.states)) (apart : (k : ℕ) → CarriesApart (state_at (cycle_frames s) b.states k)) where
-      poll_entries : (k : ℕ) → (with_poll s k b).entries ≡ b.entries
-      unfolding with_poll
-      poll_entries k = refl
-
+    -- the entries after the turn are of the state that it pushed, and a slot that the draft carries before it and that state too is the same in both
+    module _ (low : n < length a.tracks) (quiet : stream_list c o e (tracks_at c (learnt o) a.normal e n) n ≡ []) (stays : SameSlots (after_edits (setup_of s) (learnt (outside_of (setup_of s) f e)) e a.normal).draft a.normal.draft)
+        (apart : (k : ℕ) → CarriesApart (state_at (cycle_frames s) b.states k)) where
       poll_states : (k : ℕ) → (with_poll s k b).states ≡ b.states
       unfolding with_poll
       poll_states k = refl
 
       one_more : (es : List EntrySeen) (first : EntrySeen) → length a.states < first.entry.state → LegalEntries s marks b (first ∷ es) → is_pushed e.push ≡ true → of_run measure (with_cycles s (first ∷ es) a) n ≤ of_run measure (with_cycles s (first ∷ es) b) n
       one_more es first far legal pushed =
-          let used : last_used (with_poll s first.entry.state b).entries ≡ a.current = ap last_used (poll_entries first.entry.state ∙ turned_entries) ∙ sym current in
-          let rises = legal.0.cycle.follows.1 in
-          let last : a.current ≡ length a.states = omega (arith, used, rises, far, within) in
-          let x : FastState = state_at (cycle_frames s) a.states a.current in
+          let x : FastState = a.normal.draft in
           let states = turned_states pushed in
           let newest : state_at (cycle_frames s) b.states (length a.states + 1) ≡ y = ap (λ (xs : List FastState). state_at (cycle_frames s) xs (length a.states + 1)) states ∙ at_last (cycle_frames s) a.states y (length a.states + 1) (omega arith) in
-          let former : state_at (cycle_frames s) b.states (length a.states) ≡ x = ap (λ (xs : List FastState). state_at (cycle_frames s) xs (length a.states)) states ∙ at_before (cycle_frames s) a.states y (length a.states) (omega arith) ∙ ap (state_at (cycle_frames s) a.states) (sym last) in
-          let same : (j : ℕ) → j < slots → carries x j ≡ true → carries y j ≡ true → slot_of y j ≡ slot_of x j =
-          subst (λ (p : FastState × FastState). (j : ℕ) → j < slots → carries p.0 j ≡ true → carries p.1 j ≡ true → slot_of p.1 j ≡ slot_of p.0 j) (λ i. (former i, newest i)) (λ j lt one two. follow.same (length a.states) j lt two one) in
+          let same : (j : ℕ) → j < slots → carries x j ≡ true → carries y j ≡ true → slot_of y j ≡ slot_of x j = (λ j lt one two. stays j lt two one) in
           let lonely : CarriesApart y = subst CarriesApart newest (apart (length a.states + 1)) in
           let start : Behind measure s n x y same lonely a b = record {
             there = low;

@@ -1,12 +1,11 @@
 -- The entries of a state that a turn pushes, told with it and without it.
-use Rattle.std.proofs.Common.{◌≡◌, inr, ℕ, zero, suc, ◌+◌, ◌<◌, if◌then◌else◌, unwrap_or, Bool, true, false, List, [], ◌∷◌, ◌++◌, length, Option, Some, refl, sym, ap, ◌∙◌, length-append, arith}
-use Rattle.std.specs.Prelude.{nat_le}
-use Rattle.std.proofs.lemmas.Bool.Decides.{nat_tests}
+use Rattle.std.proofs.Common.{◌≡◌, ℕ, zero, suc, ◌+◌, ◌<◌, Bool, true, false, List, [], ◌∷◌, ◌++◌, length, Some, refl, sym, ap, ◌∙◌, length-append, arith}
 use Rattle.std.proofs.lemmas.List.{get_or-replicate}
 use Rattle.af_base.specs.declared.log.CycleEntry.{CycleEntry}
 use Rattle.af_base.specs.declared.log.SlotEntry.{SlotEntry}
 use Rattle.af_base.specs.declared.state.FastState.{FastState}
 use Rattle.af_base.specs.Log.{absent, slots, entry_slot}
+use Rattle.af_life.specs.Kept.{NormalKept}
 use Rattle.af_model.specs.Cycles.{is_mixed, last_used, state_of}
 use Rattle.af_model.specs.Journals.{EntrySeen}
 use Rattle.af_model.specs.StateQueue.{slot_of, carries}
@@ -15,12 +14,11 @@ use Rattle.af_runs.specs.Blocks.{Marks}
 use Rattle.af_runs.specs.Fronts.{is_shown}
 use Rattle.af_runs.specs.Rounds.{LegalEntries, LegalEntry}
 use Rattle.af_runs.specs.Runs.{Run, state_for, with_poll, with_mix, with_cycle, with_cycles}
-use Rattle.af_runs.specs.Sessions.{Session, cycle_frames}
-use Rattle.af_runs.specs.Told.{state_at}
+use Rattle.af_runs.specs.Sessions.{Session}
+use Rattle.af_runs.proofs.StatesFor.{polled_waits, state_known}
 use Rattle.af_judge.specs.Entries.{CarriesApart}
 use Rattle.af_judge.proofs.EntryTold.{cycle_beside}
 use Rattle.af_judge.proofs.EntriesFollow.{cycle_entries}
-use Rattle.af_judge.proofs.StatesAt.{state_outside}
 use Rattle.af_audit.proofs.Late.{Behind, behind_cycle}
 use Rattle.af_audit.proofs.Measure.{Measure}
 use Rattle.af_audit.proofs.Booleans.{no}
@@ -52,26 +50,12 @@ carried_some x (suc j) h = omega arith
 
 module _ (measure : Measure) where
   module _ (s : Session) (marks : Marks) (n : ℕ) (xs : List FastState) (x y : FastState) (same : (j : ℕ) → j < slots → carries x j ≡ true → carries y j ≡ true → slot_of y j ≡ slot_of x j) (apart : CarriesApart y) where
-    not_within : (k : ℕ) → length xs < k → nat_le k (length xs) ≡ false
-    not_within k far = grind (arith, nat_tests)
-
-    polled : (a : Run) (k : ℕ) → a.states ≡ xs → length xs < k → (with_poll s k a).current ≡ a.current
-    unfolding with_poll
-    polled a k is far = ap (λ (b : Bool). if b then k else a.current) (ap (λ (zs : List FastState). nat_le k (length zs)) is ∙ not_within k far)
-
-    cycle_current : (a : Run) (e : EntrySeen) → (with_cycle s a e).current ≡ (with_poll s e.entry.state a).current
-    unfolding with_mix
-    cycle_current a e = refl
-
-    state_first : (a : Run) (k : ℕ) → a.states ≡ xs → length xs < k → state_at (cycle_frames s) a.states a.current ≡ x → state_for s (with_poll s k a) k ≡ x
-    unfolding with_poll
-    state_first a k is far at =
-        ap (λ (o : Option FastState). unwrap_or o (state_at (cycle_frames s) a.states (if nat_le k (length a.states) then k else a.current))) (sym (state_outside a.states k (inr (let l = ap (λ (zs : List FastState). length zs) is in omega (arith, l, far)))))
-        ∙ ap (state_at (cycle_frames s) a.states) (polled a k is far) ∙ at
+    state_first : (a : Run) (k : ℕ) → a.states ≡ xs → length xs < k → a.normal.draft ≡ x → state_for s (with_poll s k a) k ≡ x
+    state_first a k is far draft = polled_waits s a k (let l = ap (λ (zs : List FastState). length zs) is in omega (arith, l, far)) ∙ draft
 
     state_next : (b : Run) (k : ℕ) → state_of b.states k ≡ Some y → state_for s (with_poll s k b) k ≡ y
     unfolding with_poll
-    state_next b k is = ap (λ (o : Option FastState). unwrap_or o (state_at (cycle_frames s) b.states (if nat_le k (length b.states) then k else b.current))) is
+    state_next b k is = state_known s (with_poll s k b) k y is
 
     poll_states : (b : Run) (k : ℕ) → (with_poll s k b).states ≡ b.states
     unfolding with_poll
@@ -89,10 +73,10 @@ module _ (measure : Measure) where
         omega (arith, rises, used, far)
 
     -- all entries keep it
-    pub behind_cycles : (es : List EntrySeen) (a b : Run) → a.states ≡ xs → b.states ≡ xs ++ y ∷ [] → state_at (cycle_frames s) a.states a.current ≡ x → FirstLate (length xs) es → LegalEntries s marks b es
+    pub behind_cycles : (es : List EntrySeen) (a b : Run) → a.states ≡ xs → b.states ≡ xs ++ y ∷ [] → a.normal.draft ≡ x → FirstLate (length xs) es → LegalEntries s marks b es
         → Behind measure s n x y same apart a b → Behind measure s n x y same apart (with_cycles s es a) (with_cycles s es b)
-    behind_cycles [] a b af bf at first legal h = h
-    behind_cycles (e ∷ es) a b af bf at first legal h =
+    behind_cycles [] a b af bf draft first legal h = h
+    behind_cycles (e ∷ es) a b af bf draft first legal h =
         let k : ℕ = e.entry.state in
         let long = length-append xs (y ∷ []) in
         let within = legal.0.cycle.pushed in
@@ -102,6 +86,6 @@ module _ (measure : Measure) where
         let a_next = cycle_beside s a e in
         let b_next = cycle_beside s b e in
         behind_cycles es (with_cycle s a e) (with_cycle s b e) (a_next.states ∙ af) (b_next.states ∙ bf)
-        ((λ i. state_at (cycle_frames s) (a_next.states i) ((cycle_current a e ∙ polled a k af first) i)) ∙ at)
+        (ap (λ (m : NormalKept). m.draft) a_next.normal ∙ draft)
         (next_late b e es first legal.1) legal.1
-        (behind_cycle measure s n x y same apart e (λ j low carried shown. shown_carried s marks b e y legal.0 is j low (carried_some x j carried) shown) a b (state_first a k af first at) (state_next b k is) h)
+        (behind_cycle measure s n x y same apart e (λ j low carried shown. shown_carried s marks b e y legal.0 is j low (carried_some x j carried) shown) a b (state_first a k af first draft) (state_next b k is) h)

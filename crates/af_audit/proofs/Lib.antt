@@ -59,7 +59,7 @@ mod Late
 mod Bounds
 mod Quiet
 mod LateRuns
-mod FastCurrent
+mod EntryParts
 mod LateRound
 mod Heard
 mod Consumed

@@ -77,6 +77,7 @@ new_kept s rounds j tracks script judged new many are = record {
   states = kept_new s;
   earlier = [];
   fast = subst (FastOf s [] (new_run s)) (sym new.fast) (fast_new s (pipe_size (setup_of s)) (pipe_cells (setup_of s)));
+  draft = ap (λ (f : FastKept). f.told.draft) new.fast;
   used = tt;
   queue = subst (λ (f : FastKept). QueueGoes s (new_run s) f.queue) (sym new.fast) (queue_first s);
   beside = subst (λ (x : FastKept × ReportKept). BesideQueue s (new_run s) x.1 x.0.pipe) (λ i. (sym new.fast i, sym new.report i)) (beside_first s (few_frames s.script s.script.normal s.script.frames refl refl script));

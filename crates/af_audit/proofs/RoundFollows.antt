@@ -23,6 +23,8 @@ use Rattle.af_judge.proofs.JournalEntries.{formed_front}
 use Rattle.af_judge.proofs.QueueRun.{goes_called, queue_loaded}
 use Rattle.af_judge.proofs.SharedEntries.{AreOfPushed, entries_beside, entries_go, entries_queue}
 use Rattle.af_judge.proofs.SharedFollows.{beside_called, beside_loaded}
+use Rattle.af_judge.proofs.StatesRuns.{fits_of}
+use Rattle.af_life.specs.Kept.{NormalKept}
 use Rattle.af_runs.specs.Blocks.{Marks}
 use Rattle.af_runs.specs.Rounds.{LegalNormalTurn, after_turn, all_played, before_turn, early_count, early_of, is_early, late_of, loaded}
 use Rattle.af_runs.specs.Runs.{Run, calls_in, frames_before, with_calls, with_cycles, with_load}
@@ -67,6 +69,10 @@ early_pushed run round = pushed-first run round.entries
 
 -- ## From before the round to before the turn
 
+calls-normal : (round : RoundSeen) (run : Run) → (with_calls round run).normal ≡ run.normal
+unfolding with_calls
+calls-normal round run = refl
+
 module _ (s : Session) (marks : Marks) (round : RoundSeen) (run : Run) (frames : List Frame) (j : RunJudge) (tracks called : List TrackJudge) (caller : Option ℕ) (keeps : KeepsRun s marks j tracks run) (many : length called ≡ length tracks)
     (calls : CallsJudged (length tracks) s.script.tracks s.files (calls_in round) tracks called caller) (formed : AreFormed frames (frames_before run) round.entries) where
   abbrev start : Run
@@ -76,7 +82,8 @@ module _ (s : Session) (marks : Marks) (round : RoundSeen) (run : Run) (frames :
   first_keeps = record {
     fast = fast_same s run.reports run start (begun j.fast) (calls_same round run) (fast_round s keeps.earlier run j.fast keeps.fast);
     tracks = calls_follow s marks run round tracks called caller keeps.of_tracks keeps.fit many calls;
-    fits = fits_same s run start (calls_states round run) (record { apart = keeps.states.apart; within = keeps.states.within });
+    draft = keeps.draft ∙ ap (λ (m : NormalKept). m.draft) (sym (calls-normal round run));
+    fits = fits_same s run start (calls_states round run) (calls-normal round run) (fits_of s run keeps.states);
   }
 
   -- and once the early entries were told
@@ -136,6 +143,14 @@ module _ (s : Session) (marks : Marks) (round : RoundSeen) (run : Run) (frames :
 
   pub played_fast : FastOf s run.reports (all_played s run round) late.fast
   played_fast = fast_same s run.reports told_late (loaded round.turn told_late) late.fast (loaded_same round.turn told_late) late-keeps.fast
+
+  -- its judge has the draft that the turn left
+  pub played_draft : late.fast.told.draft ≡ k.normal.plain.kept.draft
+  played_draft =
+      let l = late-keeps in
+      let b = cycles_beside s (late_of run round) (after_turn s run round) in
+      let h = keeps.normal in
+      l.draft ∙ ap (λ (m : NormalKept). m.draft) (b.normal ∙ sym h.kept)
 
   loaded-queue : (o : Option Turn) → QueueOf s told_late late.fast.queue → QueueOf s (loaded o told_late) late.fast.queue
   loaded-queue None h = h

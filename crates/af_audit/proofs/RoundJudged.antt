@@ -21,8 +21,8 @@ use Rattle.af_judge.proofs.QueueRun.{goes_ended}
 use Rattle.af_judge.proofs.SharedFollows.{beside_ended, beside_met, queue_met_so, shared_judged}
 use Rattle.af_life.specs.Kept.{NormalKept, is_home, track_at}
 use Rattle.af_runs.specs.Blocks.{Marks}
-use Rattle.af_runs.specs.Rounds.{IsFastTurn, LegalEntries, LegalFastTurn, LegalNormalTurn, SharedHistories, TrackHistories, after_round, after_turn, all_played, early_count, early_of, fills, late_of, met_after, most_cycles}
-use Rattle.af_runs.specs.Runs.{Run, all_ended, fast_ended, fast_party, met, normal_party, sides_of, takes_part, told_at, with_calls}
+use Rattle.af_runs.specs.Rounds.{IsFastTurn, LegalEntries, LegalFastTurn, LegalNormalTurn, SharedHistories, TrackHistories, after_round, after_turn, all_played, early_count, early_of, fills, late_of, met_after}
+use Rattle.af_runs.specs.Runs.{Run, all_ended, fast_ended, fast_party, met, normal_party, sides_of, takes_part, told_at, with_calls, most_cycles}
 use Rattle.af_runs.specs.Sessions.{Session, spec_of, track_count}
 use Rattle.af_runs.specs.Told.{state_at}
 use Rattle.af_audit.specs.declared.run_judge.Found.{Found}
@@ -190,7 +190,7 @@ module _ (cut : Bool) (s : Session) (marks : Marks) (round : RoundSeen) (run : R
   least_so = subst (λ (n : ℕ). LeastBelow (IsClear cut s marks run round) n (least_found over (length tracks) f)) (let a = keeps.of_tracks.all in let e : length tracks + 2 ≡ fast_party s + 1 = omega (arith, a) in e) (found_least (IsClear cut s marks run round) (IsLegalCaller run round) (Keeps mixed met_tracks) (length tracks) f over finds)
 
   -- and where there is none what is kept is kept of the run after the round
-  module _ (left : k ≡ mixers_met mixed) (ended : after ≡ tracks_ended mixed.normal.plain.kept.ended met_tracks) (cycles : mixed.cycles ≡ s.script.cycles) (none : least_found over (length tracks) f ≡ None) where
+  module _ (left : k ≡ mixers_met mixed) (ended : after ≡ tracks_ended mixed.normal.plain.kept.ended met_tracks) (cycles : mixed.cycles ≡ s.script.cycles) (drafts : mixed.fast.told.draft ≡ mixed.normal.plain.kept.draft) (none : least_found over (length tracks) f ≡ None) where
     clear : (p : ℕ) → p ≤ fast_party s → IsClear cut s marks run round p
     clear p low = subst (λ (o : Option ℕ). LeastBelow (IsClear cut s marks run round) (fast_party s + 1) o) none least_so p (omega (arith, low))
 
@@ -217,15 +217,19 @@ module _ (cut : Bool) (s : Session) (marks : Marks) (round : RoundSeen) (run : R
     late-legal : LegalEntries s marks (after_turn s run round) (late_of run round)
     late-legal = late_legal cut s marks run round fast-clear.turn
 
+    after-normal : NormalOf s (after_round s run round) mixed.normal
+    after-normal = ends_normal s (met_after s run round) mixed.normal (met_normal s (all_played s run round) mixed.normal normal)
+
     pub kept_so : KeepsRun s marks k after (after_round s run round)
     kept_so = subst (λ (x : RunJudge × List TrackJudge). KeepsRun s marks x.0 x.1 (after_round s run round)) (λ i. (sym left i, sym ended i)) (record {
       of_tracks = ends_keep s marks (λ n. Unit {0}) met_tracks (met_after s run round) mixed.normal.plain.kept.ended (ap (λ (m : NormalKept). m.ended) (normal.kept ∙ sym (met-normal s (all_played s run round)))) met-kept;
       fit = λ n lt. fit_round s run round n (let a = keeps.of_tracks.all in let m = keeps.of_tracks.many in omega (arith, lt, a, m)) (legal-caller n (let a = keeps.of_tracks.all in omega (arith, lt, a))) (keeps.fit n lt);
-      normal = ends_normal s (met_after s run round) mixed.normal (met_normal s (all_played s run round) mixed.normal normal);
+      normal = after-normal;
       states = states;
       earlier = run.reports;
       fast = fast_same s run.reports (met_after s run round) (after_round s run round) (mixers_met mixed).fast (ends_same (met_after s run round))
           (fast_met s run.reports (all_played s run round) mixed.fast (mixers_met mixed).fast.queue (ap (λ l. length l) (beside normal-clear.turn).pipe.puts) fast);
+      draft = (let n = after-normal in drafts ∙ ap (λ (m : NormalKept). m.draft) n.kept);
       used = round_used s marks run round keeps.used late-legal;
       queue = goes_ended s (met_after s run round) (mixers_met mixed).fast.queue (queue_met_so s (all_played s run round) mixed.fast.queue mixed.report mixed.fast.pipe played_states.follow right-so (queue normal-clear.turn));
       beside = beside_ended s (met_after s run round) (mixers_met mixed).report (mixers_met mixed).fast.pipe

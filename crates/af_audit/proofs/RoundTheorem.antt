@@ -17,6 +17,7 @@ use Rattle.af_judge.specs.EntriesTold.{AreEntriesRight, AreFormed, Playing, entr
 use Rattle.af_judge.specs.ReportKept.{ReportKept}
 use Rattle.af_judge.specs.Entries.{FastOf}
 use Rattle.af_judge.specs.FastKept.{FastKept}
+use Rattle.af_judge.specs.NormalJudged.{NormalJudged}
 use Rattle.af_judge.specs.RunTold.{KeepsTracks, NormalOf}
 use Rattle.af_judge.specs.SharedTold.{BesideQueue, QueueGoes, QueueOf}
 use Rattle.af_judge.specs.StatesKept.{StatesKept}
@@ -39,7 +40,7 @@ use Rattle.af_audit.specs.RoundTold.{RoundPlayed, TurnIfTold, begun}
 use Rattle.af_audit.specs.RunKept.{IsLegalCaller, JudgesRound, KeepsRun, LeastBelow, least_found, party_ended, run_before}
 use Rattle.af_audit.proofs.CallsFollow.{caller_found}
 use Rattle.af_audit.proofs.PartiesEnded.{all_is}
-use Rattle.af_audit.proofs.RoundFollows.{KeepsTurned, early, early_bare, early_beside, early_goes, early_keeps, first_keeps, late, late_bare, played_beside, played_fast, played_normal, played_queue, played_tracks}
+use Rattle.af_audit.proofs.RoundFollows.{KeepsTurned, early, early_bare, early_beside, early_goes, early_keeps, first_keeps, late, late_bare, played_beside, played_draft, played_fast, played_normal, played_queue, played_tracks}
 use Rattle.af_audit.proofs.RoundJudged.{kept_so, least_so}
 use Rattle.af_audit.proofs.TurnKept.{kept_turned}
 
@@ -194,6 +195,10 @@ module _ (cut : Bool) (s : Session) (journal : JournalData) (frames : List Frame
     mixed-fast-of : FastOf s run.reports (all_played s run round) p.mixed.fast
     mixed-fast-of = fast-by (FastOf s run.reports (all_played s run round)) (played_fast s marks round run frames j.report p.right p.mixers.turned p.mixers.between late-place turned-kept keeps.unloaded late-formed)
 
+    mixed-draft : p.mixed.fast.told.draft ≡ p.mixed.normal.plain.kept.draft
+    mixed-draft = fast-by (λ (x : FastKept). x.told.draft ≡ p.mixed.normal.plain.kept.draft)
+        (played_draft s marks round run frames j.report p.right p.mixers.turned p.mixers.between late-place turned-kept keeps.unloaded late-formed ∙ ap (λ (n : NormalJudged). n.plain.kept.draft) (sym mixed-normal))
+
     mixed-queue : LegalNormalTurn s marks run round → QueueOf s (all_played s run round) p.mixed.fast.queue
     mixed-queue legal = fast-by (λ (x : FastKept). QueueOf s (all_played s run round) x.queue) (played_queue s marks round run frames j.report p.right p.mixers.turned p.mixers.between late-place turned-kept keeps.unloaded late-formed legal)
 
@@ -225,5 +230,5 @@ module _ (cut : Bool) (s : Session) (journal : JournalData) (frames : List Frame
         least = least_so cut s marks round run j tracks keeps f p.mixed k p.played p.met after (is_none going) p.right p.entered p.may p.shared some (λ is. ended-is ∙ is) (λ is. ended-is ∙ is) (caller_found s marks run round tracks p.called f.caller keeps.of_tracks keeps.fit p.calls)
             mixed-tracks mixed-normal-of mixed-fast-of mixed-queue mixed-beside turned-kept.legal fast-legal p.shared_is p.normal_is p.fast_is p.tracks_met p.as_many states-round states-played;
         kept = λ none. kept_so cut s marks round run j tracks keeps f p.mixed k p.played p.met after (is_none going) p.right p.entered p.may p.shared some (λ is. ended-is ∙ is) (λ is. ended-is ∙ is) (caller_found s marks run round tracks p.called f.caller keeps.of_tracks keeps.fit p.calls)
-            mixed-tracks mixed-normal-of mixed-fast-of mixed-queue mixed-beside turned-kept.legal fast-legal p.shared_is p.normal_is p.fast_is p.tracks_met p.as_many states-round states-played p.left p.ended mixed-cycles none;
+            mixed-tracks mixed-normal-of mixed-fast-of mixed-queue mixed-beside turned-kept.legal fast-legal p.shared_is p.normal_is p.fast_is p.tracks_met p.as_many states-round states-played p.left p.ended mixed-cycles mixed-draft none;
       }

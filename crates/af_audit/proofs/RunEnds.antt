@@ -10,9 +10,9 @@ use Rattle.af_model.specs.Journals.{EntrySeen, RoundSeen, JournalData}
 use Rattle.af_script.specs.Data.{ScriptData}
 use Rattle.af_runs.specs.Blocks.{Marks}
 use Rattle.af_runs.specs.LegalRuns.{LegalRounds, run_from, marks_of, session_of}
-use Rattle.af_runs.specs.Rounds.{LegalRound, IsFastTurn, most_cycles, fills, AreMixedBut, after_round}
+use Rattle.af_runs.specs.Rounds.{LegalRound, IsFastTurn, fills, AreMixedBut, after_round}
 use Rattle.af_audit.specs.RunLaws.{LegalAtTheEnd}
-use Rattle.af_runs.specs.Runs.{Run, new_run, all_ended, fast_ended, normal_party, fast_party, told_at}
+use Rattle.af_runs.specs.Runs.{Run, new_run, all_ended, fast_ended, normal_party, fast_party, told_at, most_cycles}
 use Rattle.af_runs.specs.Sessions.{Session}
 use Rattle.af_runs.proofs.RoundEntries.{bare, round-entries}
 use Rattle.af_audit.proofs.OneVerdict.{each_ended}

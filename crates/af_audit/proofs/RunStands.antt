@@ -30,11 +30,12 @@ use Rattle.af_judge.proofs.EntryTracks.{both-true, plays_track}
 use Rattle.af_audit.proofs.CallsFollow.{calls_long, told_called}
 use Rattle.af_audit.proofs.MixerEnds.{EndsHome}
 use Rattle.af_audit.proofs.MixerRounds.{round_ends}
-use Rattle.af_audit.proofs.FastCurrent.{legal_parts}
+use Rattle.af_audit.proofs.EntryParts.{legal_parts}
 use Rattle.af_audit.proofs.MixerTurns.{before_normal, turn_legal}
 use Rattle.af_audit.proofs.TrackStands.{TrackStands, stands_called, stands_ended, stands_met, stands_mixed, stands_turned}
 use Rattle.af_audit.proofs.Booleans.{neither, no}
 use Rattle.af_audit.proofs.FirstFound.{found_at}
+use Rattle.af_runs.proofs.StatesFor.{state_known}
 
 -- ## The look of an entry at a track
 
@@ -57,7 +58,7 @@ module _ (s : Session) (marks : Marks) (r : Run) (e : EntrySeen) (legal : LegalE
       by_state : (o : Option FastState) → state_of r.states e.entry.state ≡ o → is_mixed e.entry.cycle ≡ true → Looks
       by_state None is mixed = no (sym (ap is_mixed (legal.cycle.what ∙ ap (cycle_of _) is)) ∙ mixed)
       by_state (Some y) is mixed =
-          let same : x ≡ y = ap (λ (o : Option FastState). unwrap_or o (state_at (cycle_frames s) r.states r.current)) is in
+          let same : x ≡ y = state_known s r e.entry.state y is in
           let slot = (legal.cycle.mixes y is mixed).tracks i low (subst (λ (z : FastState). carries z i ≡ true) same carried) in
           (slot.front, subst (λ (t : ℕ). LooksBy (cycle_frames s) (listed (told_at r t).stream) (entry_slot e.entry i) slot.front) of_track slot.looks)
 

@@ -10,7 +10,7 @@ use Rattle.af_judge.specs.declared.track_judge.TrackJudge.{TrackJudge}
 use Rattle.af_model.specs.Cycles.{UseUpTo}
 use Rattle.af_judge.specs.Entries.{AreNumbered, FastOf}
 use Rattle.af_judge.specs.EntriesTold.{AreFormed, playing}
-use Rattle.af_judge.specs.FastKept.{FastKept}
+use Rattle.af_judge.specs.FastKept.{FastKept, number_found}
 use Rattle.af_judge.specs.Foresight.{entries_foreseen, foreseen, servers_at}
 use Rattle.af_judge.specs.PipeKept.{PipeKept, front_by_room, saw_front, with_put}
 use Rattle.af_judge.specs.QueueNumbers.{turn_steps, with_steps}
@@ -56,7 +56,7 @@ module _ (s : Session) (marks : Marks) (round : RoundSeen) (run : Run) (frames :
       let legal = no_turn_legal s marks (IsLegalCaller run round) run round tracks j.normal normal none in
       let same : after_turn s run round ≡ before = ap (λ (o : Option Turn). turned s (found_in s run round) o before) none in
       subst (λ (x : Bool × RunJudge × List TrackJudge). KeepsTurned s marks round run r x.0 x.1 x.2) (λ i. (sym told.0 i, sym told.1 i, sym told.2 i)) (record {
-        kept = record { fast = fast-after j.fast keeps.fast; tracks = both.0; fits = fits };
+        kept = record { fast = fast-after j.fast keeps.fast; draft = keeps.draft ∙ ap (λ (x : Run). x.normal.draft) (sym same); tracks = both.0; fits = fits };
         normal = both.1;
         legal = legal;
         goes = λ l. subst (λ (x : Run). QueueGoes s x j.fast.queue) (sym same) goes;
@@ -71,7 +71,7 @@ module _ (s : Session) (marks : Marks) (round : RoundSeen) (run : Run) (frames :
     report-is = report_found s marks (IsLegalCaller run round) frames (playing j.fast tracks) run round place e t.report numbered formed keeps
         (let h = t.report_is in record {
           before = h.before;
-          ahead = λ low far. h.ahead low far ∙ ap (λ (xs : List FastState). (entries_foreseen xs (take (min (length (entries_in (late_of run round))) (e.cycle - j.fast.told.report.cycle)) (entries_in (late_of run round))) (foreseen (servers_at tracks) j.fast.told)).told.report) normal.states;
+          ahead = λ low far. h.ahead low far ∙ ap (λ (xs : List FastState). (entries_foreseen xs (take (min (length (entries_in (late_of run round))) (number_found j.fast e.cycle - j.fast.told.report.cycle)) (entries_in (late_of run round))) (foreseen (servers_at tracks) j.fast.told)).told.report) normal.states;
           told = h.told;
         })
 
@@ -89,7 +89,10 @@ module _ (s : Session) (marks : Marks) (round : RoundSeen) (run : Run) (frames :
     fast-kept =
         let pipe = takes-same j.normal.setup e.ended j.fast.pipe in
         subst (FastOf s run.reports (after_turn s run round)) (sym t.fast)
-        (fast_told_same s run.reports (after_turn s run round) j.fast (fast_turned j.normal e j.fast) (record { told = refl; cold = refl; ended = refl; before = refl; reports = refl; takes = pipe.0; taken = pipe.1 }) (fast-after j.fast keeps.fast))
+        (fast_told_same s run.reports (after_turn s run round) j.fast (fast_turned j.normal k.normal.plain.kept.draft e j.fast) (record { asked = refl; current = refl; used = refl; report = refl; cold = refl; ended = refl; before = refl; reports = refl; takes = pipe.0; taken = pipe.1 }) (fast-after j.fast keeps.fast))
+
+    draft-kept : k.fast.told.draft ≡ (after_turn s run round).normal.draft
+    draft-kept = let n = both-kept.1 in ap (λ (f : FastKept). f.told.draft) t.fast ∙ ap (λ (m : NormalKept). m.draft) n.kept
 
     turned-is : turned s (found_in s run round) (Some e) before ≡ after_turn s run round
     turned-is = ap (λ (o : Option Turn). turned s (found_in s run round) o before) (sym is)
@@ -106,7 +109,7 @@ module _ (s : Session) (marks : Marks) (round : RoundSeen) (run : Run) (frames :
     queue-kept legal =
         let going : before.normal.ended ≡ false = ap (λ (m : NormalKept). m.ended) same_normal ∙ (legal-by legal).0 in
         let here = queue_turned s (found_in s run round e) e before j.fast.queue going beside.pushed (form_opens (length tracks) e form) goes in
-        subst (QueueGoes s (after_turn s run round)) (sym (ap (λ (f : FastKept). f.queue) t.fast)) (subst (λ (x : Run). QueueGoes s x (fast_turned j.normal e j.fast).queue) turned-is
+        subst (QueueGoes s (after_turn s run round)) (sym (ap (λ (f : FastKept). f.queue) t.fast)) (subst (λ (x : Run). QueueGoes s x (fast_turned j.normal k.normal.plain.kept.draft e j.fast).queue) turned-is
         (subst (λ (xs : List FastState). QueueGoes s (turned s (found_in s run round) (Some e) before) (with_steps (turn_steps (length xs) e.ended e.ack e.push) j.fast.queue)) (sym normal.states) here))
 
     beside-kept : LegalNormalTurn s marks run round → BesideQueue s (after_turn s run round) r k.fast.pipe
@@ -118,7 +121,7 @@ module _ (s : Session) (marks : Marks) (round : RoundSeen) (run : Run) (frames :
 
     pub kept_with : KeepsTurned s marks round run r right k after
     kept_with = record {
-      kept = record { fast = fast-kept; tracks = both-kept.0; fits = fits };
+      kept = record { fast = fast-kept; draft = draft-kept; tracks = both-kept.0; fits = fits };
       normal = both-kept.1;
       legal = legal-is;
       goes = queue-kept;

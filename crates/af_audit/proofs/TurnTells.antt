@@ -7,7 +7,7 @@ use Rattle.af_base.specs.declared.report.Report.{Report}
 use Rattle.af_base.specs.declared.state.FastState.{FastState}
 use Rattle.af_base.specs.Turn.{Turn}
 use Rattle.af_judge.specs.declared.track_judge.TrackJudge.{TrackJudge}
-use Rattle.af_judge.specs.FastKept.{FastKept}
+use Rattle.af_judge.specs.FastKept.{FastKept, number_found}
 use Rattle.af_judge.specs.Foresight.{entries_foreseen, foreseen, servers_at}
 use Rattle.af_judge.specs.NormalJudged.{NormalJudged}
 use Rattle.af_judge.specs.NormalTold.{IsRight}
@@ -25,21 +25,21 @@ module _ (log : List CycleEntry) (first count : ℕ) (inside : first + count ≤
   ahead_part : (n : ℕ) → take (min count n) (drop first log) ≡ take (min (length own) n) own
   ahead_part n = sym (take-take (min count n) count (drop first log) (omega arith)) ∙ ap (λ (k : ℕ). take (min k n) own) (sym (length-take-le count (drop first log) (let l = length-drop first log in omega (arith, l, inside))))
 
-  -- the report that a turn loads
-  pub report_so : (f : FastKept) (states xs : List FastState) (tracks : List TrackJudge) (number : ℕ) (report : Report) → states ≡ xs → (number ≤ f.before.cycle → report ≡ f.before)
-      → (f.before.cycle < number → f.told.report.cycle < number → report ≡ (entries_foreseen states (take (min count (number - f.told.report.cycle)) (drop first log)) (foreseen (servers_at tracks) f.told)).told.report)
-      → (f.before.cycle < number → number ≤ f.told.report.cycle → report ≡ slice_index_or f.reports (number - f.before.cycle - 1) f.before) → IsReportOf f xs tracks own number report
-  report_so f states xs tracks number report same before ahead told = record {
+  -- the report that a turn finds
+  pub report_so : (f : FastKept) (states xs : List FastState) (tracks : List TrackJudge) (found number : ℕ) (report : Report) → states ≡ xs → found ≡ number → (found ≤ f.before.cycle → report ≡ f.before)
+      → (f.before.cycle < found → f.told.report.cycle < found → report ≡ (entries_foreseen states (take (min count (found - f.told.report.cycle)) (drop first log)) (foreseen (servers_at tracks) f.told)).told.report)
+      → (f.before.cycle < found → found ≤ f.told.report.cycle → report ≡ slice_index_or f.reports (found - f.before.cycle - 1) f.before) → IsReportOf f xs tracks own number report
+  report_so f states xs tracks found number report same is before ahead told = subst (λ (n : ℕ). IsReportOf f xs tracks own n report) is (record {
     before = before;
-    ahead = λ past behind. ahead past behind ∙ (λ i. (entries_foreseen (same i) (ahead_part (number - f.told.report.cycle) i) (foreseen (servers_at tracks) f.told)).told.report);
+    ahead = λ past behind. ahead past behind ∙ (λ i. (entries_foreseen (same i) (ahead_part (found - f.told.report.cycle) i) (foreseen (servers_at tracks) f.told)).told.report);
     told = told;
-  }
+  })
 
 -- all of a turn
 pub turn_so : (j k : RunJudge) (tracks after : List TrackJudge) (later : List CycleEntry) (e : Turn) (report : Report) (legal ended right : Bool) (next : NormalJudged) (states : List FastState)
-    → IsReportOf j.fast j.normal.states tracks later e.cycle report → IsTrue legal ↔ IsRight j.normal.plain.setup report tracks j.normal.plain.kept e
+    → IsReportOf j.fast j.normal.states tracks later (number_found j.fast e.cycle) report → IsTrue legal ↔ IsRight j.normal.plain.setup report tracks j.normal.plain.kept e
     → ended ≡ j.normal.plain.kept.ended → right ≡ (legal && not ended) → TurnJudged report e tracks after j.normal next
-    → states ≡ j.normal.states → k ≡ record j { normal = next; fast = record j.fast { queue = with_steps (turn_steps (length states) e.ended e.ack e.push) j.fast.queue; pipe = pipe_turned next.setup e j.fast.pipe }; report = report_turned e j.report }
+    → states ≡ j.normal.states → k ≡ record j { normal = next; fast = record j.fast { told = record j.fast.told { draft = next.plain.kept.draft }; queue = with_steps (turn_steps (length states) e.ended e.ack e.push) j.fast.queue; pipe = pipe_turned next.setup e j.fast.pipe }; report = report_turned e j.report }
     → TurnTold j tracks later e right k after
 turn_so j k tracks after later e report legal ended right next states report_is legal_is ended_is right_is judged states_is kept = record {
   report = report;
@@ -48,7 +48,10 @@ turn_so j k tracks after later e report legal ended right next states report_is 
   legal_is = legal_is;
   right_is = right_is ∙ ap (λ (b : Bool). legal && not b) ended_is;
   mixer = subst (TurnJudged report e tracks after j.normal) (sym (ap (λ (r : RunJudge). r.normal) kept)) judged;
-  fast = ap (λ (r : RunJudge). r.fast) kept ∙ (λ i. record j.fast { queue = with_steps (turn_steps (length (states_is i)) e.ended e.ack e.push) j.fast.queue; pipe = pipe_turned (judged.same.0 i) e j.fast.pipe });
+  fast = ap (λ (r : RunJudge). r.fast) kept ∙ (λ i. record j.fast { told = record j.fast.told { draft = (next_is i).plain.kept.draft }; queue = with_steps (turn_steps (length (states_is i)) e.ended e.ack e.push) j.fast.queue; pipe = pipe_turned (judged.same.0 i) e j.fast.pipe });
   reported = ap (λ (r : RunJudge). r.report) kept;
   cycles = ap (λ (r : RunJudge). r.cycles) kept;
 }
+  where
+    next_is : next ≡ k.normal
+    next_is = sym (ap (λ (r : RunJudge). r.normal) kept)

@@ -8,7 +8,7 @@ use Rattle.af_base.specs.declared.state.FastState.{FastState}
 use Rattle.af_base.specs.Turn.{Turn}
 use Rattle.af_judge.specs.declared.track_judge.TrackJudge.{TrackJudge}
 use Rattle.af_judge.specs.EntriesTold.{AreEntriesRight, MayEnter, Playing, entries_leave, playing}
-use Rattle.af_judge.specs.FastKept.{FastKept}
+use Rattle.af_judge.specs.FastKept.{FastKept, number_found}
 use Rattle.af_judge.specs.Foresight.{entries_foreseen, foreseen, servers_at}
 use Rattle.af_judge.specs.NormalJudged.{NormalJudged}
 use Rattle.af_judge.specs.NormalTold.{IsRight}
@@ -48,19 +48,19 @@ abbrev pub loaded_if : Option Turn → ReportKept → ReportKept
 loaded_if None r = r
 loaded_if (Some e) r = report_turned e r
 
--- what the fast mixer's judge keeps after a turn: the looks at the queue, the push, and the pipe
-abbrev pub fast_turned : NormalJudged → Turn → FastKept → FastKept
-fast_turned j e f = record f { queue = with_steps (turn_steps (length j.states) e.ended e.ack e.push) f.queue; pipe = pipe_turned j.setup e f.pipe }
+-- what the fast mixer's judge keeps after a turn that left this draft: the draft, the looks at the queue, the push, and the pipe
+abbrev pub fast_turned : NormalJudged → FastState → Turn → FastKept → FastKept
+fast_turned j draft e f = record f { told = record f.told { draft = draft }; queue = with_steps (turn_steps (length j.states) e.ended e.ack e.push) f.queue; pipe = pipe_turned j.setup e f.pipe }
 
 -- a turn was told, before these entries of its round; it is right where the mixer hadn't ended and the turn is
 pub record TurnTold (j : RunJudge) (tracks : List TrackJudge) (later : List CycleEntry) (e : Turn) (right : Bool) (k : RunJudge) (after : List TrackJudge) : Type 0 where
   pub report : Report
-  pub report_is : IsReportOf j.fast j.normal.states tracks later e.cycle report
+  pub report_is : IsReportOf j.fast j.normal.states tracks later (number_found j.fast e.cycle) report
   pub legal : Bool
   pub legal_is : IsTrue legal ↔ IsRight j.normal.plain.setup report tracks j.normal.plain.kept e
   pub right_is : right ≡ (legal && not j.normal.plain.kept.ended)
   pub mixer : TurnJudged report e tracks after j.normal k.normal
-  pub fast : k.fast ≡ fast_turned j.normal e j.fast
+  pub fast : k.fast ≡ fast_turned j.normal k.normal.plain.kept.draft e j.fast
   pub reported : k.report ≡ report_turned e j.report
   pub cycles : k.cycles ≡ j.cycles
 

@@ -115,6 +115,7 @@ pub record KeepsRun (s : Session) (marks : Marks) (j : RunJudge) (tracks : List 
   pub states : StatesKept s run.normal run.states
   pub earlier : List Report
   pub fast : FastOf s earlier run j.fast
+  pub draft : j.fast.told.draft ≡ run.normal.draft
   pub used : UseUpTo (length run.states) run.entries
   pub queue : QueueGoes s run j.fast.queue
   pub beside : BesideQueue s run j.report j.fast.pipe

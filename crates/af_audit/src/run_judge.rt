@@ -358,12 +358,13 @@ impl RunJudge {
         both(self.fast.entries() == self.cycles, !over)
     }
 
-    // What a turn did at the queue, after so many pushes, what it put into the pipe, and the report that it loaded.
+    // What a turn left of the draft, what it did at the queue, after so many pushes, what it put into the pipe, and the report that it loaded.
     fn note_turn(&mut self, pushed: u64, turn: &TurnEntry) -> Result<(), Memory>
         requires judged { IsJudged self.old.normal }
         ensures same { self.new.normal ≡ self.old.normal }
-        ensures noted { OnOk result (let e = turn_of turn.now in self.new ≡ record self.old { fast = record self.old.fast { queue = with_steps (turn_steps pushed e.ended e.ack e.push) self.old.fast.queue; pipe = pipe_turned self.old.normal.setup e self.old.fast.pipe }; report = report_turned e self.old.report }) }
+        ensures noted { OnOk result (let e = turn_of turn.now in self.new ≡ record self.old { fast = record self.old.fast { told = record self.old.fast.told { draft = self.old.normal.plain.kept.draft }; queue = with_steps (turn_steps pushed e.ended e.ack e.push) self.old.fast.queue; pipe = pipe_turned self.old.normal.setup e self.old.fast.pipe }; report = report_turned e self.old.report }) }
     {
+        self.fast.drafted(self.normal.draft());
         self.fast.queue.turned(pushed, turn)?;
         if turn.ended {
             return Ok(());
@@ -396,7 +397,8 @@ impl RunJudge {
         let had_ended = self.normal.has_ended();
         let states = self.normal.states();
         let pushed = states.len() as u64;
-        let report = self.fast.report_of(states, tracks, log, later, turn.cycle)?;
+        let number = self.fast.number_found(turn.cycle);
+        let report = self.fast.report_of(states, tracks, log, later, number)?;
         let legal = self.normal.turn(self.alloc, tracks, &report, turn)?;
         self.note_turn(pushed, turn)?;
         Ok(legal && !had_ended)

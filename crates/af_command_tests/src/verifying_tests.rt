@@ -107,12 +107,30 @@ const ENDED: &str =
 const EMPTY: &str =
     "version = 1\nframes = 2\nnormal = 1\ncycles = 1024\n[[track]]\nkind = \"fast\"\nframes = 8\nchannels = 2\nfile = \"in.pcm\"\nops = [\"open\", \"start\", \"stop\", \"drain\", \"remove\"]\n";
 
-/// A played session: its script, the bytes of its file, and those of its sound.
-type Session<'a> = (&'a str, usize, usize);
+/// A script of two tracks, of which one starts a turn later.
+const LATE: &str =
+    "version = 1\nframes = 2\nnormal = 1\ncycles = 300\n[[track]]\nkind = \"fast\"\nframes = 4\nchannels = 2\nfile = \"in.pcm\"\nops = [\"open\", \"start\"]\n[[track]]\nkind = \"fast\"\nframes = 4\nchannels = 2\nfile = \"in.pcm\"\nops = [\"open\", \"yield\", \"start\", \"write 1\", \"stop\", \"drain\"]\n";
 
-const HEARD_SESSION: Session<'static> = (WHOLE, 8, 192);
+/// A journal of it that no order of a play makes. The later track is attached in round 1, whose push is Busy; the normal mixer's turn of round 2 pushes its state, and loads the report of the entries behind that push. What comes before sixteen silent cycles, before fifteen more, and behind them.
+const ATTACHED: &str =
+    "R\nC 0\ns 0 1 0\ns 0 2 0\nt 0\nC 1\ns 0 1 0\nN 8 1 1\nq 0 0 4 f 2\nh 0000000100000000\nq 0 0 4 f 2\nh 0000000200000000\nq 0 0 4 e\na 0 514\nq 1 0 2 f 2\nh 0000000100000000\nq 1 0 2 e\na 1 257\nP 1 1\nF\ny 0 1\nR\nC 0\nt 514\ns 4 6 0\nC 1\ns 2 2 0\nt 257\nN 8 0 1\nq 0 0 6 f 2\nh 0000000600000000\nq 0 0 6 e\na 0 770\nq 1 0 4 f 2\nh 0000000200000000\nq 1 0 4 e\na 1 514\nP 2 0 1\nF\n";
 
-const UNHEARD_SESSION: Session<'static> = (EMPTY, 0, 128);
+const LOADED: &str =
+    "R\nC 1\nt 514\np 0 1\nk 0\ns 4 4 1\nt 514\nN 8 1 33\nq 1 0 6 f 2\nh 0000000400000001\nq 1 0 6 e\na 1 791\nP 1 2\nF\ny 2 0\nz 0 4096 0 268439552 0 0 e\nz 2 4096 0 268439552 0 1 f 1\nh 00010001\n";
+
+const TAKEN: &str = "y 2 0\nz 0 4096 0 268439552 0 0 e\nz 2 4096 0 268439552 0 1 e\n";
+
+const LEFT: &str =
+    "R\nC 1\nt 791\nN 8 1 33\nq 1 0 6 e\na 1 792\nP 1 3\nF\ny 3 2\nR\nC 1\nt 792\ns 6 6 0\nN 8 1 34\nq 1 0 8 f 2\nh 0000000600000000\nq 1 0 8 e\na 1 1048\nP 1 4\nF\ny 4 3\nR\nE\n";
+
+/// A played session: its script, the bytes of its file, the silent bytes of its sound that come before them, and all bytes of its sound.
+type Session<'a> = (&'a str, usize, usize, usize);
+
+const HEARD_SESSION: Session<'static> = (WHOLE, 8, 0, 192);
+
+const UNHEARD_SESSION: Session<'static> = (EMPTY, 0, 0, 128);
+
+const LATE_SESSION: Session<'static> = (LATE, 4, 128, 256);
 
 /// So many bytes of a journal, from a place on, replaced by a text, and what is found then.
 type Damage<'a> = (usize, usize, &'a str, &'a str);
@@ -145,6 +163,17 @@ fn silent_journal(alloc: Global) -> Result<Vec<u8>, Fail> {
     Ok(text)
 }
 
+/// The text of the journal of two tracks.
+fn late_journal(alloc: Global) -> Result<Vec<u8>, Fail> {
+    let mut text = Vec::new(alloc);
+    add(&mut text, ATTACHED, 1)?;
+    add(&mut text, STILL, 16)?;
+    add(&mut text, LOADED, 1)?;
+    add(&mut text, TAKEN, 15)?;
+    add(&mut text, LEFT, 1)?;
+    Ok(text)
+}
+
 /// A text in which bytes are replaced.
 fn damaged(
     alloc: Global,
@@ -163,10 +192,13 @@ fn damaged(
     Ok(text)
 }
 
-/// The sound of a session: its frames, and then silence.
-fn sound_of(alloc: Global, (_, length, bytes): Session<'_>) -> Result<Vec<u8>, Fail> {
-    let mut sound = numbered(alloc, length)?;
-    for _ in length..bytes {
+/// The sound of a session: its frames, and before and behind them silence.
+fn sound_of(alloc: Global, (_, length, before, bytes): Session<'_>) -> Result<Vec<u8>, Fail> {
+    let mut sound = Vec::new(alloc);
+    add(&mut sound, "\0", before)?;
+    sound.extend_from_slice(&numbered(alloc, length)?)?;
+    let made = sound.len();
+    for _ in made..bytes {
         sound.push(0)?;
     }
     Ok(sound)
@@ -190,7 +222,7 @@ fn judged(
 fn journals_are_legal(rt: HostRuntime) -> Result<(), Fail> {
     let alloc = rt.alloc();
     let (heard, unheard) = (whole_journal(alloc)?, silent_journal(alloc)?);
-    let more = judged(alloc, 0, (WHOLE, 8, 193), &heard)?;
+    let more = judged(alloc, 0, (WHOLE, 8, 0, 193), &heard)?;
     expect_verdict(
         &rt,
         alloc,
@@ -199,7 +231,7 @@ fn journals_are_legal(rt: HostRuntime) -> Result<(), Fail> {
         "legal\n",
     )?;
     expect_verdict(&rt, alloc, more, 7, "refused: pcm 192\n")?;
-    let more = judged(alloc, 0, (EMPTY, 0, 129), &unheard)?;
+    let more = judged(alloc, 0, (EMPTY, 0, 0, 129), &unheard)?;
     expect_verdict(
         &rt,
         alloc,
@@ -230,7 +262,7 @@ fn each_call_of_a_verify_fails_in_turn(rt: HostRuntime) -> Result<(), Fail> {
     let alloc = rt.alloc();
     let journal = whole_journal(alloc)?;
     for (of_store, of_sink, bytes, status, line) in FAILURES {
-        let session = (WHOLE, 8, *bytes);
+        let session = (WHOLE, 8, 0, *bytes);
         let store = judged(alloc, *of_store, session, &journal)?;
         let out = MemSink::new(alloc, [*of_sink].to_vec(alloc)?);
         let sound = sound_of(alloc, session)?;
@@ -297,6 +329,16 @@ const CUTS: &[Damage<'static>] = &[
     (1316, 1, "", "line 96"),
 ];
 
+/// The journal of two tracks, with other reports that its turn loads, and with other words of the status that it stores: it hears of the frame by the track that its draft has in the slot.
+const REPORTS: &[Damage<'static>] = &[
+    (0, 0, "", "legal"),
+    (1339, 9, "N 8 1 18\n", "legal"),
+    (1339, 9, "N 8 1 17\n", "round 2 party 2"),
+    (1339, 9, "N 8 1 34\n", "round 2 party 2"),
+    (1389, 8, "a 1 774\n", "round 2 party 2"),
+    (1389, 8, "a 1 775\n", "round 2 party 2"),
+];
+
 /// What is found in a session's journal with each of some damages.
 fn expect_found<R: Threads + Sync + Abort>(
     rt: &R,
@@ -321,5 +363,6 @@ fn expect_found<R: Threads + Sync + Abort>(
 fn damaged_journals(rt: HostRuntime) -> Result<(), Fail> {
     let alloc = rt.alloc();
     expect_found(&rt, alloc, HEARD_SESSION, &whole_journal(alloc)?, DAMAGES)?;
-    expect_found(&rt, alloc, UNHEARD_SESSION, &silent_journal(alloc)?, CUTS)
+    expect_found(&rt, alloc, UNHEARD_SESSION, &silent_journal(alloc)?, CUTS)?;
+    expect_found(&rt, alloc, LATE_SESSION, &late_journal(alloc)?, REPORTS)
 }

@@ -1,6 +1,5 @@
 -- The round in which the fast mixer comes to have a proxy at the latest: the last state pushed before it plays the track, which stays lent. The proxy takes part in its meeting, and from there on it is carried as one that flows.
 use Rattle.std.proofs.Common.{◌≡◌, ◌⊎◌, inl, inr, ℕ, ◌≤◌, ◌<◌, ◌==◌, unwrap_or, is_some, if◌then◌else◌, Bool, true, false, true≢false, All, Option, Some, List, [], ◌++◌, length, length-append, refl, sym, ap, ◌∙◌, subst, arith, eqb-true}
-use Rattle.std.specs.Prelude.{max}
 use Rattle.af_base.specs.declared.report.SlotReport.{SlotReport}
 use Rattle.af_base.specs.declared.state.FastState.{FastState}
 use Rattle.af_base.specs.declared.state.FastTrack.{FastTrack}
@@ -16,7 +15,7 @@ use Rattle.af_model.specs.Journals.{RoundSeen}
 use Rattle.af_model.specs.Reports.{report_at}
 use Rattle.af_runs.specs.Blocks.{Marks, client_list, server_list}
 use Rattle.af_runs.specs.Rounds.{LegalRound, before_turn, after_turn, met_after, after_round}
-use Rattle.af_runs.specs.Runs.{Run, told_at, with_calls, with_cycles, report_of, takes_part, holds}
+use Rattle.af_runs.specs.Runs.{Run, told_at, with_calls, with_cycles, report_of, takes_part, holds, load_of}
 use Rattle.af_runs.specs.Sessions.{Session, track_count, setup_of, cycle_frames}
 use Rattle.af_enough_law.specs.Carried.{SessionCarried}
 use Rattle.af_enough_law.specs.Drafts.{is_busy}
@@ -26,7 +25,6 @@ use Rattle.af_enough_law.proofs.AwayKeeps.{StaysOpen, away_turn}
 use Rattle.af_enough_law.proofs.AwayRounds.{AwayTurn}
 use Rattle.af_enough_law.proofs.Commanding.{le_cases}
 use Rattle.af_enough_law.proofs.EntryCounts.{found_within, round_high}
-use Rattle.af_enough_law.proofs.FastFound.{state_none}
 use Rattle.af_enough_law.proofs.FastKnows.{knows_released}
 use Rattle.af_enough_law.proofs.FastMixes.{state_more}
 use Rattle.af_enough_law.proofs.FastPolls.{round_states, turn_more}
@@ -39,15 +37,17 @@ use Rattle.af_enough_law.proofs.HomeRounds.{IsNamed}
 use Rattle.af_enough_law.proofs.LastStates.{round_last}
 use Rattle.af_enough_law.proofs.Lending.{IsLending, WasOpen, lent_still, busy_same, free_plays}
 use Rattle.af_enough_law.proofs.LentFlows.{state_there}
-use Rattle.af_enough_law.proofs.LentRounds.{LentCarried, holds_by, or_last, state_last}
+use Rattle.af_enough_law.proofs.LentRounds.{LentCarried, holds_by, or_last, state_last, draft_item}
 use Rattle.af_enough_law.proofs.LentTurns.{turn_leaves}
-use Rattle.af_enough_law.proofs.MeetReports.{SaysOpenOf}
+use Rattle.af_enough_law.proofs.MeetReports.{SaysOpenOf, NamesTrack}
 use Rattle.af_enough_law.proofs.MeetRounds.{Meeting, meets_open}
 use Rattle.af_enough_law.proofs.QueueRounds.{acks_states}
 use Rattle.af_enough_law.proofs.RestTurns.{low_or}
 use Rattle.af_enough_law.proofs.SessionRounds.{turn_of, turn_runs, states_few}
 use Rattle.af_enough_law.proofs.StreamCalm.{IsQuiet}
 use Rattle.af_enough_law.proofs.TrackGoes.{CalmStream}
+use Rattle.af_runs.proofs.StatesFor.{state_beyond}
+use Rattle.af_enough_law.proofs.FastFound.{plays_item}
 
 -- ## What is heard of a proxy that is away
 
@@ -111,7 +111,7 @@ module _ (s : Session) (marks : Marks) (scales : All (λ (x : Setting). x.scale 
   pushed_plays k x above is = by (low_or k (length after.states))
     where
       by : (k ≤ length after.states) ⊎ (length after.states < k) → Plays slot item x
-      by (inr far) = absurd (true≢false (sym (ap is_some is) ∙ ap is_some (state_none after.states k far)))
+      by (inr far) = absurd (true≢false (sym (ap is_some is) ∙ ap is_some (state_beyond after.states k far)))
       by (inl high) =
           let count = states_few s marks scales long run round legal c.stands in
           let at : k ≡ length after.states = omega (arith, above, high, count) in
@@ -191,13 +191,10 @@ module _ (s : Session) (marks : Marks) (scales : All (λ (x : Setting). x.scale 
       some = (let a = ((c.stands.order.sound.slotted i).slot (ap is_some l.slot_is)).0 in let b = ap number_of l.slot_is in omega (arith, a, b));
       low = l.low;
       is = track_is;
-      states = some;
-      last = first;
-      plays = last;
+      named = subst (NamesTrack i slot item) (sym c.stands.last) (λ carried same. ap (λ (x : FastTrack). x.track) last.is ∙ track_is);
+      draft = draft_item s run i slot item c.stands.order c.stands.items l.lent l.slot_is l.item_is;
       says = says;
       quiet = quiet;
-      current = c.stands.queue.current;
-      adopted = c.stands.adopted;
       going = c.stands.going;
       knows = c.states;
     }
@@ -212,10 +209,10 @@ module _ (s : Session) (marks : Marks) (scales : All (λ (x : Setting). x.scale 
         report : (slot_reported (learnt t.by.outside) g).generation ≡ g.generation → (slot_reported (learnt t.by.outside) g).shut ≡ false
         report e =
             let within = found_within s run round marks false t.turn legal c.stands.stored c.reports t.is goes c.stands.logged in
-            let m : ℕ = max (length (with_calls round run).entries) t.turn.cycle in
+            let m : ℕ = load_of (with_calls round run) t.turn in
             let number = ap number_of ((greeted_alike t.turn.ack run.normal.last (track_at run.normal.tracks i)).slot ∙ l.slot_is) in
             let found : SaysOpenOf item (report_at (report_of (with_cycles s round.entries (with_calls round run)).reports m).slots slot) =
-            meets_open s marks run round i slot item legal meeting (λ k y above is. inl (pushed_plays k y above is)) turn_adds adopted_seen m within.0 within.1 in
+            meets_open s marks run round i slot item legal meeting (λ k y above is. inl (plays_item slot item y (pushed_plays k y above is))) turn_adds adopted_seen m within.0 within.1 in
             let here : report_at (report_of (with_cycles s round.entries (with_calls round run)).reports m).slots slot ≡ slot_reported (learnt t.by.outside) g =
             ap (λ (n : ℕ). report_at (report_of (with_cycles s round.entries (with_calls round run)).reports m).slots n) (sym number) ∙ ap (λ (k : Learnt). slot_reported k g) (sym t.sees) in
             subst (SaysOpenOf item) here found (e ∙ same.generation ∙ sym (ap (λ (x : FastTrack). x.generation) l.item_is))

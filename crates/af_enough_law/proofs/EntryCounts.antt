@@ -1,13 +1,13 @@
 -- Each entry stores one report, and no state is adopted that wasn't pushed.
 use Rattle.std.proofs.Common.{◌≡◌, ℕ, ◌+◌, ◌≤◌, nat_le, if◌then◌else◌, Bool, true, false, Some, List, [], ◌∷◌, length, length-append, refl, sym, ap, ◌∙◌, arith}
-use Rattle.std.specs.Prelude.{max}
+use Rattle.std.specs.Prelude.{max, min}
 use Rattle.std.proofs.lemmas.Bool.{leb-true}
 use Rattle.std.proofs.lemmas.List.{take-append-drop}
 use Rattle.af_base.specs.Turn.{Turn}
 use Rattle.af_model.specs.Journals.{EntrySeen, RoundSeen}
 use Rattle.af_runs.specs.Blocks.{Marks}
 use Rattle.af_runs.specs.Rounds.{LegalRound, early_count, early_of, late_of, before_turn, found_in, after_turn, all_played, met_after, after_round}
-use Rattle.af_runs.specs.Runs.{Run, with_calls, with_poll, with_cycle, with_cycles}
+use Rattle.af_runs.specs.Runs.{Run, with_calls, with_poll, with_cycle, with_cycles, load_of}
 use Rattle.af_runs.specs.Sessions.{Session}
 use Rattle.af_enough_law.specs.FastFlows.{CountsReports, KnowsReports}
 use Rattle.af_enough_law.proofs.FastCurrent.{rest_current, turn_current}
@@ -67,7 +67,7 @@ module _ (s : Session) (run : Run) (round : RoundSeen) where
 
   -- the report that a turn finds is among those that it may load
   pub found_within : (marks : Marks) (cut : Bool) (e : Turn) → LegalRound cut s marks run round → CountsReports run → KnowsReports run → round.turn ≡ Some e → e.ended ≡ false → length run.reports ≡ length run.entries
-      → (length run.reports ≤ max (length (with_calls round run).entries) e.cycle) × (max (length (with_calls round run).entries) e.cycle ≤ length (with_cycles s round.entries (with_calls round run)).reports)
+      → (length run.reports ≤ load_of (with_calls round run) e) × (load_of (with_calls round run) e ≤ length (with_cycles s round.entries (with_calls round run)).reports)
   found_within marks cut e legal counts knows is runs same =
       let load = loads_new cut s marks run round e legal counts knows is runs in
       let low = load.0 in
@@ -76,7 +76,9 @@ module _ (s : Session) (run : Run) (round : RoundSeen) where
       let found = cycles_reports s round.entries (with_calls round run) in
       let calls = ap length (calls_same round run).reports in
       let logged = ap length (calls_same round run).entries in
-      (omega (arith, low, logged, same), omega (arith, low, high, after, found, calls, logged, same))
+      let first : length run.reports ≤ min (max (length (with_calls round run).entries) e.cycle) (length (with_calls round run).entries + 16) = omega (arith, low, logged, same) in
+      let last : min (max (length (with_calls round run).entries) e.cycle) (length (with_calls round run).entries + 16) ≤ length (with_cycles s round.entries (with_calls round run)).reports = omega (arith, low, high, after, found, calls, logged, same) in
+      (first, last)
 
 -- ## The state adopted
 
@@ -100,7 +102,7 @@ cycles_high s (e ∷ es) run low =
 pub round_high : (s : Session) (run : Run) (round : RoundSeen) → run.current ≤ length run.states → (after_round s run round).current ≤ length (after_round s run round).states
 round_high s run round low =
     let called : Run = with_calls round run in
-    let first = calls_current round run in
+    let first = (calls_current round run).0 in
     let states = ap length (calls_states round run) in
     let early = cycles_high s (early_of run round) called (omega (arith, low, first, states)) in
     let turn = turn_current s run round in

@@ -10,8 +10,8 @@ use Rattle.af_model.proofs.UsedStates.{last_used-push}
 use Rattle.af_runs.specs.Blocks.{Marks}
 use Rattle.af_runs.specs.Clients.{ends}
 use Rattle.af_runs.specs.Found.{TurnFound}
-use Rattle.af_runs.specs.Rounds.{is_early, most_cycles, IsFastTurn, LegalEntry, LegalEntries, LegalRound, early_of, late_of, before_turn, found_in, turned, after_turn, loaded, all_played, met_after, after_round}
-use Rattle.af_runs.specs.Runs.{Run, with_poll, with_mix, with_cycle, with_cycles, with_calls, with_turn, with_load, met, with_ends, each_track, fast_ended}
+use Rattle.af_runs.specs.Rounds.{is_early, IsFastTurn, LegalEntry, LegalEntries, LegalRound, early_of, late_of, before_turn, found_in, turned, after_turn, loaded, all_played, met_after, after_round}
+use Rattle.af_runs.specs.Runs.{Run, with_poll, with_mix, with_cycle, with_cycles, with_calls, with_turn, with_load, met, with_ends, each_track, fast_ended, most_cycles}
 use Rattle.af_runs.specs.Sessions.{Session}
 
 -- the number of the state adopted last is that of the last entry

@@ -1,5 +1,5 @@
 -- What a round takes of a track that its states carry in a slot.
-use Rattle.std.proofs.Common.{◌≡◌, ◌⊎◌, inl, inr, ℕ, ◌+◌, ◌≤◌, ◌<◌, unwrap_or, true, Option, Some, None, List, [], ◌∷◌, ◌++◌, length, take, refl, sym, ap, ◌∙◌, subst, arith, append_assoc, append-nil}
+use Rattle.std.proofs.Common.{◌≡◌, ◌⊎◌, inl, inr, ℕ, ◌+◌, ◌≤◌, ◌<◌, true, Option, Some, None, List, [], ◌∷◌, ◌++◌, length, take, refl, sym, ap, ◌∙◌, subst, arith, append_assoc, append-nil}
 use Rattle.af_base.specs.declared.event.ClientEvent.{ClientEvent}
 use Rattle.af_base.specs.declared.event.ServerEvent.{ServerEvent}
 use Rattle.af_base.specs.declared.event.ServerEvent.TheVariants as server
@@ -19,12 +19,12 @@ use Rattle.af_runs.specs.Fronts.{front_of, is_shown}
 use Rattle.af_runs.specs.Rounds.{LegalEntry, LegalEntries}
 use Rattle.af_runs.specs.Runs.{Run, TrackTold, told_at, slot_for, played, mixed_track, state_for, with_poll, with_cycle, with_cycles}
 use Rattle.af_runs.specs.Sessions.{Session, cycle_frames}
-use Rattle.af_runs.specs.Told.{state_at}
 use Rattle.af_enough_law.specs.Seen.{Stands, frames_put, frames_taken}
 use Rattle.af_enough_law.specs.FastFlows.{AllUse, AllStates, Plays, taken_in, asked_in, IsShown, AllShown}
 use Rattle.af_enough_law.proofs.FastMixes.{Uses, uses_of, entry_mixed}
 use Rattle.af_enough_law.proofs.FastShows.{Setting, Look, slot_look, stands-more}
 use Rattle.af_enough_law.proofs.FastSteps.{slot_only, cycle_states, cycle_length, cycle_track, mixed_stream, played_server, played_client}
+use Rattle.af_runs.proofs.StatesFor.{state_known}
 
 -- ## What an entry adds to blocks
 
@@ -97,7 +97,7 @@ plays_track s marks run e track i item low is there legal uses =
     let now = with_poll s e.entry.state run in
     let x = uses.state in
     let p = uses.holds in
-    let same : state_for s now e.entry.state ≡ x = ap (λ (o : Option FastState). unwrap_or o (state_at (cycle_frames s) now.states now.current)) uses.is in
+    let same : state_for s now e.entry.state ≡ x = state_known s now e.entry.state x uses.is in
     let mixed = entry_mixed (Plays i item) (λ x p. p.mixes) s marks run e legal uses in
     let mixes = legal.cycle.mixes x uses.is mixed in
     let slot = mixes.tracks i low p.carried in

@@ -1,7 +1,6 @@
 -- The report that a turn finds: it is told by the entries of the round without the state that the turn pushes, and goes on from the one before the round all the same.
-use Rattle.std.proofs.Common.{◌≡◌, ◌⊎◌, inl, inr, ℕ, zero, suc, ◌≤◌, ◌<◌, ◌||◌, ◌&&◌, nat_le, if◌then◌else◌, unwrap_or, is_some, Bool, true, false, true≢false, Option, Some, None, List, [], ◌∷◌, ◌++◌, length, length-append, refl, sym, ap, ◌∙◌, subst, arith, append_assoc, append-nil}
+use Rattle.std.proofs.Common.{◌≡◌, ◌⊎◌, inl, inr, ℕ, ◌≤◌, ◌<◌, ◌||◌, ◌&&◌, if◌then◌else◌, unwrap_or, is_some, Bool, true, false, Option, Some, None, List, [], ◌∷◌, ◌++◌, length, length-append, refl, sym, ap, ◌∙◌, subst, arith, append_assoc, append-nil}
 use Rattle.std.proofs.lemmas.List.{take-append-drop}
-use Rattle.std.proofs.lemmas.Bool.{leb-true, le-leb}
 use Rattle.af_base.specs.declared.log.CycleEntry.{CycleEntry}
 use Rattle.af_base.specs.declared.report.Report.{Report}
 use Rattle.af_base.specs.declared.report.SlotReport.{SlotReport}
@@ -18,19 +17,19 @@ use Rattle.af_model.specs.StateQueue.{slot_of, carries}
 use Rattle.af_model.proofs.UsedStates.{last_used-push}
 use Rattle.af_runs.specs.Blocks.{BlockTold, Marks, HasBlockHistory, hand_list, is_tame, listed, server_list, client_list}
 use Rattle.af_runs.specs.Fronts.{is_shown, front_of}
-use Rattle.af_runs.specs.Rounds.{LegalEntries, LegalRound, early_count, early_of, late_of, before_turn, found_in, after_turn, met_after, after_round}
+use Rattle.af_runs.specs.Rounds.{LegalEntries, LegalRound, early_count, early_of, late_of, before_turn, after_turn, met_after, after_round}
 use Rattle.af_runs.specs.Runs.{Run, TrackTold, told_at, played, slot_for, state_for, plays, stream_of, known_of, next_slot, last_report, report_of, with_poll, with_looks, with_mix, with_cycle, with_cycles, with_calls}
 use Rattle.af_runs.specs.Sessions.{Session, cycle_frames}
 use Rattle.af_runs.specs.Told.{state_at}
-use Rattle.af_enough_law.specs.FastFlows.{AllUse, AllStates, Plays, slot_told, IsTold, LastCarries, IsShown, AllShown, Since, FlowsIn}
+use Rattle.af_enough_law.specs.FastFlows.{AllUse, AllStates, Plays, slot_told, IsTold, LastCarries, IsShown, AllShown, Since, FlowsIn, HasItem}
 use Rattle.af_enough_law.proofs.FastFlows.{cycle_later, later_both, Later, entries_take, cycles_later, plays_track, Lies, lies_before, entry_look}
-use Rattle.af_enough_law.proofs.FastReports.{slot_counts, last_more, calls_same, turned_same, slot_same, last_same, told_same, known_quiet}
+use Rattle.af_enough_law.proofs.FastReports.{slot_counts, last_more, calls_same, slot_same, last_same, told_same, known_quiet}
 use Rattle.af_enough_law.proofs.FastPolls.{calls_states, parts_use, fast_parts, use-append, turn_more}
 use Rattle.af_enough_law.proofs.FastRounds.{Quiet, over, ends_part}
 use Rattle.af_enough_law.proofs.FastTakes.{flowed, quiet_none, quiet_unshut}
 use Rattle.af_enough_law.proofs.FastSince.{Adds, known_more, since_number}
 use Rattle.af_enough_law.proofs.FastSteps.{cycle_states, cycle_length, cycle_track, mixed_stream, played_server, slot_only}
-use Rattle.af_enough_law.proofs.FastMixes.{uses_of, early_states, late_states}
+use Rattle.af_enough_law.proofs.FastMixes.{uses_of, early_states, late_states, Uses}
 use Rattle.af_enough_law.proofs.FastShows.{Setting, stands-more}
 use Rattle.af_enough_law.specs.Seen.{Stands}
 use Rattle.af_model.specs.ClientCalls.{IsClientList}
@@ -41,58 +40,11 @@ use Rattle.af_model.specs.Fates.{drops_none}
 use Rattle.af_model.specs.ServerCalls.{server_kept}
 use Rattle.af_base.specs.declared.event.ServerEvent.{ServerEvent}
 use Rattle.af_base.specs.declared.event.ClientEvent.{ClientEvent}
-
--- ## Numbers past the states
-
-pub state_none : (xs : List FastState) (k : ℕ) → length xs < k → state_of xs k ≡ None
-state_none xs zero far = absurd (let z : ⊥ = omega (arith, far) in z)
-state_none [] (suc k) far = refl
-state_none (x ∷ xs) (suc zero) far = absurd (let z : ⊥ = omega (arith, far) in z)
-state_none (x ∷ xs) (suc (suc k)) far = state_none xs (suc k) (omega (arith, far))
-
-same_or_less : (a b : ℕ) → (a ≤ b) ⊎ (b < a)
-same_or_less zero b = inl (omega arith)
-same_or_less (suc a) zero = inr (omega arith)
-same_or_less (suc a) (suc b) = by (same_or_less a b)
-  where
-    by : (a ≤ b) ⊎ (b < a) → (suc a ≤ suc b) ⊎ (suc b < suc a)
-    by (inl low) = inl (omega (arith, low))
-    by (inr far) = inr (omega (arith, far))
-
-same_or_more : (a b : ℕ) → a ≤ b → (b ≡ a) ⊎ (a < b)
-same_or_more zero zero low = inl refl
-same_or_more zero (suc b) low = inr (omega arith)
-same_or_more (suc a) zero low = absurd (let z : ⊥ = omega (arith, low) in z)
-same_or_more (suc a) (suc b) low = by (same_or_more a b (omega (arith, low)))
-  where
-    by : (b ≡ a) ⊎ (a < b) → (suc b ≡ suc a) ⊎ (suc a < suc b)
-    by (inl same) = inl (ap suc same)
-    by (inr more) = inr (omega (arith, more))
-
--- a number from that of the last state on counts as the last state
-pub falls_back : (frames : ℕ) (xs : List FastState) (x : FastState) (n k : ℕ) → length xs ≡ n → state_of xs n ≡ Some x → n ≤ k → unwrap_or (state_of xs k) (state_at frames xs n) ≡ x
-falls_back frames xs x n k long last low = by (same_or_more n k low)
-  where
-    by : (k ≡ n) ⊎ (n < k) → unwrap_or (state_of xs k) (state_at frames xs n) ≡ x
-    by (inl same) = ap (λ (m : ℕ). unwrap_or (state_of xs m) (state_at frames xs n)) same ∙ ap (λ (o : Option FastState). unwrap_or o (state_at frames xs n)) last
-    by (inr more) = ap (λ (o : Option FastState). unwrap_or o (state_at frames xs n)) (state_none xs k (omega (arith, more, long))) ∙ ap (λ (o : Option FastState). unwrap_or o (initial frames)) last
+use Rattle.af_runs.proofs.StatesFor.{known_some, polled_other, polled_pushed, polled_waits, state_known}
+use Rattle.af_enough_law.proofs.Commanding.{le_cases}
+use Rattle.af_life.specs.Kept.{NormalKept}
 
 -- ## One entry
-
-poll_by : (b : Bool) (k c n : ℕ) → (k ≤ n → b ≡ true) → (b ≡ true → k ≤ n) → n ≤ k → (c ≡ n) ⊎ (k ≡ n) → (if b then k else c) ≡ n
-poll_by true k c n is top low start = let high = top refl in omega (arith, high, low)
-poll_by false k c n is top low (inl same) = same
-poll_by false k c n is top low (inr same) = absurd (true≢false (sym (is (omega (arith, same)))))
-
--- the state adopted last stays that of the number
-pub poll_stays : (s : Session) (run : Run) (k n : ℕ) → length run.states ≡ n → n ≤ k → (run.current ≡ n) ⊎ (k ≡ n) → (with_poll s k run).current ≡ n
-unfolding with_poll
-poll_stays s run k n long low start =
-    poll_by (nat_le k (length run.states)) k run.current n (λ h. le-leb k (length run.states) (omega (arith, h, long))) (λ h. let a = leb-true k (length run.states) h in omega (arith, a, long)) low start
-
-pub poll_same : (s : Session) (run : Run) (k : ℕ) → ((with_poll s k run).states ≡ run.states) × ((with_poll s k run).entries ≡ run.entries) × ((with_poll s k run).tracks ≡ run.tracks) × ((with_poll s k run).reports ≡ run.reports)
-unfolding with_poll
-poll_same s run k = (refl, refl, refl, refl)
 
 pub cycle_current : (s : Session) (run : Run) (e : EntrySeen) → ((with_cycle s run e).current ≡ (with_poll s e.entry.state run).current) × ((with_cycle s run e).entries ≡ run.entries ++ e.entry ∷ [])
 unfolding with_poll with_mix
@@ -120,12 +72,25 @@ is_look seen.Empty is = refl
 is_look (seen.Flushed dropped) is = absurd is
 is_look (seen.Shut front rear) is = absurd is
 
--- what holds of a run in which the turn's state isn't pushed
-pub record FoundNow (s : Session) (track i : ℕ) (item : FastTrack) (x : FastState) (before : SlotReport) (n : ℕ) (run : Run) : Type 0 where
+-- a state that plays an item has it
+pub plays_item : (i : ℕ) (item : FastTrack) (x : FastState) → Plays i item x → HasItem i item x
+plays_item i item x p = record { carried = p.carried; is = p.is; only = p.only }
+
+-- the state that an entry counts as in such a run has the item
+pub record CountsAs (s : Session) (run : Run) (e : EntrySeen) (i : ℕ) (item : FastTrack) : Type 0 where
+  pub state : FastState
+  pub is : state_for s (with_poll s e.entry.state run) e.entry.state ≡ state
+  pub has : HasItem i item state
+
+-- what holds of a run in which the turn's state isn't pushed: both the last state and the draft have the item
+pub record FoundNow (s : Session) (track i : ℕ) (item : FastTrack) (before : SlotReport) (n : ℕ) (run : Run) : Type 0 where
   pub count : length run.states ≡ n
-  pub last : state_of run.states n ≡ Some x
+  pub some : 1 ≤ n
+  pub last : HasItem i item (state_at (cycle_frames s) run.states n)
+  pub draft : HasItem i item run.normal.draft
   pub there : track < length run.tracks
-  pub carried : carries (unwrap_or (state_of run.states (last_used run.entries)) (state_at (cycle_frames s) run.states n)) i ≡ true
+  pub used : 1 ≤ last_used run.entries
+  pub carried : carries (state_for s run (last_used run.entries)) i ≡ true
   pub told : IsTold run track i item
   pub since : Since before (slot_told run i) item
 
@@ -135,54 +100,50 @@ since_looks before run later track i item asked answer is more told since =
     let c = told.consumed in let d = since.consumed in let h = since.heard in let q = since.silent in
     subst (λ (r : SlotReport). Since before r item) (sym is) (record { generation = refl; heard = omega (arith, h); silent = omega (arith, q); consumed = omega (arith, c, d, more) })
 
-module _ (s : Session) (track i : ℕ) (item : FastTrack) (low : i < slots) (is : item.track ≡ track) (x : FastState) (p : Plays i item x) (before : SlotReport) (n : ℕ) where
-  -- the state that an entry counts as
-  pub counts_as : (run : Run) (e : EntrySeen) → FoundNow s track i item x before n run → n ≤ e.entry.state → (run.current ≡ n) ⊎ (e.entry.state ≡ n) → state_for s (with_poll s e.entry.state run) e.entry.state ≡ x
-  unfolding with_poll
-  counts_as run e f high start =
-      ap (λ (m : ℕ). unwrap_or (state_of run.states e.entry.state) (state_at (cycle_frames s) run.states m)) (poll_stays s run e.entry.state n f.count high start)
-      ∙ falls_back (cycle_frames s) run.states x n e.entry.state f.count f.last high
+module _ (s : Session) (track i : ℕ) (item : FastTrack) (low : i < slots) (is : item.track ≡ track) (before : SlotReport) (n : ℕ) where
+  pub counts_as : (run : Run) (e : EntrySeen) → FoundNow s track i item before n run → n ≤ e.entry.state → CountsAs s run e i item
+  counts_as run e f high = by (le_cases n e.entry.state high)
+    where
+      by : (e.entry.state ≡ n) ⊎ (n < e.entry.state) → CountsAs s run e i item
+      by (inl at) = record { state = state_at (cycle_frames s) run.states n; is = polled_pushed s run e.entry.state (let c = f.count in omega (arith, at, c)) ∙ ap (state_at (cycle_frames s) run.states) at; has = f.last }
+      by (inr above) = record { state = run.normal.draft; is = polled_waits s run e.entry.state (let c = f.count in omega (arith, above, c)); has = f.draft }
 
-  pub found_told : (run : Run) (e : EntrySeen) → FoundNow s track i item x before n run → n ≤ e.entry.state → (run.current ≡ n) ⊎ (e.entry.state ≡ n) → IsShown (entry_slot e.entry i).seen
+  pub found_told : (run : Run) (e : EntrySeen) → FoundNow s track i item before n run → n ≤ e.entry.state → IsShown (entry_slot e.entry i).seen
       → slot_told (with_cycle s run e) i ≡ counted_look (cycle_frames s) item.generation (entry_slot e.entry i).seen (known_of (listed (told_at (with_cycle s run e) track).stream)) (slot_told run i)
   unfolding with_poll with_mix
-  found_told run e f high start shows =
+  found_told run e f high shows =
       let now : Run = with_looks s e (with_poll s e.entry.state run) in
-      let track_is : (slot_of x i).track ≡ track = ap (λ (t : FastTrack). t.track) p.is ∙ is in
-      let current : now.current ≡ n = poll_stays s run e.entry.state n f.count high start in
-      let kept_on : carries (state_for s now (last_used run.entries)) i ≡ true =
-      ap (λ (m : ℕ). carries (unwrap_or (state_of run.states (last_used run.entries)) (state_at (cycle_frames s) run.states m)) i) current ∙ f.carried in
-      slot_counts s run e i low ∙ next_found s now e.entry (last_report run.reports).slots i x (counts_as run e f high start) p.carried (is_look (entry_slot e.entry i).seen shows) kept_on
-      ∙ ap (λ (g : ℕ × ℕ). counted_look (cycle_frames s) g.0 (entry_slot e.entry i).seen (known_of (listed (told_at now g.1).stream)) (slot_told run i)) (λ j. ((p.is j).generation, track_is j))
+      let c = counts_as run e f high in
+      let h = c.has in
+      let track_is : (slot_of c.state i).track ≡ track = ap (λ (t : FastTrack). t.track) h.is ∙ is in
+      let kept_on : carries (state_for s now (last_used run.entries)) i ≡ true = ap (λ (z : FastState). carries z i) (polled_other s run e.entry.state (last_used run.entries) f.used) ∙ f.carried in
+      slot_counts s run e i low ∙ next_found s now e.entry (last_report run.reports).slots i c.state c.is h.carried (is_look (entry_slot e.entry i).seen shows) kept_on
+      ∙ ap (λ (g : ℕ × ℕ). counted_look (cycle_frames s) g.0 (entry_slot e.entry i).seen (known_of (listed (told_at now g.1).stream)) (slot_told run i)) (λ j. ((h.is j).generation, track_is j))
 
-  pub found_next : (run : Run) (e : EntrySeen) → FoundNow s track i item x before n run → n ≤ e.entry.state → (run.current ≡ n) ⊎ (e.entry.state ≡ n) → IsShown (entry_slot e.entry i).seen
-      → FoundNow s track i item x before n (with_cycle s run e)
-  found_next run e f high start shows =
+  pub found_next : (run : Run) (e : EntrySeen) → FoundNow s track i item before n run → n ≤ e.entry.state → IsShown (entry_slot e.entry i).seen
+      → FoundNow s track i item before n (with_cycle s run e)
+  unfolding with_poll with_mix
+  found_next run e f high shows =
       let next = with_cycle s run e in
       let states = cycle_states s run e in
-      let t = found_told run e f high start shows in
+      let c = counts_as run e f high in
+      let h = c.has in
+      let t = found_told run e f high shows in
+      let used : last_used next.entries ≡ e.entry.state = ap last_used (cycle_current s run e).1 ∙ last_used-push run.entries e.entry in
       let more = known_more (told_at run track).stream (told_at next track).stream (cycle_later s run e track f.there) in
       record {
         count = ap length states ∙ f.count;
-        last = ap (λ l. state_of l n) states ∙ f.last;
+        some = f.some;
+        last = f.last;
+        draft = f.draft;
         there = (let a = cycle_length s run e in let b = f.there in omega (arith, a, b));
-        carried =
-            ap (λ (g : List FastState × ℕ). carries (unwrap_or (state_of g.0 g.1) (state_at (cycle_frames s) g.0 n)) i) (λ j. (states j, (ap last_used (cycle_current s run e).1 ∙ last_used-push run.entries e.entry) j))
-            ∙ ap (λ z. carries z i) (falls_back (cycle_frames s) run.states x n e.entry.state f.count f.last high) ∙ p.carried;
+        used = (let a = f.some in omega (arith, used, high, a));
+        carried = ap (λ (m : ℕ). carries (state_for s next m) i) used ∙ ap (λ (z : FastState). carries z i) c.is ∙ h.carried;
         told = record { generation = ap (λ (r : SlotReport). r.generation) t; consumed = ap (λ (r : SlotReport). r.consumed) t; shut = ap (λ (r : SlotReport). r.shut) t };
         since = since_looks before run next track i item (cycle_frames s) (entry_slot e.entry i).seen t more f.told f.since;
       }
 
 -- ## The entries of a round
-
--- the first of some entries is told under the state of the number
-abbrev pub Starts : ℕ → Run → List EntrySeen → Type 0
-Starts n run [] = Unit {0}
-Starts n run (e ∷ es) = (run.current ≡ n) ⊎ (e.entry.state ≡ n)
-
-pub starts_at : (n : ℕ) (run : Run) (es : List EntrySeen) → run.current ≡ n → Starts n run es
-starts_at n run [] same = tt
-starts_at n run (e ∷ es) same = inl same
 
 -- after each of some entries the server of a track isn't shut
 abbrev pub AllOpen : Session → ℕ → List EntrySeen → Run → Type 0
@@ -202,15 +163,14 @@ pub adds_one : (s : Session) (run : Run) (e : EntrySeen) → AddsOne run (with_c
 unfolding with_poll with_mix
 adds_one s run e = record { report = _; whole = refl }
 
-module _ (s : Session) (track i : ℕ) (item : FastTrack) (low : i < slots) (is : item.track ≡ track) (x : FastState) (p : Plays i item x) (before : SlotReport) (n high : ℕ) where
-  pub entries_found : (es : List EntrySeen) (run : Run) → FoundNow s track i item x before n run → AllUse n high es → AllShown i es → AllOpen s track es run → Starts n run es
+module _ (s : Session) (track i : ℕ) (item : FastTrack) (low : i < slots) (is : item.track ≡ track) (before : SlotReport) (n high : ℕ) where
+  pub entries_found : (es : List EntrySeen) (run : Run) → FoundNow s track i item before n run → AllUse n high es → AllShown i es → AllOpen s track es run
       → Adds run (with_cycles s es run) (λ r. FoundFor before (report_at r.slots i) item)
-  entries_found [] run f uses shows opens start = record { news = []; whole = sym (append-nil run.reports); each = tt }
-  entries_found (e ∷ es) run f uses shows opens start =
+  entries_found [] run f uses shows opens = record { news = []; whole = sym (append-nil run.reports); each = tt }
+  entries_found (e ∷ es) run f uses shows opens =
       let next = with_cycle s run e in
-      let now = found_next s track i item low is x p before n run e f uses.0 start shows.0 in
-      let current : next.current ≡ n = (cycle_current s run e).0 ∙ poll_stays s run e.entry.state n f.count uses.0 start in
-      let rest = entries_found es next now uses.2 shows.1 opens.1 (starts_at n next es current) in
+      let now = found_next s track i item low is before n run e f uses.0 shows.0 in
+      let rest = entries_found es next now uses.2 shows.1 opens.1 in
       let added = adds_one s run e in
       let slot : slot_told next i ≡ report_at added.report.slots i = ap (λ (l : List Report). report_at (last_report l).slots i) added.whole ∙ ap (λ (r : Report). report_at r.slots i) (last_more run.reports added.report) in
       let told = now.told in
@@ -229,13 +189,13 @@ listed_played asked e i b c same =
     played_server asked e i b ∙ ap (λ (l : Listed). l.events ++ cycle_events asked l (entry_slot e.entry i) (front_of asked l (entry_slot e.entry i))) same ∙ sym (played_server asked e i c) in
     λ j. record { shape = (same j).shape; events = list j }
 
-module _ (s : Session) (marks : Marks) (track i : ℕ) (item : FastTrack) (low : i < slots) (is : item.track ≡ track) (first after : Run) (states : AllStates first after (Plays i item)) (k : Shape) (cs : List ClientEvent) (all : List ServerEvent) (h : Setting k cs all) (count : ℕ) (x : FastState) (p : Plays i item x) (before : SlotReport) (n : ℕ) where
+module _ (s : Session) (marks : Marks) (track i : ℕ) (item : FastTrack) (low : i < slots) (is : item.track ≡ track) (first after : Run) (states : AllStates first after (Plays i item)) (k : Shape) (cs : List ClientEvent) (all : List ServerEvent) (h : Setting k cs all) (count : ℕ) (before : SlotReport) (n : ℕ) where
   -- the entries told in one run, and legal in another one that has the same list of the server
   pub entries_open : (high : ℕ) (es : List EntrySeen) (run : Run) (more : List FastState) → after.states ≡ run.states ++ more → high ≤ length run.states → track < length run.tracks → AllUse (length first.states) high es → LegalEntries s marks run es
       → Lies s marks track i item low is first after states k cs all h count (told_at (with_cycles s es run) track).stream → drops_none (server_list (told_at run track).stream) ≡ true → (server_kept k (server_list (told_at run track).stream)).shut ≡ None
-      → (told : Run) → FoundNow s track i item x before n told → AllUse n high es → AllShown i es → Starts n told es → listed (told_at told track).stream ≡ listed (told_at run track).stream → AllOpen s track es told
-  entries_open high [] run more whole top there uses legal lies none unshut told f used shows start same = tt
-  entries_open high (e ∷ es) run more whole top there uses legal lies none unshut told f used shows start same =
+      → (told : Run) → FoundNow s track i item before n told → AllUse n high es → AllShown i es → listed (told_at told track).stream ≡ listed (told_at run track).stream → AllOpen s track es told
+  entries_open high [] run more whole top there uses legal lies none unshut told f used shows same = tt
+  entries_open high (e ∷ es) run more whole top there uses legal lies none unshut told f used shows same =
       let next = with_cycle s run e in
       let later : Run = with_cycle s told e in
       let there' : track < length next.tracks = (let a = cycle_length s run e in omega (arith, a, there)) in
@@ -246,19 +206,19 @@ module _ (s : Session) (marks : Marks) (track i : ℕ) (item : FastTrack) (low :
       let l = look.2 in
       let none' = ap drops_none look.1 ∙ l.none in
       let unshut' : (server_kept k (server_list (told_at next track).stream)).shut ≡ None = ap (λ y. (server_kept k y).shut) look.1 ∙ l.unshut in
-      let track_is : (slot_of x i).track ≡ track = ap (λ (t : FastTrack). t.track) p.is ∙ is in
-      let only = slot_only x e track i low p.carried track_is (λ j less carried one. p.only j less carried (one ∙ sym is)) (is_look (entry_slot e.entry i).seen shows.0) in
-      let counts = counts_as s track i item low is x p before n told e f used.0 start in
+      let c = counts_as s track i item low is before n told e f used.0 in
+      let has = c.has in
+      let track_is : (slot_of c.state i).track ≡ track = ap (λ (t : FastTrack). t.track) has.is ∙ is in
+      let only = slot_only c.state e track i low has.carried track_is (λ j less carried one. has.only j less carried (one ∙ sym is)) (is_look (entry_slot e.entry i).seen shows.0) in
       let stream : (told_at later track).stream ≡ played (cycle_frames s) e i (told_at told track).stream =
-      ap (λ (t : TrackTold). t.stream) (cycle_track s told e track f.there) ∙ mixed_stream s (state_for s (with_poll s e.entry.state told) e.entry.state) e track i (told_at told track) (ap (λ (y : FastState). slot_for y e.entry track) counts ∙ only) in
+      ap (λ (t : TrackTold). t.stream) (cycle_track s told e track f.there) ∙ mixed_stream s (state_for s (with_poll s e.entry.state told) e.entry.state) e track i (told_at told track) (ap (λ (y : FastState). slot_for y e.entry track) c.is ∙ only) in
       let same' : listed (told_at later track).stream ≡ listed (told_at next track).stream =
       ap listed stream ∙ listed_played (cycle_frames s) e i (told_at told track).stream (told_at run track).stream same ∙ ap listed (sym plays.stream) in
-      let now = found_next s track i item low is x p before n told e f used.0 start shows.0 in
-      let current : later.current ≡ n = (cycle_current s told e).0 ∙ poll_stays s told e.entry.state n f.count used.0 start in
+      let now = found_next s track i item low is before n told e f used.0 shows.0 in
       let open_now : (kept (listed (told_at later track).stream)).shut ≡ None = ap (λ (y : Listed). (kept y).shut) same' ∙ ap (λ (z : Shape). (server_kept z (server_list (told_at next track).stream)).shut) lies'.shape ∙ unshut' in (
         open_now,
         entries_open high es next more (whole ∙ ap (λ y. y ++ more) (sym (cycle_states s run e))) (let a = ap length (cycle_states s run e) in omega arith) there' uses.2 legal.1 lies none' unshut'
-            later now used.2 shows.1 (starts_at n later es current) same',
+            later now used.2 shows.1 same',
       )
 
 open-append : (s : Session) (track : ℕ) (xs ys : List EntrySeen) (run : Run) → AllOpen s track xs run → AllOpen s track ys (with_cycles s xs run) → AllOpen s track (xs ++ ys) run
@@ -267,59 +227,30 @@ open-append s track (x ∷ xs) ys run a b = (a.0, open-append s track xs ys (wit
 
 -- ## The round
 
-pub last_low : (run : Run) (i : ℕ) → LastCarries run i → last_used run.entries ≤ length run.states
-last_low run i l = by (same_or_less (last_used run.entries) (length run.states))
-  where
-    by : (last_used run.entries ≤ length run.states) ⊎ (length run.states < last_used run.entries) → last_used run.entries ≤ length run.states
-    by (inl low) = low
-    by (inr far) = absurd (true≢false (sym (ap is_some l.is) ∙ ap is_some (state_none run.states (last_used run.entries) far)))
-
--- the first entry of a round is told under the state pushed last
-pub starts_by : (s : Session) (marks : Marks) (called turn : Run) (early late : List EntrySeen) (n high : ℕ) → AllUse n n early → AllUse n high late → LegalEntries s marks turn late → turn.entries ≡ (with_cycles s early called).entries
-    → last_used called.entries ≤ n → called.current ≡ last_used called.entries → Starts n called (early ++ late)
-starts_by s marks called turn (e ∷ early) late n high first last legal same low current = inr (let a = first.0 in let b = first.1 in omega (arith, a, b))
-starts_by s marks called turn [] [] n high first last legal same low current = tt
-starts_by s marks called turn [] (e ∷ late) n high first last legal same low current = by (same_or_more n e.entry.state last.0)
-  where
-    entries : (with_poll s e.entry.state turn).entries ≡ called.entries
-    entries = (poll_same s turn e.entry.state).1 ∙ same
-
-    by : (e.entry.state ≡ n) ⊎ (n < e.entry.state) → (called.current ≡ n) ⊎ (e.entry.state ≡ n)
-    by (inl is) = inr is
-    by (inr more) = inl (let a = legal.0.cycle.follows.1 in let b = ap last_used entries in omega (arith, a, b, more, low, current))
-
 pub use-up : (low high higher : ℕ) (es : List EntrySeen) → high ≤ higher → AllUse low high es → AllUse low higher es
 use-up low high higher [] more h = tt
 use-up low high higher (e ∷ es) more h = let a = h.1 in (h.0, omega (arith, a, more), use-up low high higher es more h.2)
 
-pub calls_current : (round : RoundSeen) (run : Run) → (with_calls round run).current ≡ run.current
+pub calls_current : (round : RoundSeen) (run : Run) → ((with_calls round run).current ≡ run.current) × ((with_calls round run).normal ≡ run.normal)
 unfolding with_calls
-calls_current round run = refl
+calls_current round run = (refl, refl)
 
 quiet_kept : (b later : BlockTold) → Quiet b later → (kept (listed b)).shut ≡ None → (kept (listed later)).shut ≡ None
 quiet_kept b later q unshut = quiet_unshut b later q later.shape (ap (λ (z : Shape). (server_kept z (server_list b)).shut) q.is_later.shape ∙ unshut)
-
-pub starts_head : (n : ℕ) (run : Run) (xs ys : List EntrySeen) → Starts n run (xs ++ ys) → Starts n run xs
-starts_head n run [] ys h = tt
-starts_head n run (x ∷ xs) ys h = h
 
 shown-parts : (i : ℕ) (xs ys : List EntrySeen) → AllShown i (xs ++ ys) → AllShown i xs × AllShown i ys
 shown-parts i [] ys h = (tt, h)
 shown-parts i (x ∷ xs) ys h = let rest = shown-parts i xs ys h.1 in ((h.0, rest.0), rest.1)
 
-module _ (s : Session) (track i : ℕ) (item : FastTrack) (low : i < slots) (is : item.track ≡ track) (x : FastState) (p : Plays i item x) (before : SlotReport) (n high : ℕ) where
-  found_after : (es late : List EntrySeen) (run : Run) → FoundNow s track i item x before n run → AllUse n high es → AllShown i es → Starts n run (es ++ late) → FoundNow s track i item x before n (with_cycles s es run) × Starts n (with_cycles s es run) late
-  found_after [] late run f uses shows start = (f, start)
-  found_after (e ∷ es) late run f uses shows start =
-      let next = with_cycle s run e in
-      let now = found_next s track i item low is x p before n run e f uses.0 start shows.0 in
-      let current : next.current ≡ n = (cycle_current s run e).0 ∙ poll_stays s run e.entry.state n f.count uses.0 start in
-      found_after es late next now uses.2 shows.1 (starts_at n next (es ++ late) current)
+module _ (s : Session) (track i : ℕ) (item : FastTrack) (low : i < slots) (is : item.track ≡ track) (before : SlotReport) (n high : ℕ) where
+  found_after : (es : List EntrySeen) (run : Run) → FoundNow s track i item before n run → AllUse n high es → AllShown i es → FoundNow s track i item before n (with_cycles s es run)
+  found_after [] run f uses shows = f
+  found_after (e ∷ es) run f uses shows = found_after es (with_cycle s run e) (found_next s track i item low is before n run e f uses.0 shows.0) uses.2 shows.1
 
 -- after each entry of the round, told without the turn, the server is open
-opens_of : (s : Session) (marks : Marks) (run : Run) (round : RoundSeen) (track i : ℕ) (item : FastTrack) (x : FastState) (p : Plays i item x) (base : SlotReport) → LegalRound false s marks run round → FlowsIn s run round track i item → AllShown i (early_of run round ++ late_of run round)
-    → FoundNow s track i item x base (length run.states) (with_calls round run) → Starts (length run.states) (with_calls round run) (early_of run round ++ late_of run round) → AllOpen s track (early_of run round ++ late_of run round) (with_calls round run)
-opens_of s marks run round track i item x p base legal f shows start starts =
+opens_of : (s : Session) (marks : Marks) (run : Run) (round : RoundSeen) (track i : ℕ) (item : FastTrack) (base : SlotReport) → LegalRound false s marks run round → FlowsIn s run round track i item → AllShown i (early_of run round ++ late_of run round)
+    → FoundNow s track i item base (length run.states) (with_calls round run) → AllOpen s track (early_of run round ++ late_of run round) (with_calls round run)
+opens_of s marks run round track i item base legal f shows start =
     let o = over s run round track f.there in
     let parts = fast_parts s marks run round legal f.fast in
     let uses = parts_use s marks run round legal f.fast f.knows_states in
@@ -364,19 +295,34 @@ opens_of s marks run round track i item x p base legal f shows start starts =
     let early = entries_take s marks track i item f.slot f.item_is run after f.states k cs (server_list b5) h n (length run.states) (early_of run round) called first.more first.whole
     long o.first uses.early parts.early lies2 none1 unshut1 learnt1 in
     let shown = shown-parts i (early_of run round) (late_of run round) shows in
-    let then_now = found_after s track i item f.slot f.item_is x p base (length run.states) (length run.states) (early_of run round) (late_of run round) called start uses.early shown.0 starts in
+    let then_now = found_after s track i item f.slot f.item_is base (length run.states) (length run.states) (early_of run round) called start uses.early shown.0 in
     let to_turn : listed b2 ≡ listed b3 = λ j. record { shape = sym o.turn.shape j; events = sym f.lent j } in
-    let a = entries_open s marks track i item f.slot f.item_is run after f.states k cs (server_list b5) h n x p base (length run.states) (length run.states) (early_of run round) called first.more first.whole long o.first uses.early parts.early lies2 none1 unshut1
-    called start uses.early shown.0 (starts_head (length run.states) called (early_of run round) (late_of run round) starts) refl in
-    let b = entries_open s marks track i item f.slot f.item_is run after f.states k cs (server_list b5) h n x p base (length run.states) (length turn.states) (late_of run round) turn last.more last.whole (omega arith) o.last uses.late parts.late lies4
-    (ap drops_none f.lent ∙ early.none) (ap (λ l. (server_kept k l).shut) f.lent ∙ early.unshut) before then_now.0 uses.late shown.1 then_now.1 to_turn in
+    let a = entries_open s marks track i item f.slot f.item_is run after f.states k cs (server_list b5) h n base (length run.states) (length run.states) (early_of run round) called first.more first.whole long o.first uses.early parts.early lies2 none1 unshut1
+    called start uses.early shown.0 refl in
+    let b = entries_open s marks track i item f.slot f.item_is run after f.states k cs (server_list b5) h n base (length run.states) (length turn.states) (late_of run round) turn last.more last.whole (omega arith) o.last uses.late parts.late lies4
+    (ap drops_none f.lent ∙ early.none) (ap (λ l. (server_kept k l).shut) f.lent ∙ early.unshut) before then_now uses.late shown.1 to_turn in
     open-append s track (early_of run round) (late_of run round) called a b
+
+-- before the entries of a round
+pub found_first : (s : Session) (run : Run) (track i : ℕ) (item : FastTrack) (before : SlotReport) (n : ℕ) → length run.states ≡ n → Uses (Plays i item) run.states n → HasItem i item run.normal.draft → track < length run.tracks → LastCarries run i → IsTold run track i item → Since before (slot_told run i) item
+    → FoundNow s track i item before n run
+found_first s run track i item before n long u draft there last told since = record {
+  count = long;
+  some = known_some run.states n u.state u.is;
+  last = subst (HasItem i item) (sym (ap (λ (o : Option FastState). unwrap_or o (initial (cycle_frames s))) u.is)) (plays_item i item u.state u.holds);
+  draft = draft;
+  there = there;
+  used = known_some run.states (last_used run.entries) last.state last.is;
+  carried = ap (λ (z : FastState). carries z i) (state_known s run (last_used run.entries) last.state last.is) ∙ last.carried;
+  told = told;
+  since = since;
+}
 
 -- The report that the turn of a round finds goes on from the one before the round, and says that the server is open
 pub found_pushed : (s : Session) (marks : Marks) (run : Run) (round : RoundSeen) (track i : ℕ) (item : FastTrack) (m : ℕ) → LegalRound false s marks run round → FlowsIn s run round track i item → LastCarries run i → IsTold run track i item
-    → run.current ≡ last_used run.entries → length run.reports ≤ m → m ≤ length (with_cycles s round.entries (with_calls round run)).reports
+    → HasItem i item run.normal.draft → length run.reports ≤ m → m ≤ length (with_cycles s round.entries (with_calls round run)).reports
     → FoundFor (slot_told run i) (report_at (report_of (with_cycles s round.entries (with_calls round run)).reports m).slots i) item
-found_pushed s marks run round track i item m legal f last told current low high =
+found_pushed s marks run round track i item m legal f last told draft low high =
     let o = over s run round track f.there in
     let parts = fast_parts s marks run round legal f.fast in
     let uses = parts_use s marks run round legal f.fast f.knows_states in
@@ -391,7 +337,7 @@ found_pushed s marks run round track i item m legal f last told current low high
     let long : length called.states ≡ n = ap length (calls_states round run) in
     let u = uses_of (Plays i item) run after called n f.states first.more first.whole (omega arith) (omega (arith, long)) in
     let c1 = calls_same round run in
-    let c2 = turned_same s (found_in s run round) round.turn (before_turn s run round) in
+    let draft' : HasItem i item called.normal.draft = subst (λ (m : NormalKept). HasItem i item m.draft) (sym (calls_current round run).1) draft in
     let slot1 : slot_told called i ≡ base = slot_same run called i c1 in
     let last1 = last_same run called i c1 last in
     let since1 : Since base (slot_told called i) item =
@@ -401,22 +347,13 @@ found_pushed s marks run round track i item m legal f last told current low high
       since = since1;
       unshut = told1.shut ∙ ap (λ (p : Option (ℕ × ℕ)). is_some p) (quiet_kept (told_at run track).stream (told_at called track).stream o.calls f.is_open.unshut);
     } in
-    let start : FoundNow s track i item u.state base n called = record {
-      count = long;
-      last = u.is;
-      there = o.first;
-      carried = ap (λ (p : Option FastState). carries (unwrap_or p (state_at (cycle_frames s) called.states n)) i) last1.is ∙ last1.carried;
-      told = told1;
-      since = since1;
-    } in
+    let start : FoundNow s track i item base n called = found_first s called track i item base n long u draft' o.first last1 told1 since1 in
     let fl = flowed s marks run round track i item legal f in
     let cut : early_of run round ++ late_of run round ≡ round.entries = take-append-drop (early_count run round) round.entries in
     let early : AllUse n top (early_of run round) = use-up n n top (early_of run round) (let a = ap length (turn_more s run round).whole in let b = length-append run.states (turn_more s run round).more in omega (arith, a, b)) uses.early in
     let both : AllUse n top (early_of run round ++ late_of run round) = use-append n top (early_of run round) (late_of run round) early uses.late in
     let shows : AllShown i (early_of run round ++ late_of run round) = subst (AllShown i) (sym cut) fl.shown in
-    let starts = starts_by s marks called turn (early_of run round) (late_of run round) n top uses.early uses.late parts.late c2.entries
-    (let a = last_low run i last in let b = ap last_used c1.entries in omega (arith, a, b)) (calls_current round run ∙ current ∙ ap last_used (sym c1.entries)) in
-    let opens : AllOpen s track (early_of run round ++ late_of run round) called = opens_of s marks run round track i item u.state u.holds base legal f shows start starts in
-    let adds = entries_found s track i item f.slot f.item_is u.state u.holds base n top (early_of run round ++ late_of run round) called start both shows opens starts in
+    let opens : AllOpen s track (early_of run round ++ late_of run round) called = opens_of s marks run round track i item base legal f shows start in
+    let adds = entries_found s track i item f.slot f.item_is base n top (early_of run round ++ late_of run round) called start both shows opens in
     let adds' : Adds called (with_cycles s round.entries called) (λ r. FoundFor base (report_at r.slots i) item) = subst (λ es. Adds called (with_cycles s es called) (λ r. FoundFor base (report_at r.slots i) item)) cut adds in
     since_number called (with_cycles s round.entries called) (λ r. FoundFor base (report_at r.slots i) item) m adds' good1 (let a = ap length c1.reports in omega (arith, a, low)) high

@@ -17,8 +17,8 @@ use Rattle.af_model.specs.StateQueue.{MutatorPoint, QueuePoint, mutator_start, m
 use Rattle.af_runs.specs.Blocks.{Marks}
 use Rattle.af_runs.specs.Clients.{ends}
 use Rattle.af_runs.specs.Found.{TurnFound}
-use Rattle.af_runs.specs.Rounds.{most_cycles, IsFastTurn, LegalEntry, LegalEntries, LegalRound, early_of, late_of, before_turn, found_in, turned, after_turn, loaded, all_played, met_after, after_round}
-use Rattle.af_runs.specs.Runs.{Run, with_calls, with_poll, with_mix, with_cycle, with_cycles, with_turn, with_load, with_ends, met, each_track, fast_ended}
+use Rattle.af_runs.specs.Rounds.{IsFastTurn, LegalEntry, LegalEntries, LegalRound, early_of, late_of, before_turn, found_in, turned, after_turn, loaded, all_played, met_after, after_round}
+use Rattle.af_runs.specs.Runs.{Run, with_calls, with_poll, with_mix, with_cycle, with_cycles, with_turn, with_load, with_ends, met, each_track, fast_ended, most_cycles}
 use Rattle.af_runs.specs.Sessions.{Session, cycle_frames}
 use Rattle.af_runs.specs.Told.{Item, QueueTold, state_at, items_of, poll_events, HasQueueHistory}
 use Rattle.af_enough_law.specs.Seen.{Stands}

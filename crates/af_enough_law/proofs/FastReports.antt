@@ -1,5 +1,5 @@
 -- What the reports of a round tell of a slot.
-use Rattle.std.proofs.Common.{◌≡◌, ◌⊎◌, inl, inr, ℕ, zero, suc, ◌+◌, ◌≤◌, ◌<◌, ◌==◌, ◌||◌, not, if◌then◌else◌, unwrap_or, is_some, Bool, true, false, true≢false, Option, Some, None, List, [], ◌∷◌, ◌++◌, length, refl, sym, ap, ◌∙◌, arith, append-nil, append_assoc, length-append, min}
+use Rattle.std.proofs.Common.{◌≡◌, ◌⊎◌, inl, inr, ℕ, zero, suc, ◌+◌, ◌≤◌, ◌<◌, ◌==◌, ◌||◌, not, if◌then◌else◌, is_some, Bool, true, false, true≢false, Option, Some, None, List, [], ◌∷◌, ◌++◌, length, refl, sym, ap, ◌∙◌, arith, append-nil, append_assoc, length-append, min}
 use Rattle.std.proofs.lemmas.Grind.{fold-append}
 use Rattle.std.proofs.lemmas.List.{take-append-drop}
 use Rattle.std.proofs.lemmas.List.FromFn.{get_or-map-range_with_len}
@@ -27,13 +27,13 @@ use Rattle.af_runs.specs.Rounds.{LegalRound, early_count, early_of, late_of, bef
 use Rattle.af_runs.specs.Blocks.{BlockTold, Marks, listed, client_list, server_list}
 use Rattle.af_runs.specs.Runs.{Run, TrackTold, told_at, state_for, plays, stream_of, known_of, next_slot, last_report, with_poll, with_looks, with_mix, with_cycle, with_cycles, with_calls, with_turn, with_load, met, with_ends, each_track, fast_ended}
 use Rattle.af_runs.specs.Sessions.{Session, cycle_frames}
-use Rattle.af_runs.specs.Told.{state_at}
 use Rattle.af_enough_law.specs.FastFlows.{AllUse, AllStates, Plays, slot_told, IsTold, LastCarries, heard_by, silent_by, heard_in, silent_in, Counted, FlowsIn, Flowed, Reported, taken_in, IsShown, AllShown, frames_left_in, KnowsStates}
 use Rattle.af_enough_law.specs.Seen.{frames_put}
 use Rattle.af_enough_law.proofs.FastMixes.{Uses, uses_of, mixes_all, early_states, late_states}
 use Rattle.af_enough_law.proofs.FastPolls.{turned_states, calls_states, parts_use}
 use Rattle.af_enough_law.proofs.FastRounds.{Quiet, over, loaded_told}
 use Rattle.af_enough_law.proofs.FastSteps.{cycle_states}
+use Rattle.af_runs.proofs.StatesFor.{state_known}
 
 -- ## One entry
 
@@ -69,16 +69,12 @@ slot_counts s run e i low =
     ap (λ (r : Report). report_at r.slots i) (last_more run.reports _)
     ∙ get_or-map-range_with_len (next_slot s now e.entry (last_report run.reports).slots) 0 slots i i no_slot low (omega arith)
 
--- a number's state
-state_for_is : (s : Session) (run : Run) (k : ℕ) (x : FastState) → state_of run.states k ≡ Some x → state_for s run k ≡ x
-state_for_is s run k x is = ap (λ (o : Option FastState). unwrap_or o (state_at (cycle_frames s) run.states run.current)) is
-
 -- the slot of a state that carries it
 next_is : (s : Session) (run : Run) (entry : CycleEntry) (before : List SlotReport) (i : ℕ) (x : FastState) → state_of run.states entry.state ≡ Some x → carries x i ≡ true
     → next_slot s run entry before i ≡ counted_look (cycle_frames s) (slot_of x i).generation (entry_slot entry i).seen (known_of (listed (stream_of run x i))) (if carries (state_for s run (last_used run.entries)) i then report_at before i else no_slot)
 next_is s run entry before i x is carried =
     let y : FastState = state_for s run (last_used run.entries) in
-    let same = state_for_is s run entry.state x is in
+    let same = state_known s run entry.state x is in
     ap (λ (o : Option FastState). if is_some o || plays (state_for s run entry.state) entry i then slot_report (cycle_frames s) (Some (state_for s run entry.state)) (Some y) entry (known_of (listed (stream_of run (state_for s run entry.state) i))) i (report_at before i) else report_at before i) is
     ∙ ap (λ (z : FastState). slot_report (cycle_frames s) (Some z) (Some y) entry (known_of (listed (stream_of run z i))) i (report_at before i)) same
     ∙ ap (λ (b : Bool). if b then counted_look (cycle_frames s) (slot_of x i).generation (entry_slot entry i).seen (known_of (listed (stream_of run x i))) (if carries y i then report_at before i else no_slot) else report_at before i) carried
@@ -117,7 +113,7 @@ entry_told s run e track i item low is uses =
     shape ∙ ap (λ (g : ℕ × ℕ). counted_look (cycle_frames s) g.0 (entry_slot e.entry i).seen (known_of (listed (told_at now g.1).stream)) (if carries (state_for s now (last_used run.entries)) i then slot_told run i else no_slot)) (λ j. ((p.is j).generation, track_is j)) in
     told_by s run next track i item e (carries (state_for s now (last_used run.entries)) i)
     (record { state = x; is = ap (state_of run.states) (last_used-push run.entries e.entry) ∙ uses.is; carried = p.carried })
-    (λ l. ap (λ (z : FastState). carries z i) (state_for_is s now (last_used run.entries) l.state l.is) ∙ l.carried) whole
+    (λ l. ap (λ (z : FastState). carries z i) (state_known s now (last_used run.entries) l.state l.is) ∙ l.carried) whole
 
 -- ## Some entries
 

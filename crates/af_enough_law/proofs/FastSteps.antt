@@ -14,11 +14,12 @@ use Rattle.af_model.specs.History.{Moment, by_client, by_server, by_hand, client
 use Rattle.af_model.specs.Journals.{EntrySeen}
 use Rattle.af_model.specs.Order.{one, two, ones, twos}
 use Rattle.af_model.specs.StateQueue.{slot_of, carries}
-use Rattle.af_runs.specs.Blocks.{BlockTold, client_list, server_list, listed, server_does, client_does, hand_does}
+use Rattle.af_runs.specs.Blocks.{BlockTold, client_list, server_list, listed, server_does, client_does, hand_does, Marks}
 use Rattle.af_runs.specs.Fronts.{front_of, is_shown}
 use Rattle.af_runs.specs.Runs.{Run, TrackTold, no_track, told_at, each_from, each_track, plays, slot_for, played, mixed_track, state_for, with_poll, with_mix, with_cycle, with_cycles}
 use Rattle.af_runs.specs.Sessions.{Session, cycle_frames}
 use Rattle.af_runs.specs.Told.{Item, QueueTold, poll_events, mutator_does, observer_does}
+use Rattle.af_runs.specs.Rounds.{LegalEntry}
 
 -- ## Blocks
 
@@ -157,6 +158,16 @@ cycle_states s run e = refl
 pub cycles_states : (s : Session) (es : List EntrySeen) (run : Run) → (with_cycles s es run).states ≡ run.states
 cycles_states s [] run = refl
 cycles_states s (e ∷ es) run = cycles_states s es (with_cycle s run e) ∙ cycle_states s run e
+
+-- a legal entry's state was pushed
+pub entry_pushed : (s : Session) (marks : Marks) (run : Run) (e : EntrySeen) → LegalEntry s marks (with_poll s e.entry.state run) e → e.entry.state ≤ length run.states
+unfolding with_poll
+entry_pushed s marks run e legal = legal.cycle.pushed
+
+-- and the draft
+pub cycle_draft : (s : Session) (run : Run) (e : EntrySeen) → (with_cycle s run e).normal.draft ≡ run.normal.draft
+unfolding with_poll with_mix
+cycle_draft s run e = refl
 
 pub cycle_queue : (s : Session) (run : Run) (e : EntrySeen) → twos (with_cycle s run e).queue ≡ twos run.queue ++ poll_events (cycle_frames s) run.states run.current e.entry.state
 unfolding with_poll with_mix

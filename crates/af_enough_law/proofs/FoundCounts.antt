@@ -1,29 +1,26 @@
 -- The report that a turn finds of a slot counts no more looks that showed frames than the last report of its round.
-use Rattle.std.proofs.Common.{◌≡◌, ℕ, ◌+◌, ◌≤◌, ◌<◌, unwrap_or, false, Option, List, [], ◌∷◌, ◌++◌, length, sym, ap, ◌∙◌, subst, arith, append_assoc, append-nil}
+use Rattle.std.proofs.Common.{◌≡◌, ℕ, ◌+◌, ◌≤◌, ◌<◌, false, List, [], ◌∷◌, ◌++◌, length, sym, ap, ◌∙◌, subst, arith, append_assoc, append-nil}
 use Rattle.std.proofs.lemmas.List.{take-append-drop}
 use Rattle.af_base.specs.declared.report.Report.{Report}
 use Rattle.af_base.specs.declared.report.SlotReport.{SlotReport}
-use Rattle.af_base.specs.declared.state.FastState.{FastState}
 use Rattle.af_base.specs.declared.state.FastTrack.{FastTrack}
 use Rattle.af_base.specs.Log.{slots, entry_slot}
-use Rattle.af_model.specs.Cycles.{last_used}
 use Rattle.af_model.specs.Journals.{EntrySeen, RoundSeen}
 use Rattle.af_model.specs.Reports.{report_at}
-use Rattle.af_model.specs.StateQueue.{carries}
 use Rattle.af_runs.specs.Blocks.{Marks}
-use Rattle.af_runs.specs.Rounds.{LegalRound, early_count, early_of, late_of, before_turn, found_in, after_turn, after_round}
+use Rattle.af_runs.specs.Rounds.{LegalRound, early_count, early_of, late_of, after_turn, after_round}
 use Rattle.af_runs.specs.Runs.{Run, told_at, last_report, report_of, with_calls, with_cycle, with_cycles}
 use Rattle.af_runs.specs.Sessions.{Session, cycle_frames}
-use Rattle.af_runs.specs.Told.{state_at}
-use Rattle.af_enough_law.specs.FastFlows.{AllUse, Plays, AllShown, LastCarries, IsTold, Since, FlowsIn, slot_told, heard_by, heard_in}
-use Rattle.af_enough_law.proofs.FastFound.{FoundNow, found_next, found_told, Starts, starts_at, starts_by, poll_stays, cycle_current, adds_one, last_low, calls_current, use-up}
+use Rattle.af_enough_law.specs.FastFlows.{AllUse, Plays, AllShown, LastCarries, IsTold, Since, FlowsIn, slot_told, heard_by, heard_in, HasItem}
+use Rattle.af_enough_law.proofs.FastFound.{FoundNow, found_next, found_told, adds_one, calls_current, use-up, found_first}
 use Rattle.af_enough_law.proofs.FastMixes.{uses_of, early_states}
-use Rattle.af_enough_law.proofs.FastPolls.{calls_states, parts_use, fast_parts, use-append, turn_more}
-use Rattle.af_enough_law.proofs.FastReports.{heard_one, last_more, reported, calls_same, turned_same, slot_same, last_same, told_same, known_quiet}
+use Rattle.af_enough_law.proofs.FastPolls.{calls_states, parts_use, use-append, turn_more}
+use Rattle.af_enough_law.proofs.FastReports.{heard_one, last_more, reported, calls_same, slot_same, last_same, told_same, known_quiet}
 use Rattle.af_enough_law.proofs.FastRounds.{over}
 use Rattle.af_enough_law.proofs.FastSince.{Adds, AllReports, since_number}
 use Rattle.af_enough_law.proofs.FastTakes.{flowed}
 use Rattle.std.proofs.lemmas.List.{length-append}
+use Rattle.af_life.specs.Kept.{NormalKept}
 
 -- the looks that showed frames, by a report
 abbrev pub shown_looks : SlotReport → ℕ
@@ -33,17 +30,16 @@ all_weaker : (P Q : Report → Type 0) (rs : List Report) → ((r : Report) → 
 all_weaker P Q [] f h = tt
 all_weaker P Q (r ∷ rs) f h = (f r h.0, all_weaker P Q rs f h.1)
 
-module _ (s : Session) (track i : ℕ) (item : FastTrack) (low : i < slots) (is : item.track ≡ track) (x : FastState) (p : Plays i item x) (before : SlotReport) (n high : ℕ) where
+module _ (s : Session) (track i : ℕ) (item : FastTrack) (low : i < slots) (is : item.track ≡ track) (before : SlotReport) (n high : ℕ) where
   -- each report that is found counts no more than the looks so far and those of the entries
-  pub entries_count : (es : List EntrySeen) (run : Run) → FoundNow s track i item x before n run → AllUse n high es → AllShown i es → Starts n run es
+  pub entries_count : (es : List EntrySeen) (run : Run) → FoundNow s track i item before n run → AllUse n high es → AllShown i es
       → Adds run (with_cycles s es run) (λ r. shown_looks (report_at r.slots i) ≤ shown_looks (slot_told run i) + heard_in i es)
-  entries_count [] run f uses shows start = record { news = []; whole = sym (append-nil run.reports); each = tt }
-  entries_count (e ∷ es) run f uses shows start =
+  entries_count [] run f uses shows = record { news = []; whole = sym (append-nil run.reports); each = tt }
+  entries_count (e ∷ es) run f uses shows =
       let next = with_cycle s run e in
-      let now = found_next s track i item low is x p before n run e f uses.0 start shows.0 in
-      let told = found_told s track i item low is x p before n run e f uses.0 start shows.0 in
-      let current = (cycle_current s run e).0 ∙ poll_stays s run e.entry.state n f.count uses.0 start in
-      let rest = entries_count es next now uses.2 shows.1 (starts_at n next es current) in
+      let now = found_next s track i item low is before n run e f uses.0 shows.0 in
+      let told = found_told s track i item low is before n run e f uses.0 shows.0 in
+      let rest = entries_count es next now uses.2 shows.1 in
       let added = adds_one s run e in
       let slot : slot_told next i ≡ report_at added.report.slots i = ap (λ (l : List Report). report_at (last_report l).slots i) added.whole ∙ ap (λ (r : Report). report_at r.slots i) (last_more run.reports added.report) in
       let fulls = ap (λ (r : SlotReport). r.fulls) told in
@@ -62,11 +58,10 @@ module _ (s : Session) (track i : ℕ) (item : FastTrack) (low : i < slots) (is 
 
 -- The report that the turn of a round finds of a track that flows
 pub found_most : (s : Session) (marks : Marks) (run : Run) (round : RoundSeen) (track i : ℕ) (item : FastTrack) (m : ℕ) → LegalRound false s marks run round → FlowsIn s run round track i item → LastCarries run i → IsTold run track i item
-    → run.current ≡ last_used run.entries → length run.reports ≤ m → m ≤ length (with_cycles s round.entries (with_calls round run)).reports
+    → HasItem i item run.normal.draft → length run.reports ≤ m → m ≤ length (with_cycles s round.entries (with_calls round run)).reports
     → shown_looks (report_at (report_of (with_cycles s round.entries (with_calls round run)).reports m).slots i) ≤ shown_looks (slot_told (after_round s run round) i)
-found_most s marks run round track i item m legal f last told current low high =
+found_most s marks run round track i item m legal f last told draft low high =
     let o = over s run round track f.there in
-    let parts = fast_parts s marks run round legal f.fast in
     let uses = parts_use s marks run round legal f.fast f.knows_states in
     let after : Run = after_round s run round in
     let called : Run = with_calls round run in
@@ -78,26 +73,17 @@ found_most s marks run round track i item m legal f last told current low high =
     let long : length called.states ≡ n = ap length (calls_states round run) in
     let u = uses_of (Plays i item) run after called n f.states first.more first.whole (omega arith) (omega (arith, long)) in
     let c1 = calls_same round run in
-    let c2 = turned_same s (found_in s run round) round.turn (before_turn s run round) in
+    let draft' : HasItem i item called.normal.draft = subst (λ (m : NormalKept). HasItem i item m.draft) (sym (calls_current round run).1) draft in
     let slot1 : slot_told called i ≡ base = slot_same run called i c1 in
     let last1 = last_same run called i c1 last in
     let since1 : Since base (slot_told called i) item = subst (λ (r : SlotReport). Since base r item) (sym slot1) (record { generation = told.generation; heard = omega arith; silent = omega arith; consumed = omega arith }) in
     let told1 : IsTold called track i item = told_same run called track i item c1 (known_quiet (told_at run track).stream (told_at called track).stream o.calls) told in
-    let start : FoundNow s track i item u.state base n called = record {
-      count = long;
-      last = u.is;
-      there = o.first;
-      carried = ap (λ (p : Option FastState). carries (unwrap_or p (state_at (cycle_frames s) called.states n)) i) last1.is ∙ last1.carried;
-      told = told1;
-      since = since1;
-    } in
+    let start : FoundNow s track i item base n called = found_first s called track i item base n long u draft' o.first last1 told1 since1 in
     let fl = flowed s marks run round track i item legal f in
     let cut : early_of run round ++ late_of run round ≡ round.entries = take-append-drop (early_count run round) round.entries in
     let early : AllUse n top (early_of run round) = use-up n n top (early_of run round) (let a = ap length (turn_more s run round).whole in let b = length-append run.states (turn_more s run round).more in omega (arith, a, b)) uses.early in
     let both : AllUse n top round.entries = subst (AllUse n top) cut (use-append n top (early_of run round) (late_of run round) early uses.late) in
-    let starts : Starts n called round.entries = subst (Starts n called) cut (starts_by s marks called turn (early_of run round) (late_of run round) n top uses.early uses.late parts.late c2.entries
-    (let a = last_low run i last in let b = ap last_used c1.entries in omega (arith, a, b)) (calls_current round run ∙ current ∙ ap last_used (sym c1.entries))) in
-    let adds = entries_count s track i item f.slot f.item_is u.state u.holds base n top round.entries called start both fl.shown starts in
+    let adds = entries_count s track i item f.slot f.item_is base n top round.entries called start both fl.shown in
     let first_few : shown_looks (slot_told called i) ≤ shown_looks (slot_told called i) + heard_in i round.entries = omega arith in
     let most = since_number called (with_cycles s round.entries called) (λ r. shown_looks (report_at r.slots i) ≤ shown_looks (slot_told called i) + heard_in i round.entries) m adds first_few (let a = ap length c1.reports in omega (arith, a, low)) high in
     let counted = ((reported s marks run round track i item legal f).counted last).heard in

@@ -1,17 +1,17 @@
 -- The entries of a round leave the stream block of a track as it is that no state has.
-use Rattle.std.proofs.Common.{◌≡◌, ℕ, ◌≤◌, ◌<◌, ◌∷◌, unwrap_or, Option, List, [], ◌++◌, length, true, refl, sym, ap, ◌∙◌, arith}
+use Rattle.std.proofs.Common.{◌≡◌, ℕ, ◌≤◌, ◌<◌, ◌∷◌, List, [], ◌++◌, length, true, refl, sym, ap, ◌∙◌, arith}
 use Rattle.af_base.specs.declared.state.FastState.{FastState}
 use Rattle.af_base.specs.Log.{slots}
 use Rattle.af_model.specs.Journals.{EntrySeen}
 use Rattle.af_model.specs.StateQueue.{slot_of, carries}
 use Rattle.af_runs.specs.Runs.{Run, told_at, state_for, slot_for, with_poll, with_cycle, with_cycles}
-use Rattle.af_runs.specs.Sessions.{Session, cycle_frames}
-use Rattle.af_runs.specs.Told.{state_at}
+use Rattle.af_runs.specs.Sessions.{Session}
 use Rattle.af_enough_law.specs.FastFlows.{AllUse, AllStates}
 use Rattle.af_enough_law.proofs.FastMixes.{Uses, uses_of}
 use Rattle.af_enough_law.proofs.FastSteps.{cycle_states}
 use Rattle.af_enough_law.proofs.FastSteps.{cycle_length}
 use Rattle.af_enough_law.proofs.LeftEntries.{slot_none, track_still}
+use Rattle.af_runs.proofs.StatesFor.{polled_known}
 
 -- the state has nothing of the track
 abbrev pub HasNone : ℕ → FastState → Type 0
@@ -19,9 +19,8 @@ HasNone i x = (j : ℕ) → j < slots → carries x j ≡ true → (slot_of x j)
 
 module _ (s : Session) (i : ℕ) (first after : Run) (all : AllStates first after (HasNone i)) where
   entry_still : (run : Run) (e : EntrySeen) → i < length run.tracks → Uses (HasNone i) run.states e.entry.state → told_at (with_cycle s run e) i ≡ told_at run i
-  unfolding with_poll
   entry_still run e low uses =
-      let actual : state_for s (with_poll s e.entry.state run) e.entry.state ≡ uses.state = ap (λ (o : Option FastState). unwrap_or o (state_at (cycle_frames s) run.states (with_poll s e.entry.state run).current)) uses.is in
+      let actual : state_for s (with_poll s e.entry.state run) e.entry.state ≡ uses.state = polled_known s run e.entry.state uses.state uses.is in
       track_still s run e i low (ap (λ (z : FastState). slot_for z e.entry i) actual ∙ slot_none uses.state e i (λ j less carried shown at. uses.holds j less carried at))
 
   pub entries_still : (high : ℕ) (es : List EntrySeen) (run : Run) (more : List FastState) → i < length run.tracks → after.states ≡ run.states ++ more → high ≤ length run.states → AllUse (length first.states) high es → told_at (with_cycles s es run) i ≡ told_at run i

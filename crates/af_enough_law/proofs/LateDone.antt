@@ -220,7 +220,7 @@ module _ (s : Session) (marks : Marks) (scales : All (λ (x : Setting). x.scale 
             let same = (made.busy busy).2 in
             let now = (queue_stands s marks run round legal sc.stands.queue).pushed in
             let before = sc.stands.queue.pushed in
-            unpushed back generation (knows_acked s marks run round legal sc.stands.going sc.states sc.stands.queue (omega (arith, same, now, before))) more_states (subst (Plays slot item) (sym (made.busy busy).3) p.last) told.used told.told
+            unpushed back generation (knows_acked s marks run round legal sc.stands.going sc.states sc.stands.queue (omega (arith, same, now, before))) more_states (subst (Plays slot item) (sym (made.busy busy).3) p.last) told.told
         by_push false free told =
             waits back generation more_states (subst (IsOut slot i) (sym (made.done free).1) (leaving.out_then s marks scales long run round legal sc i named lawful slot item p leaves c_after))
             (record { unshut = told.told.shut ∙ ap is_some turn.quiet.unshut; generation = told.told.generation })

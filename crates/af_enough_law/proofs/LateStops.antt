@@ -1,6 +1,5 @@
 -- The round in which a proxy leaves that the last state plays, whether the fast mixer had it before or not: its turn doesn't hear that the stream is shut.
 use Rattle.std.proofs.Common.{◌≡◌, ◌⊎◌, inl, inr, ℕ, ◌≤◌, ◌<◌, unwrap_or, is_some, Bool, true, false, true≢false, All, Option, Some, length, refl, sym, ap, ◌∙◌, subst, arith}
-use Rattle.std.specs.Prelude.{max}
 use Rattle.af_base.specs.declared.state.FastState.{FastState}
 use Rattle.af_base.specs.declared.state.FastTrack.{FastTrack}
 use Rattle.af_life.specs.declared.kept.Heard.{Heard}
@@ -15,7 +14,7 @@ use Rattle.af_model.specs.Journals.{RoundSeen}
 use Rattle.af_model.specs.Reports.{report_at}
 use Rattle.af_runs.specs.Blocks.{Marks, server_list}
 use Rattle.af_runs.specs.Rounds.{LegalRound, before_turn, after_turn, met_after, after_round}
-use Rattle.af_runs.specs.Runs.{Run, told_at, with_calls, with_cycles, report_of, takes_part}
+use Rattle.af_runs.specs.Runs.{Run, told_at, with_calls, with_cycles, report_of, takes_part, load_of}
 use Rattle.af_runs.specs.Sessions.{Session, track_count, setup_of, cycle_frames}
 use Rattle.af_enough_law.specs.Carried.{SessionCarried}
 use Rattle.af_enough_law.specs.Drafts.{is_busy, PushMade}
@@ -26,7 +25,6 @@ use Rattle.af_enough_law.proofs.AwayKeeps.{StaysOpen, open_then, away_turn}
 use Rattle.af_enough_law.proofs.AwayRounds.{AwayTurn}
 use Rattle.af_enough_law.proofs.Commanding.{le_cases}
 use Rattle.af_enough_law.proofs.EntryCounts.{found_within}
-use Rattle.af_enough_law.proofs.FastFound.{state_none}
 use Rattle.af_enough_law.proofs.FastRounds.{ends_part}
 use Rattle.af_enough_law.proofs.Following.{greeted_in, greeted_alike}
 use Rattle.af_enough_law.proofs.Foreseen.{Foreseen, part_seen}
@@ -37,10 +35,10 @@ use Rattle.af_enough_law.proofs.LeftEarly.{left_back}
 use Rattle.af_enough_law.proofs.LeftEntries.{IsOut}
 use Rattle.af_enough_law.proofs.LeftRounds.{draft_out}
 use Rattle.af_enough_law.proofs.Lending.{WasOpen, slotted_opened}
-use Rattle.af_enough_law.proofs.LentRounds.{state_last}
+use Rattle.af_enough_law.proofs.LentRounds.{state_last, draft_item}
 use Rattle.af_enough_law.proofs.LentTurns.{turn_leaves}
 use Rattle.af_enough_law.proofs.Lookahead.{Coming, held_on, passed, greeted_coming, home_then, seen_before}
-use Rattle.af_enough_law.proofs.MeetReports.{SaysOpenOf}
+use Rattle.af_enough_law.proofs.MeetReports.{SaysOpenOf, NamesTrack}
 use Rattle.af_enough_law.proofs.MeetRounds.{Meeting, meets_open}
 use Rattle.af_enough_law.proofs.QueueRounds.{acks_states, queue_stands}
 use Rattle.af_enough_law.proofs.RestTurns.{low_or}
@@ -48,6 +46,7 @@ use Rattle.af_enough_law.proofs.SessionRounds.{turn_of, turn_runs, push_of, stat
 use Rattle.af_enough_law.proofs.Slots.{slot_stays}
 use Rattle.af_enough_law.proofs.StartRounds.{PushedLast}
 use Rattle.af_enough_law.proofs.StreamCalm.{IsQuiet}
+use Rattle.af_runs.proofs.StatesFor.{state_beyond}
 
 module _ (s : Session) (marks : Marks) (scales : All (λ (x : Setting). x.scale ≤ 4096) (setup_of s).settings) (long : length (setup_of s).settings ≡ track_count s) (run : Run) (round : RoundSeen) (legal : LegalRound false s marks run round) (c : SessionCarried s run) (i : ℕ) (named : i < track_count s) (lawful : marks.commands i ≡ true)
     (slot : ℕ) (item : FastTrack) (p : PushedLast s run i slot item) (leaves : is_lent (track_at (after_round s run round).normal.tracks i).holder ≡ false) (c_after : SessionCarried s (after_round s run round)) where
@@ -114,7 +113,7 @@ module _ (s : Session) (marks : Marks) (scales : All (λ (x : Setting). x.scale 
       by_push false pushed more = subst (IsOut slot i) (sym (made.done pushed).1) out_then
 
       by : (m ≤ length after.states) ⊎ (length after.states < m) → IsOut slot i y
-      by (inr far) = absurd (true≢false (sym (ap is_some is) ∙ ap is_some (state_none after.states m far)))
+      by (inr far) = absurd (true≢false (sym (ap is_some is) ∙ ap is_some (state_beyond after.states m far)))
       by (inl high) =
           let count = states_few s marks scales long run round legal c.stands in
           let at : m ≡ length after.states = omega (arith, above, high, count) in
@@ -166,13 +165,10 @@ module _ (s : Session) (marks : Marks) (scales : All (λ (x : Setting). x.scale 
           some = (let a = ((c.stands.order.sound.slotted i).slot (ap is_some p.lending.slot_is)).0 in let b = ap number_of p.lending.slot_is in omega (arith, a, b));
           low = p.lending.low;
           is = track_is;
-          states = p.some;
-          last = last_is;
-          plays = p.last;
+          named = subst (NamesTrack i slot item) (sym c.stands.last) (λ carried same. ap (λ (x : FastTrack). x.track) p.last.is ∙ track_is);
+          draft = draft_item s run i slot item c.stands.order c.stands.items p.lending.lent p.lending.slot_is p.lending.item_is;
           says = says;
           quiet = quiet;
-          current = c.stands.queue.current;
-          adopted = c.stands.adopted;
           going = c.stands.going;
           knows = c.states;
         }
@@ -180,7 +176,7 @@ module _ (s : Session) (marks : Marks) (scales : All (λ (x : Setting). x.scale 
         report : (slot_reported (learnt t.by.outside) g).generation ≡ g.generation → (slot_reported (learnt t.by.outside) g).shut ≡ false
         report e =
             let within = found_within s run round marks false t.turn legal c.stands.stored c.reports t.is goes c.stands.logged in
-            let m : ℕ = max (length (with_calls round run).entries) t.turn.cycle in
+            let m : ℕ = load_of (with_calls round run) t.turn in
             let number = ap number_of ((greeted_alike t.turn.ack run.normal.last (track_at run.normal.tracks i)).slot ∙ p.lending.slot_is) in
             let found : SaysOpenOf item (report_at (report_of (with_cycles s round.entries (with_calls round run)).reports m).slots slot) =
             meets_open s marks run round i slot item legal meeting (λ k y above is. inr (out_pushed k y above is)) turn_adds left_seen m within.0 within.1 in

@@ -26,7 +26,6 @@ use Rattle.af_enough_law.proofs.Commanding.{le_cases}
 use Rattle.af_enough_law.proofs.CourseGoes.{CourseGone}
 use Rattle.af_enough_law.proofs.Coursing.{course_plays}
 use Rattle.af_enough_law.proofs.Fair.{calm_drops}
-use Rattle.af_enough_law.proofs.FastFound.{state_none}
 use Rattle.af_enough_law.proofs.FastMixes.{state_more}
 use Rattle.af_enough_law.proofs.FastPolls.{round_states, turn_more}
 use Rattle.af_enough_law.proofs.FastReports.{reported}
@@ -47,6 +46,7 @@ use Rattle.af_enough_law.proofs.StoppedTracks.{StoppedCarried, missed_said}
 use Rattle.af_enough_law.proofs.StreamHistories.{part_stream}
 use Rattle.af_enough_law.proofs.TrackCarried.{TrackCarried}
 use Rattle.af_enough_law.proofs.TrackGoes.{CalmStream}
+use Rattle.af_runs.proofs.StatesFor.{state_beyond}
 
 some_is : (x y : FastState) → Some x ≡ Some y → x ≡ y
 some_is x y e = ap (λ (o : Option FastState). unwrap_or o x) e
@@ -157,13 +157,13 @@ module _ (s : Session) (marks : Marks) (scales : All (λ (x : Setting). x.scale 
             (ap is_some (round_of.slot_turned s marks scales long run round legal c i most total named lawful track slot item l leaves next legal_next));
       } in
       let told = reported s marks run round i slot item legal flows in
-      unpushed out.1 generation_then (knows_acked s marks run round legal c.stands.going c.states c.stands.queue count) more_states (subst (Plays slot item) (sym (made.busy busy).3) l.last) told.carries_on told.told
+      unpushed out.1 generation_then (knows_acked s marks run round legal c.stands.going c.states c.stands.queue count) more_states (subst (Plays slot item) (sym (made.busy busy).3) l.last) told.told
     where
       by : length after.states ≡ length run.states → (k : ℕ) (x : FastState) → state_of after.states k ≡ Some x → (k ≡ length run.states) ⊎ (length run.states < k) → Plays slot item x
       by count k x is (inl at) =
           let there : state_of after.states (length run.states) ≡ Some run.normal.last = ap (λ l. state_of l (length run.states)) whole ∙ state_more run.states (turn_more s run round).more (length run.states) (omega arith) ∙ first in
           subst (Plays slot item) (some_is run.normal.last x (sym there ∙ ap (state_of after.states) (sym at) ∙ is)) l.last
-      by count k x is (inr above) = absurd (true≢false (sym (ap is_some is) ∙ ap is_some (state_none after.states k (omega (arith, above, count)))))
+      by count k x is (inr above) = absurd (true≢false (sym (ap is_some is) ∙ ap is_some (state_beyond after.states k (omega (arith, above, count)))))
 
   -- and its proxy is on its way
   pub left_place : Place s after i slot item

@@ -1,5 +1,5 @@
 -- The entries of a round in which a track leaves: those of the state before play it, and those of the state that the turn pushes don't touch it. The report that the turn finds says that its server is open.
-use Rattle.std.proofs.Common.{◌≡◌, ◌⊎◌, inl, inr, ℕ, zero, suc, ◌+◌, ◌≤◌, ◌<◌, ◌==◌, ◌&&◌, ◌||◌, if◌then◌else◌, unwrap_or, is_some, Bool, true, false, true≢false, Option, Some, None, List, [], ◌∷◌, ◌++◌, length, refl, sym, ap, ◌∙◌, subst, arith, append_assoc, append-nil, eqb-true}
+use Rattle.std.proofs.Common.{◌≡◌, ◌⊎◌, inl, inr, ℕ, zero, suc, ◌+◌, ◌≤◌, ◌<◌, ◌==◌, ◌&&◌, ◌||◌, if◌then◌else◌, is_some, Bool, true, false, true≢false, Option, Some, None, List, [], ◌∷◌, ◌++◌, length, refl, sym, ap, ◌∙◌, subst, arith, append_assoc, append-nil, eqb-true}
 use Rattle.std.specs.List.{find, range_with_len}
 use Rattle.af_base.specs.declared.event.ClientEvent.{ClientEvent}
 use Rattle.af_base.specs.declared.event.ServerEvent.{ServerEvent}
@@ -16,25 +16,24 @@ use Rattle.af_model.specs.Journals.{EntrySeen}
 use Rattle.af_model.specs.Reports.{report_at, slot_report, counted_look, no_slot}
 use Rattle.af_model.specs.ServerCalls.{server_kept}
 use Rattle.af_model.specs.StateQueue.{slot_of, carries}
-use Rattle.af_model.proofs.UsedStates.{last_used-push}
 use Rattle.af_runs.specs.Blocks.{BlockTold, Marks, server_list, listed}
 use Rattle.af_runs.specs.Fronts.{front_of, is_shown}
 use Rattle.af_runs.specs.Rounds.{LegalEntry, LegalEntries}
 use Rattle.af_runs.specs.Runs.{Run, TrackTold, told_at, plays, slot_for, played, state_for, known_of, stream_of, next_slot, last_report, with_poll, with_looks, with_mix, with_cycle, with_cycles}
 use Rattle.af_runs.specs.Sessions.{Session, cycle_frames}
-use Rattle.af_runs.specs.Told.{state_at}
-use Rattle.af_enough_law.specs.FastFlows.{AllUse, Plays, slot_told, Since}
+use Rattle.af_enough_law.specs.FastFlows.{AllUse, Plays, slot_told, HasItem, IsTold}
 use Rattle.af_enough_law.proofs.Commanding.{le_cases}
 use Rattle.af_enough_law.proofs.Fair.{calm_drops}
 use Rattle.af_enough_law.proofs.FastFlows.{PlaysTrack, plays_track, cycles_later}
-use Rattle.af_enough_law.proofs.FastFound.{FoundNow, found_next, counts_as, falls_back, state_none, cycle_current, poll_stays, listed_played, Starts, starts_at, adds_one, is_look}
+use Rattle.af_enough_law.proofs.FastFound.{listed_played, adds_one, is_look}
 use Rattle.af_enough_law.proofs.FastMixes.{Uses}
 use Rattle.af_enough_law.proofs.FastReports.{entry_told, slot_counts, last_more}
 use Rattle.af_enough_law.proofs.FastShows.{Setting, Look, slot_look}
 use Rattle.af_enough_law.proofs.FastSince.{Adds}
-use Rattle.af_enough_law.proofs.FastSteps.{cycle_states, cycle_length, cycle_track, mixed_stream, played_server, slot_only}
+use Rattle.af_enough_law.proofs.FastSteps.{cycle_states, cycle_length, cycle_track, mixed_stream, played_server, slot_only, cycle_draft}
 use Rattle.af_enough_law.proofs.LentFlows.{state_there}
 use Rattle.af_enough_law.proofs.StreamCalm.{IsQuiet, LiesIn, lies_earlier, calm_join, calm_cycle, still_shows}
+use Rattle.af_runs.proofs.StatesFor.{polled_known, polled_waits, state_beyond}
 
 -- the state has nothing in the slot, and the track nowhere
 pub record IsOut (slot track : ℕ) (x : FastState) : Type 0 where
@@ -112,15 +111,23 @@ pub record SaysOpen (r : SlotReport) (item : FastTrack) : Type 0 where
   pub unshut : r.shut ≡ false
   pub generation : r.generation ≡ item.generation
 
--- what an entry leaves, in the run and in the one that the turn finds: the server calm and open, the same list in both, and reports that say so
-pub record LeftStep (s : Session) (track slot : ℕ) (item : FastTrack) (x : FastState) (before : SlotReport) (n : ℕ) (k : Shape) (run told : Run) : Type 0 where
+-- What an entry leaves, in the run and in the one that the turn finds, which hasn't the state that the turn pushes: the server calm and open, the same list in both, and reports that say so
+pub record LeftStep (s : Session) (track slot : ℕ) (item : FastTrack) (x d : FastState) (n : ℕ) (k : Shape) (run told : Run) : Type 0 where
   pub quiet : IsQuiet k (server_list (told_at run track).stream)
-  pub now : FoundNow s track slot item x before n told
+  pub count : length told.states ≡ n
+  pub last : state_of told.states n ≡ Some x
+  pub draft : told.normal.draft ≡ d
+  pub there : track < length told.tracks
+  pub told : IsTold told track slot item
   pub same : listed (told_at told track).stream ≡ listed (told_at run track).stream
   pub unshut : (slot_told run slot).shut ≡ false
   pub generation : (slot_told run slot).generation ≡ item.generation
 
-module _ (s : Session) (marks : Marks) (track slot : ℕ) (item : FastTrack) (some : 0 < slot) (low : slot < slots) (is : item.track ≡ track) (x : FastState) (p : Plays slot item x) (before : SlotReport) (n : ℕ) (k : Shape) (cs : List ClientEvent) (all : List ServerEvent) (h : Setting k cs all) where
+-- the state has the track in its slot, or nothing of it
+abbrev pub HasOrOut : ℕ → ℕ → FastTrack → FastState → Type 0
+HasOrOut track slot item x = HasItem slot item x ⊎ IsOut slot track x
+
+module _ (s : Session) (marks : Marks) (track slot : ℕ) (item : FastTrack) (some : 0 < slot) (low : slot < slots) (is : item.track ≡ track) (x : FastState) (p : Plays slot item x) (d : FastState) (q : HasOrOut track slot item d) (n : ℕ) (k : Shape) (cs : List ClientEvent) (all : List ServerEvent) (h : Setting k cs all) where
   -- the server that is known to be open
   open_known : (b : BlockTold) → b.shape ≡ k → IsQuiet k (server_list b) → (known_of (listed b)).shut ≡ false
   open_known b shape quiet = ap is_some (ap (λ (j : Shape). (server_kept j (server_list b)).shut) shape ∙ quiet.unshut)
@@ -129,13 +136,14 @@ module _ (s : Session) (marks : Marks) (track slot : ℕ) (item : FastTrack) (so
   abbrev pub KnowsLeft : Run → Type 0
   KnowsLeft run = (state_of run.states n ≡ Some x) × (1 ≤ n) × ((m : ℕ) (y : FastState) → n < m → state_of run.states m ≡ Some y → IsOut slot track y)
 
-  entry_plays : (run told : Run) (e : EntrySeen) → KnowsLeft run → track < length run.tracks → LegalEntry s marks (with_poll s e.entry.state run) e → LiesIn k cs all h (told_at (with_cycle s run e) track).stream → (e.entry.state ≡ n)
-      → (told.current ≡ n) ⊎ (e.entry.state ≡ n) → LeftStep s track slot item x before n k run told → LeftStep s track slot item x before n k (with_cycle s run e) (with_cycle s told e)
-  entry_plays run told e knows there legal lies at start step =
+  entry_plays : (run told : Run) (e : EntrySeen) → KnowsLeft run → track < length run.tracks → LegalEntry s marks (with_poll s e.entry.state run) e → LiesIn k cs all h (told_at (with_cycle s run e) track).stream → e.entry.state ≡ n
+      → LeftStep s track slot item x d n k run told → LeftStep s track slot item x d n k (with_cycle s run e) (with_cycle s told e)
+  entry_plays run told e knows there legal lies at step =
       let b : BlockTold = (told_at run track).stream in
       let next : BlockTold = (told_at (with_cycle s run e) track).stream in
       let later : Run = with_cycle s told e in
       let uses : Uses (Plays slot item) run.states e.entry.state = record { state = x; is = ap (state_of run.states) at ∙ knows.0; holds = p } in
+      let uses_told : Uses (Plays slot item) told.states e.entry.state = record { state = x; is = ap (state_of told.states) at ∙ step.last; holds = p } in
       let plays : PlaysTrack s run e track slot = plays_track s marks run e track slot item low is there legal uses in
       let shape : b.shape ≡ k = sym (ap (λ (y : BlockTold). y.shape) plays.stream) ∙ lies.shape in
       let f : Listed = record { shape = k; events = server_list b } in
@@ -147,59 +155,64 @@ module _ (s : Session) (marks : Marks) (track slot : ℕ) (item : FastTrack) (so
       let look : Look k (cycle_frames s) cs (server_list b) (entry_slot e.entry slot).seen events =
       slot_look k cs all (server_list b) h (calm_drops (server_list b) step.quiet.calm) step.quiet.unshut (cycle_frames s) (entry_slot e.entry slot) plays.front lies.rest looks (lies.whole ∙ ap (λ l. l ++ lies.rest) list) in
       let quiet : IsQuiet k (server_list next) = subst (IsQuiet k) (sym list) (record { calm = calm_join (server_list b) events step.quiet.calm (calm_cycle (cycle_frames s) f (entry_slot e.entry slot) (front_of (cycle_frames s) f (entry_slot e.entry slot)) look.shows); unshut = look.unshut }) in
-      let high : n ≤ e.entry.state = omega (arith, at) in
       let track_is : (slot_of x slot).track ≡ track = ap (λ (t : FastTrack). t.track) p.is ∙ is in
       let only = slot_only x e track slot low p.carried track_is (λ j less carried one. p.only j less carried (one ∙ sym is)) (is_look (entry_slot e.entry slot).seen look.shows) in
-      let counts = counts_as s track slot item low is x p before n told e step.now high start in
+      let counts = polled_known s told e.entry.state x uses_told.is in
       let stream : (told_at later track).stream ≡ played (cycle_frames s) e slot (told_at told track).stream =
-      ap (λ (t : TrackTold). t.stream) (cycle_track s told e track step.now.there) ∙ mixed_stream s (state_for s (with_poll s e.entry.state told) e.entry.state) e track slot (told_at told track) (ap (λ (y : FastState). slot_for y e.entry track) counts ∙ only) in
+      ap (λ (t : TrackTold). t.stream) (cycle_track s told e track step.there) ∙ mixed_stream s (state_for s (with_poll s e.entry.state told) e.entry.state) e track slot (told_at told track) (ap (λ (y : FastState). slot_for y e.entry track) counts ∙ only) in
       let reported = entry_told s run e track slot item low is uses in
+      let found = entry_told s told e track slot item low is uses_told in
+      let states = cycle_states s told e in
       record {
         quiet = quiet;
-        now = found_next s track slot item low is x p before n told e step.now high start look.shows;
+        count = ap length states ∙ step.count;
+        last = ap (λ l. state_of l n) states ∙ step.last;
+        draft = cycle_draft s told e ∙ step.draft;
+        there = (let a = cycle_length s told e in let b = step.there in omega (arith, a, b));
+        told = found.told;
         same = ap listed stream ∙ listed_played (cycle_frames s) e slot (told_at told track).stream (told_at run track).stream step.same ∙ ap listed (sym plays.stream);
         unshut = reported.told.shut ∙ open_known next lies.shape quiet;
         generation = reported.told.generation;
       }
 
+  -- the draft plays nothing of the track where the entry shows nothing in its slot
+  draft_none : (e : EntrySeen) → is_shown (entry_slot e.entry slot).seen ≡ false → slot_for d e.entry track ≡ None
+  draft_none e unshown = by q
+    where
+      by : HasOrOut track slot item d → slot_for d e.entry track ≡ None
+      by (inl has) = slot_none d e track (λ j less carried shown at. true≢false (sym shown ∙ ap (λ (m : ℕ). is_shown (entry_slot e.entry m).seen) (has.only j less carried (at ∙ sym is)) ∙ unshown))
+      by (inr out) = slot_none d e track (λ j less carried shown at. out.none j less carried at)
+
   entry_skips : (run told : Run) (e : EntrySeen) → KnowsLeft run → track < length run.tracks → LegalEntry s marks (with_poll s e.entry.state run) e → e.entry.state ≤ length run.states → n < e.entry.state
-      → (told.current ≡ n) ⊎ (e.entry.state ≡ n) → LeftStep s track slot item x before n k run told → LeftStep s track slot item x before n k (with_cycle s run e) (with_cycle s told e)
+      → LeftStep s track slot item x d n k run told → LeftStep s track slot item x d n k (with_cycle s run e) (with_cycle s told e)
   unfolding with_poll with_mix
-  entry_skips run told e knows there legal pushed above start step =
-      let f = step.now in
+  entry_skips run told e knows there legal pushed above step =
       let later : Run = with_cycle s told e in
       let next : Run = with_cycle s run e in
-      let high : n ≤ e.entry.state = omega (arith, above) in
       let one : 1 ≤ e.entry.state = omega (arith, above) in
       let y = state_there run.states e.entry.state one pushed in
       let out = knows.2 e.entry.state y.0 above y.1 in
       let unshown = shows_nothing s marks run e slot y.0 some low legal y.1 out.free in
-      let counts : state_for s (with_poll s e.entry.state told) e.entry.state ≡ x = counts_as s track slot item low is x p before n told e f high start in
-      let actual : state_for s (with_poll s e.entry.state run) e.entry.state ≡ y.0 = ap (λ (o : Option FastState). unwrap_or o (state_at (cycle_frames s) run.states (with_poll s e.entry.state run).current)) y.1 in
+      let beyond : length told.states < e.entry.state = (let a = step.count in omega (arith, a, above)) in
+      let counts : state_for s (with_poll s e.entry.state told) e.entry.state ≡ d = polled_waits s told e.entry.state beyond ∙ step.draft in
+      let actual : state_for s (with_poll s e.entry.state run) e.entry.state ≡ y.0 = polled_known s run e.entry.state y.0 y.1 in
       let run_still : told_at next track ≡ told_at run track = track_still s run e track there (ap (λ (z : FastState). slot_for z e.entry track) actual ∙ slot_none y.0 e track (λ j less carried shown at. out.none j less carried at)) in
-      let told_still : told_at later track ≡ told_at told track = track_still s told e track f.there (ap (λ (z : FastState). slot_for z e.entry track) counts ∙ slot_none x e track
-      (λ j less carried shown at. true≢false (sym shown ∙ ap (λ (m : ℕ). is_shown (entry_slot e.entry m).seen) (p.only j less carried (at ∙ sym is)) ∙ unshown))) in
-      let missing : state_of told.states e.entry.state ≡ None = state_none told.states e.entry.state (let a = f.count in omega (arith, a, above)) in
+      let told_still : told_at later track ≡ told_at told track = track_still s told e track step.there (ap (λ (z : FastState). slot_for z e.entry track) counts ∙ draft_none e unshown) in
+      let missing : state_of told.states e.entry.state ≡ None = state_beyond told.states e.entry.state beyond in
       let told_slot : slot_told later slot ≡ slot_told told slot = slot_counts s told e slot low ∙ next_unshown s (with_looks s e (with_poll s e.entry.state told)) e.entry (last_report told.reports).slots slot missing unshown in
-      let now_actual : state_for s (with_looks s e (with_poll s e.entry.state run)) e.entry.state ≡ y.0 = ap (λ (o : Option FastState). unwrap_or o (state_at (cycle_frames s) run.states (with_poll s e.entry.state run).current)) y.1 in
-      let run_slot : slot_told next slot ≡ slot_told run slot = slot_counts s run e slot low ∙ next_kept s (with_looks s e (with_poll s e.entry.state run)) e.entry (last_report run.reports).slots slot (ap (λ (z : FastState). carries z slot) now_actual ∙ out.free) in
+      let run_slot : slot_told next slot ≡ slot_told run slot = slot_counts s run e slot low ∙ next_kept s (with_looks s e (with_poll s e.entry.state run)) e.entry (last_report run.reports).slots slot (ap (λ (z : FastState). carries z slot) actual ∙ out.free) in
       let stream = ap (λ (t : TrackTold). t.stream) told_still in
       let states = cycle_states s told e in
       record {
         quiet = subst (λ (t : TrackTold). IsQuiet k (server_list t.stream)) (sym run_still) step.quiet;
-        now = record {
-          count = ap length states ∙ f.count;
-          last = ap (λ l. state_of l n) states ∙ f.last;
-          there = (let a = cycle_length s told e in let b = f.there in omega (arith, a, b));
-          carried =
-              ap (λ (g : List FastState × ℕ). carries (unwrap_or (state_of g.0 g.1) (state_at (cycle_frames s) g.0 n)) slot) (λ j. (states j, (ap last_used (cycle_current s told e).1 ∙ last_used-push told.entries e.entry) j))
-              ∙ ap (λ z. carries z slot) (falls_back (cycle_frames s) told.states x n e.entry.state f.count f.last high) ∙ p.carried;
-          told = record {
-            generation = ap (λ (r : SlotReport). r.generation) told_slot ∙ f.told.generation;
-            consumed = ap (λ (r : SlotReport). r.consumed) told_slot ∙ f.told.consumed ∙ ap (λ (b : BlockTold). (known_of (listed b)).consumed) (sym stream);
-            shut = ap (λ (r : SlotReport). r.shut) told_slot ∙ f.told.shut ∙ ap (λ (b : BlockTold). (known_of (listed b)).shut) (sym stream);
-          };
-          since = subst (λ (r : SlotReport). Since before r item) (sym told_slot) f.since;
+        count = ap length states ∙ step.count;
+        last = ap (λ l. state_of l n) states ∙ step.last;
+        draft = cycle_draft s told e ∙ step.draft;
+        there = (let a = cycle_length s told e in let b = step.there in omega (arith, a, b));
+        told = record {
+          generation = ap (λ (r : SlotReport). r.generation) told_slot ∙ step.told.generation;
+          consumed = ap (λ (r : SlotReport). r.consumed) told_slot ∙ step.told.consumed ∙ ap (λ (b : BlockTold). (known_of (listed b)).consumed) (sym stream);
+          shut = ap (λ (r : SlotReport). r.shut) told_slot ∙ step.told.shut ∙ ap (λ (b : BlockTold). (known_of (listed b)).shut) (sym stream);
         };
         same = ap listed stream ∙ step.same ∙ ap (λ (t : TrackTold). listed t.stream) (sym run_still);
         unshut = ap (λ (r : SlotReport). r.shut) run_slot ∙ step.unshut;
@@ -210,27 +223,25 @@ module _ (s : Session) (marks : Marks) (track slot : ℕ) (item : FastTrack) (so
 
   -- what they leave, and the reports that are found after each
   pub record LeftEnd (run told : Run) (es : List EntrySeen) : Type 0 where
-    pub step : LeftStep s track slot item x before n k (with_cycles s es run) (with_cycles s es told)
+    pub step : LeftStep s track slot item x d n k (with_cycles s es run) (with_cycles s es told)
     pub adds : Adds told (with_cycles s es told) (λ r. SaysOpen (report_at r.slots slot) item)
-    pub starts : (late : List EntrySeen) → Starts n told (es ++ late) → Starts n (with_cycles s es told) late
 
-  told_unshut : (run told : Run) → (told_at run track).stream.shape ≡ k → LeftStep s track slot item x before n k run told → (slot_told told slot).shut ≡ false
-  told_unshut run told shape step = step.now.told.shut ∙ ap (λ (l : Listed). (known_of l).shut) step.same ∙ open_known (told_at run track).stream shape step.quiet
+  told_unshut : (run told : Run) → (told_at run track).stream.shape ≡ k → LeftStep s track slot item x d n k run told → (slot_told told slot).shut ≡ false
+  told_unshut run told shape step = step.told.shut ∙ ap (λ (l : Listed). (known_of l).shut) step.same ∙ open_known (told_at run track).stream shape step.quiet
 
   pub left_entries : (high : ℕ) (es : List EntrySeen) (run told : Run) → KnowsLeft run → track < length run.tracks → AllUse n high es → high ≤ length run.states → LegalEntries s marks run es → LiesIn k cs all h (told_at (with_cycles s es run) track).stream
-      → Starts n told es → LeftStep s track slot item x before n k run told → LeftEnd run told es
-  left_entries high [] run told knows there uses top legal lies start step = record { step = step; adds = record { news = []; whole = sym (append-nil told.reports); each = tt }; starts = λ late h. h }
-  left_entries high (e ∷ es) run told knows there uses top legal lies start step =
+      → LeftStep s track slot item x d n k run told → LeftEnd run told es
+  left_entries high [] run told knows there uses top legal lies step = record { step = step; adds = record { news = []; whole = sym (append-nil told.reports); each = tt } }
+  left_entries high (e ∷ es) run told knows there uses top legal lies step =
       let next : Run = with_cycle s run e in
       let later : Run = with_cycle s told e in
       let there' : track < length next.tracks = (let a = cycle_length s run e in omega (arith, a, there)) in
       let lies' = lies_earlier k cs all h (told_at next track).stream (told_at (with_cycles s es next) track).stream (cycles_later s es next track there') lies in
       let most = uses.1 in
-      let now : LeftStep s track slot item x before n k next later = by (le_cases n e.entry.state uses.0) (λ at. entry_plays run told e knows there legal.0 lies' at start step) (λ above. entry_skips run told e knows there legal.0 (omega (arith, most, top)) above start step) in
-      let current : later.current ≡ n = (cycle_current s told e).0 ∙ poll_stays s told e.entry.state n step.now.count uses.0 start in
+      let now : LeftStep s track slot item x d n k next later = by (le_cases n e.entry.state uses.0) (λ at. entry_plays run told e knows there legal.0 lies' at step) (λ above. entry_skips run told e knows there legal.0 (omega (arith, most, top)) above step) in
       let states = cycle_states s run e in
       let knows' : KnowsLeft next = (ap (λ l. state_of l n) states ∙ knows.0, knows.1, λ m y above at. knows.2 m y above (ap (λ l. state_of l m) (sym states) ∙ at)) in
-      let rest = left_entries high es next later knows' there' uses.2 (let a = ap length states in omega (arith, a, top)) legal.1 lies (starts_at n later es current) now in
+      let rest = left_entries high es next later knows' there' uses.2 (let a = ap length states in omega (arith, a, top)) legal.1 lies now in
       let added = adds_one s told e in
       let at : slot_told later slot ≡ report_at added.report.slots slot = ap (λ (l : List Report). report_at (last_report l).slots slot) added.whole ∙ ap (λ (r : Report). report_at r.slots slot) (last_more told.reports added.report) in
       record {
@@ -238,12 +249,11 @@ module _ (s : Session) (marks : Marks) (track slot : ℕ) (item : FastTrack) (so
         adds = record {
           news = added.report ∷ rest.adds.news;
           whole = rest.adds.whole ∙ ap (λ l. l ++ rest.adds.news) added.whole ∙ append_assoc told.reports (added.report ∷ []) rest.adds.news;
-          each = (subst (λ (r : SlotReport). SaysOpen r item) at (record { unshut = told_unshut next later lies'.shape now; generation = now.now.told.generation }), rest.adds.each);
+          each = (subst (λ (r : SlotReport). SaysOpen r item) at (record { unshut = told_unshut next later lies'.shape now; generation = now.told.generation }), rest.adds.each);
         };
-        starts = λ late h. rest.starts late (starts_at n later (es ++ late) current);
       }
     where
-      by : (e.entry.state ≡ n) ⊎ (n < e.entry.state) → (e.entry.state ≡ n → LeftStep s track slot item x before n k (with_cycle s run e) (with_cycle s told e)) → (n < e.entry.state → LeftStep s track slot item x before n k (with_cycle s run e) (with_cycle s told e))
-          → LeftStep s track slot item x before n k (with_cycle s run e) (with_cycle s told e)
+      by : (e.entry.state ≡ n) ⊎ (n < e.entry.state) → (e.entry.state ≡ n → LeftStep s track slot item x d n k (with_cycle s run e) (with_cycle s told e)) → (n < e.entry.state → LeftStep s track slot item x d n k (with_cycle s run e) (with_cycle s told e))
+          → LeftStep s track slot item x d n k (with_cycle s run e) (with_cycle s told e)
       by (inl at) a b = a at
       by (inr above) a b = b above

@@ -1,5 +1,5 @@
 -- The report that a turn finds in a round in which a track leaves says that its server is open, where its lists lie in a history.
-use Rattle.std.proofs.Common.{◌≡◌, ℕ, ◌≤◌, ◌<◌, unwrap_or, is_some, false, true≢false, Option, Some, List, [], ◌∷◌, ◌++◌, length, refl, sym, ap, ◌∙◌, subst, arith, append_assoc}
+use Rattle.std.proofs.Common.{◌≡◌, ℕ, ◌≤◌, ◌<◌, is_some, false, true≢false, Some, List, [], ◌∷◌, ◌++◌, length, refl, sym, ap, ◌∙◌, subst, arith, append_assoc}
 use Rattle.std.proofs.lemmas.List.{take-append-drop}
 use Rattle.af_base.specs.declared.report.Report.{Report}
 use Rattle.af_base.specs.declared.report.SlotReport.{SlotReport}
@@ -7,26 +7,26 @@ use Rattle.af_base.specs.declared.state.FastState.{FastState}
 use Rattle.af_base.specs.declared.state.FastTrack.{FastTrack}
 use Rattle.af_base.specs.Log.{slots}
 use Rattle.af_model.specs.declared.shape.Shape.{Shape}
-use Rattle.af_model.specs.Cycles.{state_of, last_used}
+use Rattle.af_model.specs.Cycles.{state_of}
 use Rattle.af_model.specs.Journals.{EntrySeen, RoundSeen}
 use Rattle.af_model.specs.Reports.{report_at}
-use Rattle.af_model.specs.StateQueue.{carries}
 use Rattle.af_runs.specs.Blocks.{Marks, server_list, listed}
 use Rattle.af_runs.specs.Rounds.{LegalRound, early_count, early_of, late_of, before_turn, found_in, after_turn, all_played, met_after, after_round}
 use Rattle.af_runs.specs.Runs.{Run, told_at, report_of, with_calls, with_cycle, with_cycles, fast_ended}
-use Rattle.af_runs.specs.Sessions.{Session, cycle_frames}
-use Rattle.af_runs.specs.Told.{state_at}
-use Rattle.af_enough_law.specs.FastFlows.{KnowsStates, Plays, LastCarries, IsTold, Since, slot_told}
-use Rattle.af_enough_law.proofs.FastFound.{FoundNow, Starts, calls_current, last_low, starts_by, starts_head, state_none}
+use Rattle.af_runs.specs.Sessions.{Session}
+use Rattle.af_enough_law.specs.FastFlows.{KnowsStates, Plays, IsTold, slot_told}
+use Rattle.af_enough_law.proofs.FastFound.{calls_current}
 use Rattle.af_enough_law.proofs.FastMixes.{state_more}
 use Rattle.af_enough_law.proofs.FastPolls.{calls_states, fast_parts, parts_use, round_states, turn_more}
-use Rattle.af_enough_law.proofs.FastReports.{calls_same, turned_same, loaded_same, met_same, ends_same, slot_same, last_same, told_same, known_quiet}
+use Rattle.af_enough_law.proofs.FastReports.{calls_same, turned_same, loaded_same, met_same, ends_same, slot_same, told_same, known_quiet}
 use Rattle.af_enough_law.proofs.FastRounds.{over}
 use Rattle.af_enough_law.proofs.FastSince.{Adds, AllReports, since_number}
 use Rattle.af_enough_law.proofs.Foreseen.{Foreseen}
-use Rattle.af_enough_law.proofs.LeftEntries.{IsOut, SaysOpen, LeftStep, KnowsLeft, left_entries}
+use Rattle.af_enough_law.proofs.LeftEntries.{IsOut, SaysOpen, LeftStep, KnowsLeft, left_entries, HasOrOut}
 use Rattle.af_enough_law.proofs.RoundCalm.{known_open, quiet_only}
 use Rattle.af_enough_law.proofs.StreamCalm.{IsQuiet, LiesIn, lies_earlier}
+use Rattle.af_life.specs.Kept.{NormalKept}
+use Rattle.af_runs.proofs.StatesFor.{state_beyond}
 
 pub cycles_append : (s : Session) (xs ys : List EntrySeen) (run : Run) → with_cycles s (xs ++ ys) run ≡ with_cycles s ys (with_cycles s xs run)
 cycles_append s [] ys run = refl
@@ -48,10 +48,9 @@ pub record Flowing (s : Session) (run : Run) (track slot : ℕ) (item : FastTrac
   pub states : 1 ≤ length run.states
   pub last : state_of run.states (length run.states) ≡ Some run.normal.last
   pub plays : Plays slot item run.normal.last
-  pub used : LastCarries run slot
+  pub draft : HasOrOut track slot item run.normal.draft
   pub told : IsTold run track slot item
   pub quiet : IsQuiet (told_at run track).stream.shape (server_list (told_at run track).stream)
-  pub current : run.current ≡ last_used run.entries
   pub going : fast_ended run ≡ false
   pub knows : KnowsStates s run
 
@@ -75,7 +74,6 @@ found_open s marks run round track slot item legal f out lent seen =
     let n : ℕ = length run.states in
     let top : ℕ = length turn.states in
     let x : FastState = run.normal.last in
-    let base : SlotReport = slot_told run slot in
     let k : Shape = (told_at (after_round s run round) track).stream.shape in
     let lies_met : LiesIn k seen.list seen.events seen.setting (told_at (met_after s run round) track).stream = subst (LiesIn k seen.list seen.events seen.setting) o.whole seen.lies in
     let lies_late = lies_earlier k seen.list seen.events seen.setting (told_at late track).stream (told_at (met_after s run round) track).stream o.meeting.is_later lies_met in
@@ -88,42 +86,41 @@ found_open s marks run round track slot item legal f out lent seen =
     let c1 = calls_same round run in
     let c2 = turned_same s (found_in s run round) round.turn before in
     let long : length called.states ≡ n = ap length (calls_states round run) in
-    let slot1 : slot_told called slot ≡ base = slot_same run called slot c1 in
-    let last1 = last_same run called slot c1 f.used in
-    let t = f.told in
-    let since1 : Since base (slot_told called slot) item = subst (λ (r : SlotReport). Since base r item) (sym slot1) (record { generation = t.generation; heard = omega arith; silent = omega arith; consumed = omega arith }) in
     let told1 : IsTold called track slot item = told_same run called track slot item c1 (known_quiet (told_at run track).stream (told_at called track).stream o.calls) f.told in
     let is_n : state_of called.states n ≡ Some x = ap (λ l. state_of l n) (calls_states round run) ∙ f.last in
-    let start : FoundNow s track slot item x base n called = record {
+    let d : FastState = run.normal.draft in
+    let open1 : (slot_told called slot).shut ≡ false = told1.shut ∙ known_open s marks track k seen.list seen.events seen.setting (told_at called track).stream lies_called.shape quiet1 in
+    let first : LeftStep s track slot item x d n k called called = record {
+      quiet = quiet1;
       count = long;
       last = is_n;
+      draft = ap (λ (m : NormalKept). m.draft) (calls_current round run).1;
       there = o.first;
-      carried = ap (λ (p : Option FastState). carries (unwrap_or p (state_at (cycle_frames s) called.states n)) slot) last1.is ∙ last1.carried;
       told = told1;
-      since = since1;
+      same = refl;
+      unshut = open1;
+      generation = told1.generation;
     } in
-    let open1 : (slot_told called slot).shut ≡ false = told1.shut ∙ known_open s marks track k seen.list seen.events seen.setting (told_at called track).stream lies_called.shape quiet1 in
-    let first : LeftStep s track slot item x base n k called called = record { quiet = quiet1; now = start; same = refl; unshut = open1; generation = told1.generation } in
-    let knows1 : KnowsLeft s marks track slot item f.some f.low f.is x f.plays base n k seen.list seen.events seen.setting called =
-    (is_n, f.states, λ m y above at. absurd (true≢false (sym (ap is_some at) ∙ ap is_some (state_none called.states m (omega (arith, above, long)))))) in
-    let starts : Starts n called (early_of run round ++ late_of run round) = starts_by s marks called turn (early_of run round) (late_of run round) n top uses.early uses.late parts.late c2.entries
-    (let a = last_low run slot f.used in let b = ap last_used c1.entries in omega (arith, a, b)) (calls_current round run ∙ f.current ∙ ap last_used (sym c1.entries)) in
-    let e1 = left_entries s marks track slot item f.some f.low f.is x f.plays base n k seen.list seen.events seen.setting n (early_of run round) called called knows1 o.first uses.early (omega (arith, long)) parts.early lies_early
-    (starts_head n called (early_of run round) (late_of run round) starts) first in
+    let knows1 : KnowsLeft s marks track slot item f.some f.low f.is x f.plays d f.draft n k seen.list seen.events seen.setting called =
+    (is_n, f.states, λ m y above at. absurd (true≢false (sym (ap is_some at) ∙ ap is_some (state_beyond called.states m (omega (arith, above, long)))))) in
+    let e1 = left_entries s marks track slot item f.some f.low f.is x f.plays d f.draft n k seen.list seen.events seen.setting n (early_of run round) called called knows1 o.first uses.early (omega (arith, long)) parts.early lies_early first in
     let step1 = e1.step in
     let to_turn : listed (told_at before track).stream ≡ listed (told_at turn track).stream = λ j. record { shape = sym o.turn.shape j; events = sym lent j } in
-    let second : LeftStep s track slot item x base n k turn before = record {
+    let second : LeftStep s track slot item x d n k turn before = record {
       quiet = subst (IsQuiet k) (sym lent) step1.quiet;
-      now = step1.now;
+      count = step1.count;
+      last = step1.last;
+      draft = step1.draft;
+      there = step1.there;
+      told = step1.told;
       same = to_turn;
       unshut = ap (λ (r : SlotReport). r.shut) (slot_same before turn slot c2) ∙ step1.unshut;
       generation = ap (λ (r : SlotReport). r.generation) (slot_same before turn slot c2) ∙ step1.generation;
     } in
     let whole = (turn_more s run round).whole in
-    let knows2 : KnowsLeft s marks track slot item f.some f.low f.is x f.plays base n k seen.list seen.events seen.setting turn =
+    let knows2 : KnowsLeft s marks track slot item f.some f.low f.is x f.plays d f.draft n k seen.list seen.events seen.setting turn =
     (ap (λ l. state_of l n) whole ∙ state_more run.states (turn_more s run round).more n (omega arith) ∙ f.last, f.states, λ m y above at. out m y above (ap (λ l. state_of l m) (round_states s run round) ∙ at)) in
-    let e2 = left_entries s marks track slot item f.some f.low f.is x f.plays base n k seen.list seen.events seen.setting top (late_of run round) turn before knows2 o.last uses.late (omega arith) parts.late lies_late
-    (e1.starts (late_of run round) starts) second in
+    let e2 = left_entries s marks track slot item f.some f.low f.is x f.plays d f.draft n k seen.list seen.events seen.setting top (late_of run round) turn before knows2 o.last uses.late (omega arith) parts.late lies_late second in
     let cut : early_of run round ++ late_of run round ≡ round.entries = take-append-drop (early_count run round) round.entries in
     let all_is : with_cycles s (late_of run round) before ≡ with_cycles s round.entries called = sym (cycles_append s (early_of run round) (late_of run round) called) ∙ ap (λ es. with_cycles s es called) cut in
     let adds : Adds called (with_cycles s round.entries called) (λ r. SaysOpen (report_at r.slots slot) item) =

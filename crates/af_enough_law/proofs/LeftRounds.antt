@@ -1,6 +1,5 @@
 -- The round in which a lent track leaves: it hears that its stream is open, all that its client is answered is fair, and it is on its course after it. What isn't told by the history of this round is told by that of the next one.
 use Rattle.std.proofs.Common.{◌≡◌, ◌⊎◌, inl, inr, ℕ, zero, suc, ◌≤◌, ◌<◌, ◌&&◌, if◌then◌else◌, unwrap_or, is_some, Bool, true, false, true≢false, All, Option, Some, List, [], ◌∷◌, length, refl, sym, ap, ◌∙◌, subst, arith}
-use Rattle.std.specs.Prelude.{max}
 use Rattle.af_base.specs.declared.report.SlotReport.{SlotReport}
 use Rattle.af_base.specs.declared.state.FastState.{FastState}
 use Rattle.af_base.specs.declared.state.FastTrack.{FastTrack}
@@ -18,7 +17,7 @@ use Rattle.af_model.specs.Reports.{report_at}
 use Rattle.af_model.specs.StateQueue.{slot_of, carries}
 use Rattle.af_runs.specs.Blocks.{Marks}
 use Rattle.af_runs.specs.Rounds.{LegalRound, met_after, after_round}
-use Rattle.af_runs.specs.Runs.{Run, told_at, with_calls, with_cycles, report_of, takes_part}
+use Rattle.af_runs.specs.Runs.{Run, told_at, with_calls, with_cycles, report_of, takes_part, load_of}
 use Rattle.af_runs.specs.Sessions.{Session, track_count, setup_of, cycle_frames}
 use Rattle.af_enough_law.specs.Carried.{SessionCarried}
 use Rattle.af_enough_law.specs.Drafts.{next_holder, is_busy, PushMade}
@@ -28,7 +27,6 @@ use Rattle.af_enough_law.proofs.CommandsGo.{OpenTurn}
 use Rattle.af_enough_law.proofs.Drafts.{holder_turned}
 use Rattle.af_enough_law.proofs.Ends.{silent}
 use Rattle.af_enough_law.proofs.EntryCounts.{found_within}
-use Rattle.af_enough_law.proofs.FastFound.{state_none}
 use Rattle.af_enough_law.proofs.FastRounds.{ends_part}
 use Rattle.af_enough_law.proofs.Following.{greeted_in, greeted_alike}
 use Rattle.af_enough_law.proofs.Foreseen.{Foreseen, KeepsTo, keeps_to, part_seen}
@@ -37,7 +35,7 @@ use Rattle.af_enough_law.proofs.HomeRounds.{keeps_of}
 use Rattle.af_enough_law.proofs.LastStates.{round_last}
 use Rattle.af_enough_law.proofs.LeftEntries.{IsOut, SaysOpen}
 use Rattle.af_enough_law.proofs.LeftFound.{Flowing, FoundOpen, found_open}
-use Rattle.af_enough_law.proofs.LentRounds.{LentCarried, heard_away, heard_opened, state_last}
+use Rattle.af_enough_law.proofs.LentRounds.{LentCarried, heard_away, heard_opened, state_last, draft_item}
 use Rattle.af_enough_law.proofs.LentTurns.{turn_leaves}
 use Rattle.af_enough_law.proofs.Lookahead.{Coming, missed, greeted_coming, home_then, seen_before, ended_then}
 use Rattle.af_enough_law.proofs.Orders.{lent_carried}
@@ -47,6 +45,7 @@ use Rattle.af_enough_law.proofs.SessionRounds.{turn_of, turn_runs, push_of, stat
 use Rattle.af_enough_law.proofs.Slots.{slot_stays}
 use Rattle.af_enough_law.proofs.TrackCarried.{TrackCarried}
 use Rattle.af_enough_law.proofs.TurnLives.{shut_turned}
+use Rattle.af_runs.proofs.StatesFor.{state_beyond}
 
 -- not all is over while a proxy is away
 pub some_away : (tracks : List TrackKept) (i : ℕ) → i < length tracks → is_home (track_at tracks i).holder ≡ false → is_over tracks ≡ false
@@ -140,10 +139,9 @@ module _ (s : Session) (marks : Marks) (scales : All (λ (x : Setting). x.scale 
     states = l.some;
     last = state_last run.states (cycle_frames s) run.normal.last l.some c.stands.last;
     plays = l.last;
-    used = l.used;
+    draft = inl (draft_item s run i slot item c.stands.order c.stands.items l.lent l.slot_is l.item_is);
     told = l.told;
     quiet = track.calm.stream;
-    current = c.stands.queue.current;
     going = c.stands.going;
     knows = c.states;
   }
@@ -170,7 +168,7 @@ module _ (s : Session) (marks : Marks) (scales : All (λ (x : Setting). x.scale 
       by_push false pushed more = subst (IsOut slot i) (sym (made.done pushed).1) out_then
 
       by : (m ≤ length after.states) ⊎ (length after.states < m) → IsOut slot i y
-      by (inr far) = absurd (true≢false (sym (ap is_some is) ∙ ap is_some (state_none after.states m far)))
+      by (inr far) = absurd (true≢false (sym (ap is_some is) ∙ ap is_some (state_beyond after.states m far)))
       by (inl high) =
           let count = states_few s marks scales long run round legal c.stands in
           let at : m ≡ length after.states = omega (arith, above, high, count) in
@@ -216,7 +214,7 @@ module _ (s : Session) (marks : Marks) (scales : All (λ (x : Setting). x.scale 
   report_open : Foreseen (told_at after i).stream → SaysOpen (slot_reported (learnt t.by.outside) g) item
   report_open seen =
       let within = found_within s run round marks false t.turn legal c.stands.stored c.reports t.is runs c.stands.logged in
-      let m : ℕ = max (length (with_calls round run).entries) t.turn.cycle in
+      let m : ℕ = load_of (with_calls round run) t.turn in
       subst (λ (r : SlotReport). SaysOpen r item)
       (ap (λ (n : ℕ). report_at (report_of (with_cycles s round.entries (with_calls round run)).reports m).slots n) (sym number_g) ∙ ap (λ (k : Learnt). slot_reported k g) (sym t.sees))
       ((open_by seen).found m within.0 within.1)

@@ -1,6 +1,5 @@
 -- What is carried of a track whose proxy is lent is kept by a round that leaves it lent.
 use Rattle.std.proofs.Common.{◌≡◌, ℕ, zero, suc, ◌≤◌, ◌<◌, ◌&&◌, not, is_some, Bool, true, false, true≢false, All, Some, List, [], ◌∷◌, length, length-append, refl, sym, ap, ◌∙◌, subst, arith}
-use Rattle.std.specs.Prelude.{max}
 use Rattle.af_base.specs.declared.report.SlotReport.{SlotReport}
 use Rattle.af_base.specs.declared.state.FastState.{FastState}
 use Rattle.af_base.specs.declared.state.FastTrack.{FastTrack}
@@ -16,10 +15,10 @@ use Rattle.af_model.specs.Journals.{RoundSeen}
 use Rattle.af_model.specs.Reports.{report_at}
 use Rattle.af_runs.specs.Blocks.{Marks, client_list, server_list}
 use Rattle.af_runs.specs.Rounds.{LegalRound, met_after, after_round}
-use Rattle.af_runs.specs.Runs.{Run, told_at, with_calls, with_cycles, report_of, takes_part, holds}
+use Rattle.af_runs.specs.Runs.{Run, told_at, with_calls, with_cycles, report_of, takes_part, holds, load_of}
 use Rattle.af_runs.specs.Sessions.{Session, track_count, setup_of}
 use Rattle.af_enough_law.specs.Carried.{SessionCarried}
-use Rattle.af_enough_law.specs.FastFlows.{FlowsIn, Flowed, Reported, slot_told}
+use Rattle.af_enough_law.specs.FastFlows.{FlowsIn, Flowed, Reported, slot_told, HasItem}
 use Rattle.af_enough_law.specs.Items.{item_of}
 use Rattle.af_enough_law.specs.NormalRounds.{TurnMade}
 use Rattle.af_enough_law.proofs.CommandsGo.{OpenTurn}
@@ -38,7 +37,7 @@ use Rattle.af_enough_law.proofs.FoundCounts.{shown_looks, found_most}
 use Rattle.af_enough_law.proofs.Generations.{greeted_lent, greeted_same}
 use Rattle.af_enough_law.proofs.HeardFresh.{reported_turned}
 use Rattle.af_enough_law.proofs.HomeRounds.{keeps_of}
-use Rattle.af_enough_law.proofs.LentRounds.{LentCarried, HeardOf, holds_by, or_last, heard_away, states_play, last_then, slot_then, item_then, heard_then, low_run, there, runs}
+use Rattle.af_enough_law.proofs.LentRounds.{LentCarried, HeardOf, holds_by, or_last, heard_away, states_play, last_then, slot_then, item_then, heard_then, low_run, there, runs, draft_item}
 use Rattle.af_enough_law.proofs.LentTurns.{turn_leaves}
 use Rattle.af_enough_law.proofs.QueueRounds.{acks_states}
 use Rattle.af_enough_law.proofs.SessionRounds.{turn_of}
@@ -134,8 +133,8 @@ module _ (s : Session) (marks : Marks) (scales : All (λ (x : Setting). x.scale 
   pub found : FoundFor (slot_told run slot) (slot_reported (learnt t.by.outside) g) item
   found =
       let within = found_within s run round marks false t.turn legal c.stands.stored c.reports t.is goes c.stands.logged in
-      let m : ℕ = max (length (with_calls round run).entries) t.turn.cycle in
-      let f = found_pushed s marks run round i slot item m legal flows l.used l.told c.stands.queue.current within.0 within.1 in
+      let m : ℕ = load_of (with_calls round run) t.turn in
+      let f = found_pushed s marks run round i slot item m legal flows l.used l.told draft_now within.0 within.1 in
       let number = ap number_of ((greeted_alike t.turn.ack run.normal.last (track_at run.normal.tracks i)).slot ∙ l.slot_is) in
       subst (λ (r : SlotReport). FoundFor (slot_told run slot) r item)
       (ap (λ (n : ℕ). report_at (report_of (with_cycles s round.entries (with_calls round run)).reports m).slots n) (sym number) ∙ ap (λ (k : Learnt). slot_reported k g) (sym t.sees)) f
@@ -160,10 +159,10 @@ module _ (s : Session) (marks : Marks) (scales : All (λ (x : Setting). x.scale 
   found_few : shown_looks (slot_reported (learnt t.by.outside) g) ≤ shown_looks (slot_told after slot)
   found_few =
       let within = found_within s run round marks false t.turn legal c.stands.stored c.reports t.is goes c.stands.logged in
-      let m : ℕ = max (length (with_calls round run).entries) t.turn.cycle in
+      let m : ℕ = load_of (with_calls round run) t.turn in
       subst (λ (r : SlotReport). shown_looks r ≤ shown_looks (slot_told after slot))
       (ap (λ (n : ℕ). report_at (report_of (with_cycles s round.entries (with_calls round run)).reports m).slots n) (sym number) ∙ ap (λ (k : Learnt). slot_reported k g) (sym t.sees))
-      (found_most s marks run round i slot item m legal flows l.used l.told c.stands.queue.current within.0 within.1)
+      (found_most s marks run round i slot item m legal flows l.used l.told draft_now within.0 within.1)
 
   alive_by : (member ended : Bool) → (member && not ended) ≡ true → ended ≡ false
   alive_by true false e = refl

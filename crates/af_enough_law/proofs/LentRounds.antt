@@ -30,12 +30,11 @@ use Rattle.af_enough_law.specs.Carried.{SessionCarried}
 use Rattle.af_enough_law.specs.Courses.{Course, absent, idle, playing, stopping, drained, stopped, over}
 use Rattle.af_enough_law.specs.Drafts.{is_busy, PushMade}
 use Rattle.af_enough_law.specs.Ends.{IsInOrder}
-use Rattle.af_enough_law.specs.FastFlows.{Plays, AllStates, LastCarries, IsTold, KnowsReleased, slot_told}
+use Rattle.af_enough_law.specs.FastFlows.{Plays, AllStates, LastCarries, IsTold, KnowsReleased, slot_told, HasItem}
 use Rattle.af_enough_law.specs.Items.{AreItems, item_of}
 use Rattle.af_enough_law.specs.NormalRounds.{TurnMade}
 use Rattle.af_enough_law.proofs.Commanding.{le_cases}
 use Rattle.af_enough_law.proofs.Ends.{order_turn}
-use Rattle.af_enough_law.proofs.FastFound.{state_none}
 use Rattle.af_enough_law.proofs.FastMixes.{state_more}
 use Rattle.af_enough_law.proofs.FastPolls.{round_states, turn_more}
 use Rattle.af_enough_law.proofs.Generations.{attached_stays, lent_plays}
@@ -47,6 +46,7 @@ use Rattle.af_enough_law.proofs.SessionRounds.{turn_of, turn_runs, push_of, stat
 use Rattle.af_enough_law.proofs.Slots.{IsOpened, slot_stays}
 use Rattle.af_enough_law.proofs.TrackCarried.{TrackCarried}
 use Rattle.af_enough_law.proofs.TrackGoes.{CalmStream}
+use Rattle.af_runs.proofs.StatesFor.{state_beyond}
 
 -- ## The draft
 
@@ -55,10 +55,9 @@ lent_away Home e = absurd (true≢false (sym e))
 lent_away Lent e = refl
 lent_away Returning e = absurd (true≢false (sym e))
 
--- a draft that mixes plays each track that is lent, in its slot and in no other
-pub draft_plays : (c : Setup) (m : NormalKept) (i : ℕ) → IsInOrder m → AreItems c m → is_lent (track_at m.tracks i).holder ≡ true → m.draft.command ≡ MixWrite → Plays (slot_number (track_at m.tracks i)) (item_of c i (track_at m.tracks i)) m.draft
-draft_plays c m i order items lent mixes = record {
-  mixes = mixes;
+-- the draft has the item of each track that is lent in its slot, and in no other
+pub draft_has : (c : Setup) (m : NormalKept) (i : ℕ) → IsInOrder m → AreItems c m → is_lent (track_at m.tracks i).holder ≡ true → HasItem (slot_number (track_at m.tracks i)) (item_of c i (track_at m.tracks i)) m.draft
+draft_has c m i order items lent = record {
   carried = (lent_carried m i order.sound lent).0;
   is = items i (lent_away (track_at m.tracks i).holder lent);
   only = λ j low carried same.
@@ -67,6 +66,17 @@ draft_plays c m i order items lent mixes = record {
       let owner : o.owner ≡ i = sym at.1 ∙ ap (λ (n : ℕ). (slot_of m.draft n).track) o.slot_is ∙ same in
       sym o.slot_is ∙ ap (λ (n : ℕ). slot_number (track_at m.tracks n)) owner;
 }
+
+-- and plays it, where it mixes
+pub draft_plays : (c : Setup) (m : NormalKept) (i : ℕ) → IsInOrder m → AreItems c m → is_lent (track_at m.tracks i).holder ≡ true → m.draft.command ≡ MixWrite → Plays (slot_number (track_at m.tracks i)) (item_of c i (track_at m.tracks i)) m.draft
+draft_plays c m i order items lent mixes = let h = draft_has c m i order items lent in record { mixes = mixes; carried = h.carried; is = h.is; only = h.only }
+
+-- so in a run
+pub draft_item : (s : Session) (run : Run) (i slot : ℕ) (item : FastTrack) → IsInOrder run.normal → AreItems (setup_of s) run.normal → (track_at run.normal.tracks i).holder ≡ Lent → (track_at run.normal.tracks i).slot ≡ Some slot
+    → item ≡ item_of (setup_of s) i (track_at run.normal.tracks i) → HasItem slot item run.normal.draft
+draft_item s run i slot item order items lent slot_is item_is =
+    let has = draft_has (setup_of s) run.normal i order items (ap is_lent lent) in
+    subst (λ (x : FastTrack). HasItem slot x run.normal.draft) (sym item_is) (subst (λ (n : ℕ). HasItem n (item_of (setup_of s) i (track_at run.normal.tracks i)) run.normal.draft) (ap number_of slot_is) has)
 
 -- ## The state adopted
 
@@ -225,7 +235,7 @@ module _ (s : Session) (marks : Marks) (scales : All (λ (x : Setting). x.scale 
         where
           by_place : (k ≤ length after.states) ⊎ (length after.states < k) → k ≤ length after.states
           by_place (inl low) = low
-          by_place (inr far) = absurd (true≢false (sym (ap is_some is) ∙ ap is_some (state_none after.states k far)))
+          by_place (inr far) = absurd (true≢false (sym (ap is_some is) ∙ ap is_some (state_beyond after.states k far)))
 
       by : (k : ℕ) (x : FastState) → state_of after.states k ≡ Some x → (k ≡ length run.states) ⊎ (length run.states < k) → k ≤ length after.states → Plays slot item x
       by k x is (inl same) high =

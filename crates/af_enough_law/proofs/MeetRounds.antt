@@ -1,61 +1,61 @@
 -- What the reports of a round say of a proxy that the fast mixer has, or comes to have in it.
-use Rattle.std.proofs.Common.{◌≡◌, ℕ, ◌≤◌, ◌<◌, ◌||◌, if◌then◌else◌, is_some, Bool, true, false, true≢false, Some, List, [], ◌∷◌, ◌++◌, length, refl, sym, ap, ◌∙◌, subst, arith, take-append-drop}
+use Rattle.std.proofs.Common.{◌≡◌, ℕ, ◌≤◌, ◌<◌, is_some, true, false, true≢false, Some, List, [], ◌∷◌, ◌++◌, length, refl, sym, ap, ◌∙◌, subst, arith, take-append-drop, unwrap_or, Option, length-append}
 use Rattle.af_base.specs.declared.event.ClientEvent.{ClientEvent}
 use Rattle.af_base.specs.declared.event.ServerEvent.{ServerEvent}
-use Rattle.af_base.specs.declared.report.SlotReport.{SlotReport}
 use Rattle.af_base.specs.declared.state.FastState.{FastState}
 use Rattle.af_base.specs.declared.state.FastTrack.{FastTrack}
-use Rattle.af_base.specs.Log.{slots, entry_slot}
+use Rattle.af_base.specs.Log.{slots}
 use Rattle.af_model.specs.declared.shape.Shape.{Shape}
-use Rattle.af_model.specs.Cycles.{state_of, last_used}
+use Rattle.af_model.specs.Cycles.{state_of}
 use Rattle.af_model.specs.Draft.{initial}
 use Rattle.af_model.specs.Journals.{EntrySeen, RoundSeen}
-use Rattle.af_model.specs.Reports.{report_at, slot_report, carried, counted_look, no_slot}
+use Rattle.af_model.specs.Reports.{report_at}
 use Rattle.af_model.specs.ServerCalls.{server_kept}
 use Rattle.af_model.specs.StateQueue.{slot_of, carries}
 use Rattle.af_judge.proofs.DraftBits.{initial_none}
 use Rattle.af_runs.specs.Blocks.{Marks, server_list, listed}
 use Rattle.af_runs.specs.Rounds.{LegalEntries, LegalRound, early_of, late_of, early_count, before_turn, after_turn, all_played, found_in, met_after, after_round}
-use Rattle.af_runs.specs.Runs.{Run, told_at, plays, state_for, with_calls, with_poll, with_looks, with_mix, with_cycle, with_cycles, known_of, stream_of, report_of, fast_ended}
+use Rattle.af_runs.specs.Runs.{Run, told_at, with_calls, with_cycle, with_cycles, known_of, report_of, fast_ended}
 use Rattle.af_runs.specs.Sessions.{Session, cycle_frames}
-use Rattle.af_enough_law.specs.FastFlows.{Plays, KnowsStates, slot_told}
+use Rattle.af_enough_law.specs.FastFlows.{KnowsStates, slot_told, HasItem}
 use Rattle.af_enough_law.proofs.FastFlows.{cycles_later}
-use Rattle.af_enough_law.proofs.FastFound.{Starts, starts_by, starts_head, calls_current, state_none}
+use Rattle.af_enough_law.proofs.FastFound.{calls_current}
 use Rattle.af_enough_law.proofs.FastMixes.{state_more}
-use Rattle.af_enough_law.proofs.FastReports.{SameReports, calls_same, turned_same, loaded_same, met_same, ends_same, same_both, slot_counts, slot_same}
+use Rattle.af_enough_law.proofs.FastReports.{SameReports, calls_same, turned_same, loaded_same, met_same, ends_same, same_both, slot_same}
 use Rattle.af_enough_law.proofs.FastRounds.{over}
 use Rattle.af_enough_law.proofs.FastPolls.{round_states, calls_states, turn_more, parts_use, fast_parts}
 use Rattle.af_enough_law.proofs.FastShows.{Setting}
 use Rattle.af_enough_law.proofs.FastSince.{Adds, since_number}
-use Rattle.af_enough_law.proofs.FastSteps.{cycle_length, cycle_states}
+use Rattle.af_enough_law.proofs.FastSteps.{cycle_length, cycle_states, entry_pushed}
 use Rattle.af_enough_law.proofs.Foreseen.{Foreseen}
 use Rattle.af_enough_law.proofs.LeftFound.{cycles_append, adds_both}
-use Rattle.af_enough_law.proofs.MeetReports.{SaysOpenOf, PlaysOrOut, MeetStep, KnowsMet, met_entries}
+use Rattle.af_enough_law.proofs.MeetReports.{SaysOpenOf, MeetStep, KnowsMet, met_entries, NamesTrack, says_next}
 use Rattle.af_enough_law.proofs.RoundCalm.{quiet_only, legal_parts}
-use Rattle.af_enough_law.proofs.SlotReports.{state_for_all}
 use Rattle.af_enough_law.proofs.StreamCalm.{IsQuiet, LiesIn, lies_earlier, entries_quiet}
+use Rattle.af_runs.proofs.StatesFor.{state_beyond, polled_pushed}
+use Rattle.af_enough_law.proofs.SlotReports.{state_at_all}
+use Rattle.af_enough_law.proofs.LeftEntries.{HasOrOut}
+use Rattle.af_runs.specs.Told.{state_at}
+use Rattle.af_life.specs.Kept.{NormalKept}
 
 -- ## The report that a turn finds
 
--- a track whose proxy the last state pushed carries, whether the fast mixer has adopted that or not
+-- a track whose proxy the draft lends, whether a state that was pushed has it already or not
 pub record Meeting (s : Session) (run : Run) (track slot : ℕ) (item : FastTrack) : Type 0 where
   pub there : track < length run.tracks
   pub some : 0 < slot
   pub low : slot < slots
   pub is : item.track ≡ track
-  pub states : 1 ≤ length run.states
-  pub last : state_of run.states (length run.states) ≡ Some run.normal.last
-  pub plays : Plays slot item run.normal.last
+  pub named : NamesTrack track slot item (state_at (cycle_frames s) run.states (length run.states))
+  pub draft : HasItem slot item run.normal.draft
   pub says : SaysOpenOf item (slot_told run slot)
   pub quiet : IsQuiet (told_at run track).stream.shape (server_list (told_at run track).stream)
-  pub current : run.current ≡ last_used run.entries
-  pub adopted : run.current ≤ length run.states
   pub going : fast_ended run ≡ false
   pub knows : KnowsStates s run
 
 -- Each report that the turn may find says that the server is open, where it is of this attachment
 pub meets_open : (s : Session) (marks : Marks) (run : Run) (round : RoundSeen) (track slot : ℕ) (item : FastTrack) → LegalRound false s marks run round → Meeting s run track slot item
-    → ((m : ℕ) (y : FastState) → length run.states < m → state_of (after_round s run round).states m ≡ Some y → PlaysOrOut track slot item y)
+    → ((m : ℕ) (y : FastState) → length run.states < m → state_of (after_round s run round).states m ≡ Some y → HasOrOut track slot item y)
     → server_list (told_at (after_turn s run round) track).stream ≡ server_list (told_at (before_turn s run round) track).stream
     → Foreseen (told_at (after_round s run round) track).stream
     → (m : ℕ) → length run.reports ≤ m → m ≤ length (with_cycles s round.entries (with_calls round run)).reports → SaysOpenOf item (report_at (report_of (with_cycles s round.entries (with_calls round run)).reports m).slots slot)
@@ -69,7 +69,8 @@ meets_open s marks run round track slot item legal f out lent seen m below high 
     let late : Run = with_cycles s (late_of run round) turn in
     let n : ℕ = length run.states in
     let top : ℕ = length turn.states in
-    let x : FastState = run.normal.last in
+    let x : FastState = state_at (cycle_frames s) run.states n in
+    let d : FastState = run.normal.draft in
     let k : Shape = (told_at (after_round s run round) track).stream.shape in
     let lies_met : LiesIn k seen.list seen.events seen.setting (told_at (met_after s run round) track).stream = subst (LiesIn k seen.list seen.events seen.setting) o.whole seen.lies in
     let lies_late = lies_earlier k seen.list seen.events seen.setting (told_at late track).stream (told_at (met_after s run round) track).stream o.meeting.is_later lies_met in
@@ -82,30 +83,30 @@ meets_open s marks run round track slot item legal f out lent seen m below high 
     let c1 = calls_same round run in
     let c2 = turned_same s (found_in s run round) round.turn before in
     let long : length called.states ≡ n = ap length (calls_states round run) in
-    let is_n : state_of called.states n ≡ Some x = ap (λ l. state_of l n) (calls_states round run) ∙ f.last in
+    let is_n : state_at (cycle_frames s) called.states n ≡ x = ap (λ l. state_at (cycle_frames s) l n) (calls_states round run) in
     let says1 : SaysOpenOf item (slot_told called slot) = subst (SaysOpenOf item) (sym (slot_same run called slot c1)) f.says in
-    let first : MeetStep s track slot item x n k called called = record { quiet = quiet1; same = refl; count = long; last = is_n; there = o.first; says = says1 } in
-    let knows1 : KnowsMet s marks track slot item f.some f.low f.is x f.plays n k seen.list seen.events seen.setting called =
-    (is_n, f.states, λ m y above at. absurd (true≢false (sym (ap is_some at) ∙ ap is_some (state_none called.states m (omega (arith, above, long)))))) in
-    let starts : Starts n called (early_of run round ++ late_of run round) = starts_by s marks called turn (early_of run round) (late_of run round) n top uses.early uses.late parts.late c2.entries
-    (let a = f.adopted in let b = ap last_used c1.entries in let d = f.current in omega (arith, a, b, d)) (calls_current round run ∙ f.current ∙ ap last_used (sym c1.entries)) in
-    let e1 = met_entries s marks track slot item f.some f.low f.is x f.plays n k seen.list seen.events seen.setting n (early_of run round) called called knows1 o.first uses.early (omega (arith, long)) parts.early lies_early
-    (starts_head n called (early_of run round) (late_of run round) starts) first in
+    let first : MeetStep s track slot item x d n k called called = record { quiet = quiet1; same = refl; count = long; last = is_n; draft = ap (λ (m : NormalKept). m.draft) (calls_current round run).1; there = o.first; says = says1 } in
+    let knows1 : KnowsMet s marks track slot item f.some f.low f.is x f.named d f.draft n k seen.list seen.events seen.setting called =
+    (omega (arith, long), is_n, λ m y above at. absurd (true≢false (sym (ap is_some at) ∙ ap is_some (state_beyond called.states m (omega (arith, above, long)))))) in
+    let e1 = met_entries s marks track slot item f.some f.low f.is x f.named d f.draft n k seen.list seen.events seen.setting n (early_of run round) called called knows1 o.first uses.early (omega (arith, long)) parts.early lies_early first in
     let step1 = e1.step in
     let to_turn : listed (told_at before track).stream ≡ listed (told_at turn track).stream = λ j. record { shape = sym o.turn.shape j; events = sym lent j } in
-    let second : MeetStep s track slot item x n k turn before = record {
+    let second : MeetStep s track slot item x d n k turn before = record {
       quiet = subst (IsQuiet k) (sym lent) step1.quiet;
       same = to_turn;
       count = step1.count;
       last = step1.last;
+      draft = step1.draft;
       there = step1.there;
       says = step1.says;
     } in
     let whole = (turn_more s run round).whole in
-    let knows2 : KnowsMet s marks track slot item f.some f.low f.is x f.plays n k seen.list seen.events seen.setting turn =
-    (ap (λ l. state_of l n) whole ∙ state_more run.states (turn_more s run round).more n (omega arith) ∙ f.last, f.states, λ m y above at. out m y above (ap (λ l. state_of l m) (round_states s run round) ∙ at)) in
-    let e2 = met_entries s marks track slot item f.some f.low f.is x f.plays n k seen.list seen.events seen.setting top (late_of run round) turn before knows2 o.last uses.late (omega arith) parts.late lies_late
-    (e1.starts (late_of run round) starts) second in
+    let many = ap length whole in
+    let more = length-append run.states (turn_more s run round).more in
+    let here : state_at (cycle_frames s) turn.states n ≡ x = ap (λ (p : Option FastState). unwrap_or p (initial (cycle_frames s))) (ap (λ l. state_of l n) whole ∙ state_more run.states (turn_more s run round).more n (omega arith)) in
+    let knows2 : KnowsMet s marks track slot item f.some f.low f.is x f.named d f.draft n k seen.list seen.events seen.setting turn =
+    (omega (arith, many, more), here, λ m y above at. out m y above (ap (λ l. state_of l m) (round_states s run round) ∙ at)) in
+    let e2 = met_entries s marks track slot item f.some f.low f.is x f.named d f.draft n k seen.list seen.events seen.setting top (late_of run round) turn before knows2 o.last uses.late (omega arith) parts.late lies_late second in
     let cut : early_of run round ++ late_of run round ≡ round.entries = take-append-drop (early_count run round) round.entries in
     let all_is : with_cycles s (late_of run round) before ≡ with_cycles s round.entries called = sym (cycles_append s (early_of run round) (late_of run round) called) ∙ ap (λ es. with_cycles s es called) cut in
     let adds : Adds called (with_cycles s round.entries called) (λ r. SaysOpenOf item (report_at r.slots slot)) =
@@ -115,36 +116,21 @@ meets_open s marks run round track slot item legal f out lent seen m below high 
 -- ## The last report of a round
 
 module _ (s : Session) (marks : Marks) (track slot : ℕ) (item : FastTrack) (low : slot < slots) where
-  -- states that have this attachment in the slot have this track there
+  -- the states that were pushed have this track where they have this attachment in the slot
   abbrev pub HaveTrack : Run → Type 0
-  HaveTrack run = (k : ℕ) (z : FastState) → state_of run.states k ≡ Some z → carries z slot ≡ true → (slot_of z slot).generation ≡ item.generation → (slot_of z slot).track ≡ track
+  HaveTrack run = (k : ℕ) (z : FastState) → state_of run.states k ≡ Some z → NamesTrack track slot item z
+
+  -- so has the state of each number
+  pub named_at : (run : Run) → HaveTrack run → (k : ℕ) → NamesTrack track slot item (state_at (cycle_frames s) run.states k)
+  named_at run have k = state_at_all (cycle_frames s) run.states (NamesTrack track slot item) have none k
+    where
+      none : carries (initial (cycle_frames s)) slot ≡ true → (slot_of (initial (cycle_frames s)) slot).generation ≡ item.generation → (slot_of (initial (cycle_frames s)) slot).track ≡ track
+      none c = let never : ⊥ = true≢false (sym c ∙ initial_none (cycle_frames s) slot) in absurd never
 
   module _ (k : Shape) (cs : List ClientEvent) (all : List ServerEvent) (h : Setting k cs all) where
-    said_next : (run : Run) (e : EntrySeen) → HaveTrack run → (known_of (listed (told_at (with_cycle s run e) track).stream)).shut ≡ false → SaysOpenOf item (slot_told run slot) → SaysOpenOf item (slot_told (with_cycle s run e) slot)
-    unfolding with_poll with_mix
-    said_next run e have open_is says =
-        let now : Run = with_looks s e (with_poll s e.entry.state run) in
-        let x : FastState = state_for s now e.entry.state in
-        let y : FastState = state_for s now (last_used run.entries) in
-        let before : SlotReport = slot_told run slot in
-        let named = state_for_all s now (λ z. carries z slot ≡ true → (slot_of z slot).generation ≡ item.generation → (slot_of z slot).track ≡ track) have (λ c. none c) e.entry.state in
-        subst (SaysOpenOf item) (sym (slot_counts s run e slot low)) (either (is_some (state_of now.states e.entry.state) || plays x e.entry slot) _ before (made x y now before named open_is says) says)
-      where
-        none : carries (initial (cycle_frames s)) slot ≡ true → (slot_of (initial (cycle_frames s)) slot).generation ≡ item.generation → (slot_of (initial (cycle_frames s)) slot).track ≡ track
-        none c = let never : ⊥ = true≢false (sym c ∙ initial_none (cycle_frames s) slot) in absurd never
-
-        either : (b : Bool) (r q : SlotReport) → SaysOpenOf item r → SaysOpenOf item q → SaysOpenOf item (if b then r else q)
-        either true r q f g = f
-        either false r q f g = g
-
-        made : (z y : FastState) (now : Run) (before : SlotReport) → (carries z slot ≡ true → (slot_of z slot).generation ≡ item.generation → (slot_of z slot).track ≡ track) → (known_of (listed (told_at now track).stream)).shut ≡ false → SaysOpenOf item before
-            → SaysOpenOf item (slot_report (cycle_frames s) (Some z) (Some y) e.entry (known_of (listed (stream_of now z slot))) slot before)
-        made z y now before named open_is f = by (carries z slot) named
-          where
-            by : (b : Bool) → (b ≡ true → (slot_of z slot).generation ≡ item.generation → (slot_of z slot).track ≡ track)
-                → SaysOpenOf item (if b then counted_look (cycle_frames s) (slot_of z slot).generation (entry_slot e.entry slot).seen (known_of (listed (stream_of now z slot))) (if carried (Some y) slot then before else no_slot) else before)
-            by true at = λ same. ap (λ (m : ℕ). (known_of (listed (told_at now m).stream)).shut) (at refl same) ∙ open_is
-            by false at = f
+    said_next : (run : Run) (e : EntrySeen) → e.entry.state ≤ length run.states → HaveTrack run → (known_of (listed (told_at (with_cycle s run e) track).stream)).shut ≡ false → SaysOpenOf item (slot_told run slot) → SaysOpenOf item (slot_told (with_cycle s run e) slot)
+    said_next run e pushed have open_is says =
+        says_next s track slot item low run e (state_at (cycle_frames s) run.states e.entry.state) (polled_pushed s run e.entry.state pushed) (named_at run have e.entry.state) open_is says
 
     pub said_entries : (es : List EntrySeen) (run : Run) → HaveTrack run → track < length run.tracks → LegalEntries s marks run es → LiesIn k cs all h (told_at (with_cycles s es run) track).stream → IsQuiet k (server_list (told_at run track).stream) → SaysOpenOf item (slot_told run slot)
         → SaysOpenOf item (slot_told (with_cycles s es run) slot)
@@ -155,7 +141,7 @@ module _ (s : Session) (marks : Marks) (track slot : ℕ) (item : FastTrack) (lo
         let lies' = lies_earlier k cs all h (told_at next track).stream (told_at (with_cycles s es next) track).stream (cycles_later s es next track there') lies in
         let now : IsQuiet k (server_list (told_at next track).stream) = entries_quiet s marks track k cs all h (e ∷ []) run there (legal.0, tt) lies' quiet in
         let open_is : (known_of (listed (told_at next track).stream)).shut ≡ false = ap is_some (ap (λ (z : Shape). (server_kept z (server_list (told_at next track).stream)).shut) lies'.shape ∙ now.unshut) in
-        said_entries es next (λ m z at. have m z (ap (λ l. state_of l m) (sym (cycle_states s run e)) ∙ at)) there' legal.1 lies now (said_next run e have open_is says)
+        said_entries es next (λ m z at. have m z (ap (λ l. state_of l m) (sym (cycle_states s run e)) ∙ at)) there' legal.1 lies now (said_next run e (entry_pushed s marks run e legal.0) have open_is says)
 
   -- It says so after a round, where the server is calm before it and after the turn, and its lists lie in a later history
   pub round_says : (run : Run) (round : RoundSeen) → LegalRound false s marks run round → track < length run.tracks → HaveTrack run → HaveTrack (after_round s run round) → (seen : Foreseen (told_at (after_round s run round) track).stream)

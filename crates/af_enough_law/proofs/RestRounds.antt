@@ -29,7 +29,6 @@ use Rattle.af_enough_law.proofs.EndPhases.{known_unless}
 use Rattle.af_enough_law.proofs.EndPipe.{drains, rests_puts, stays_drained}
 use Rattle.af_enough_law.proofs.Ends.{within_or}
 use Rattle.af_enough_law.proofs.EndRounds.{home_on, home_round, orders_round, rests_on, same_states, unpushed}
-use Rattle.af_enough_law.proofs.FastFound.{state_none}
 use Rattle.af_enough_law.proofs.FastMixes.{mixes_all}
 use Rattle.af_enough_law.proofs.LastStates.{LastIs}
 use Rattle.af_enough_law.proofs.Orders.{mix_is}
@@ -37,6 +36,7 @@ use Rattle.af_enough_law.proofs.PipeRounds.{pipe_flowed, room_of_turn}
 use Rattle.af_enough_law.proofs.RestTurns.{rests_free, rests_still}
 use Rattle.af_enough_law.proofs.Underway.{Idles, Mixes, goes, made, ordered_as, orders, t}
 use Rattle.af_enough_law.proofs.Unheard.{over_unheard}
+use Rattle.af_runs.proofs.StatesFor.{state_beyond}
 
 -- no Exit is ordered, the mixer rests, and all is known
 pub record Resting (s : Session) (run : Run) : Type 0 where
@@ -63,7 +63,7 @@ state_within : (states : List FastState) (k : ℕ) (x : FastState) → state_of 
 state_within states k x is = by (within_or (length states) k)
   where
     by : (length states < k) ⊎ (k ≤ length states) → k ≤ length states
-    by (inl far) = absurd (true≢false (sym (ap is_some is) ∙ ap is_some (state_none states k far)))
+    by (inl far) = absurd (true≢false (sym (ap is_some is) ∙ ap is_some (state_beyond states k far)))
     by (inr low) = low
 
 cold_is_not : ColdIdle ≡ MixWrite → ⊥

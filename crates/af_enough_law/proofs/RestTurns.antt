@@ -21,10 +21,10 @@ use Rattle.af_enough_law.specs.EndPhases.{NoExits}
 use Rattle.af_enough_law.specs.Ends.{Rests}
 use Rattle.af_enough_law.proofs.Drafts.{ordered_code, pushed_draft}
 use Rattle.af_enough_law.proofs.Exits.{AreIdle, ack_kept, clean_by, clean_free, edits_none, ordered_same, rests_idle}
-use Rattle.af_enough_law.proofs.FastFound.{state_none}
 use Rattle.af_enough_law.proofs.FastMixes.{state_more}
 use Rattle.af_enough_law.proofs.FastPolls.{round_states, turn_more}
 use Rattle.af_enough_law.proofs.LastStates.{LastIs}
+use Rattle.af_runs.proofs.StatesFor.{state_beyond}
 
 -- ## Pushes
 
@@ -80,7 +80,7 @@ no_exits_round s run round none last going few k x is = by (low_or k (length run
 
     by : (k ≤ length run.states) ⊎ (length run.states < k) → (k ≤ length after.states) ⊎ (length after.states < k) → is_exit x ≡ false
     by (inl low) h = none k x (sym (ap (λ l. state_of l k) whole ∙ state_more run.states (turn_more s run round).more k low) ∙ is)
-    by (inr past) (inr far) = absurd (true≢false (sym (ap is_some is) ∙ ap is_some (state_none after.states k far)))
+    by (inr past) (inr far) = absurd (true≢false (sym (ap is_some is) ∙ ap is_some (state_beyond after.states k far)))
     by (inr past) (inl low) =
         let at : k ≡ length after.states = omega (arith, past, low, few) in
         let same : x ≡ after.normal.last = ap (λ (o : Option FastState). unwrap_or o (initial (cycle_frames s))) (sym is) ∙ ap (λ (n : ℕ). unwrap_or (state_of after.states n) (initial (cycle_frames s))) at ∙ last in

@@ -15,7 +15,7 @@ use Rattle.af_model.specs.StateQueue.{slot_of, carries}
 use Rattle.af_runs.specs.Blocks.{Marks}
 use Rattle.af_runs.specs.Found.{outside_of}
 use Rattle.af_runs.specs.Rounds.{LegalRound, early_of, late_of, before_turn, after_turn, all_played, met_after, found_in, after_round}
-use Rattle.af_runs.specs.Runs.{Run, new_run, with_calls, with_cycles, report_of, last_report, draft_after, pushed_by}
+use Rattle.af_runs.specs.Runs.{Run, new_run, with_calls, with_cycles, last_report, draft_after, pushed_by}
 use Rattle.af_runs.specs.Sessions.{Session, track_count, setup_of}
 use Rattle.af_runs.specs.Told.{is_pushed}
 use Rattle.af_enough_law.specs.Carried.{SessionStands}
@@ -23,41 +23,32 @@ use Rattle.af_enough_law.specs.FastFlows.{slot_told}
 use Rattle.af_enough_law.specs.NormalRounds.{TurnMade}
 use Rattle.af_enough_law.proofs.FastPolls.{round_states, before_states, calls_states}
 use Rattle.af_enough_law.proofs.FastReports.{SameReports, calls_same, turned_same, loaded_same, met_same, ends_same, same_both, slot_same}
-use Rattle.af_enough_law.proofs.FastSince.{since_number}
 use Rattle.af_enough_law.proofs.NormalRounds.{before_normal}
 use Rattle.af_enough_law.proofs.QueueRounds.{states_turned}
 use Rattle.af_enough_law.proofs.RestTurns.{draft_after_turn}
 use Rattle.af_enough_law.proofs.SessionRounds.{turn_of, turn_runs}
 use Rattle.af_enough_law.proofs.SlotDrafts.{SlotStays, turn_slot, generation_rises}
 use Rattle.af_enough_law.proofs.SlotReports.{Carry, cycles_generations}
+use Rattle.af_runs.proofs.StatesFor.{state_beyond}
+use Rattle.af_enough_law.proofs.RoundCalm.{legal_parts}
 
 -- ## The reports of a round
 
-module _ (s : Session) (run : Run) (round : RoundSeen) (i : ℕ) (low : i < slots) (P : ℕ → Type 0) where
-  -- what the last report after a round tells
-  pub round_generation : Carry s i low P (after_round s run round) → Carry s i low P run → P (slot_told run i).generation → P (slot_told (after_round s run round) i).generation
-  round_generation later carry told =
-      let after : Run = after_round s run round in
-      let called : Run = with_calls round run in
-      let before : Run = before_turn s run round in
-      let turn : Run = after_turn s run round in
-      let late : Run = with_cycles s (late_of run round) turn in
-      let c1 : SameReports run called = calls_same round run in
-      let c2 : SameReports before turn = turned_same s (found_in s run round) round.turn before in
-      let c3 : SameReports late after = same_both late (all_played s run round) after (loaded_same round.turn late) (same_both (all_played s run round) (met_after s run round) after (met_same s (all_played s run round)) (ends_same (met_after s run round))) in
-      let first : P (slot_told before i).generation = (cycles_generations s i low P (early_of run round) called (λ k z at c. carry k z (ap (λ l. state_of l k) (sym (calls_states round run)) ∙ at) c) (subst (λ (r : SlotReport). P r.generation) (sym (slot_same run called i c1)) told)).0 in
-      let last : P (slot_told late i).generation = (cycles_generations s i low P (late_of run round) turn (λ k z at c. later k z (ap (λ l. state_of l k) (round_states s run round) ∙ at) c) (subst (λ (r : SlotReport). P r.generation) (sym (slot_same before turn i c2)) first)).0 in
-      subst (λ (r : SlotReport). P r.generation) (sym (slot_same late after i c3)) last
-
-  -- and the one that its turn finds, told without the state that the turn pushes
-  pub found_generation : (m : ℕ) → Carry s i low P run → P (slot_told run i).generation → length run.reports ≤ m → m ≤ length (with_cycles s round.entries (with_calls round run)).reports
-      → P (report_at (report_of (with_cycles s round.entries (with_calls round run)).reports m).slots i).generation
-  found_generation m carry told below high =
-      let called : Run = with_calls round run in
-      let c1 : SameReports run called = calls_same round run in
-      let start : P (slot_told called i).generation = subst (λ (r : SlotReport). P r.generation) (sym (slot_same run called i c1)) told in
-      let entries = cycles_generations s i low P round.entries called (λ k z at c. carry k z (ap (λ l. state_of l k) (sym (calls_states round run)) ∙ at) c) start in
-      since_number called (with_cycles s round.entries called) (λ r. P (report_at r.slots i).generation) m entries.1 start (let a = ap length c1.reports in omega (arith, a, below)) high
+-- what the last report after a round tells
+pub round_generation : (s : Session) (marks : Marks) (run : Run) (round : RoundSeen) → LegalRound false s marks run round → (i : ℕ) (low : i < slots) (P : ℕ → Type 0) → Carry s i low P (after_round s run round) → Carry s i low P run → P (slot_told run i).generation → P (slot_told (after_round s run round) i).generation
+round_generation s marks run round legal i low P later carry told =
+    let after : Run = after_round s run round in
+    let called : Run = with_calls round run in
+    let before : Run = before_turn s run round in
+    let turn : Run = after_turn s run round in
+    let late : Run = with_cycles s (late_of run round) turn in
+    let parts = legal_parts false s marks run round legal in
+    let c1 : SameReports run called = calls_same round run in
+    let c2 : SameReports before turn = turned_same s (found_in s run round) round.turn before in
+    let c3 : SameReports late after = same_both late (all_played s run round) after (loaded_same round.turn late) (same_both (all_played s run round) (met_after s run round) after (met_same s (all_played s run round)) (ends_same (met_after s run round))) in
+    let first : P (slot_told before i).generation = cycles_generations s i low P marks (early_of run round) called parts.0 (λ k z at c. carry k z (ap (λ l. state_of l k) (sym (calls_states round run)) ∙ at) c) (subst (λ (r : SlotReport). P r.generation) (sym (slot_same run called i c1)) told) in
+    let last : P (slot_told late i).generation = cycles_generations s i low P marks (late_of run round) turn parts.1 (λ k z at c. later k z (ap (λ l. state_of l k) (round_states s run round) ∙ at) c) (subst (λ (r : SlotReport). P r.generation) (sym (slot_same before turn i c2)) first) in
+    subst (λ (r : SlotReport). P r.generation) (sym (slot_same late after i c3)) last
 
 -- ## The states of a round
 
@@ -85,23 +76,31 @@ module _ (s : Session) (marks : Marks) (scales : All (λ (x : Setting). x.scale 
       ∙ ap (λ (l : List FastState). l ++ pushed_by (setup_of s) (outside_of (setup_of s) (found_in s run round t.turn) t.turn) (before_turn s run round).normal t.turn) (before_states s run round)
       ∙ ap (λ (x : FastState). run.states ++ (if is_pushed t.turn.push then x ∷ [] else [])) draft_is
 
+  some_is : (x y : FastState) → Some x ≡ Some y → x ≡ y
+  some_is x y e = ap (λ (o : Option FastState). unwrap_or o x) e
+
+  added : (xs : List FastState) (x z : FastState) (k : ℕ) → state_of (xs ++ x ∷ []) k ≡ Some z → (state_of xs k ≡ Some z) ⊎ (z ≡ x)
+  added xs x z zero e = absurd (true≢false (ap is_some (sym e)))
+  added [] x z (suc zero) e = inr (some_is z x (sym e))
+  added [] x z (suc (suc k)) e = absurd (true≢false (ap is_some (sym e)))
+  added (y ∷ xs) x z (suc zero) e = inl e
+  added (y ∷ xs) x z (suc (suc k)) e = added xs x z (suc k) e
+
+  -- a state after it is one before it, or the draft after it, which was pushed
+  pushed_or : (k : ℕ) (z : FastState) → state_of after.states k ≡ Some z → (state_of run.states k ≡ Some z) ⊎ ((is_pushed t.turn.push ≡ true) × (z ≡ after.normal.draft))
+  pushed_or k z at = by (is_pushed t.turn.push) refl round_pushes
+    where
+      by : (b : Bool) → is_pushed t.turn.push ≡ b → after.states ≡ run.states ++ (if b then after.normal.draft ∷ [] else []) → (state_of run.states k ≡ Some z) ⊎ ((is_pushed t.turn.push ≡ true) × (z ≡ after.normal.draft))
+      by true is whole = elim (added run.states after.normal.draft z k (ap (λ l. state_of l k) (sym whole) ∙ at)) as (λ _. (state_of run.states k ≡ Some z) ⊎ ((is_pushed t.turn.push ≡ true) × (z ≡ after.normal.draft))) [ inl old ↦ inl old | inr same ↦ inr (is, same) ]
+      by false is whole = inl (ap (λ l. state_of l k) (sym (whole ∙ append-nil run.states)) ∙ at)
+
   -- what holds of the states before it and of the draft after it holds of the states after it
   pub states_all : (R : FastState → Type 0) → ((k : ℕ) (z : FastState) → state_of run.states k ≡ Some z → R z) → (is_pushed t.turn.push ≡ true → R after.normal.draft) → (k : ℕ) (z : FastState) → state_of after.states k ≡ Some z → R z
-  states_all R h new k z at = by (is_pushed t.turn.push) round_pushes new
-    where
-      some_is : (x y : FastState) → Some x ≡ Some y → x ≡ y
-      some_is x y e = ap (λ (o : Option FastState). unwrap_or o x) e
+  states_all R h new k z at = elim (pushed_or k z at) as (λ _. R z) [ inl old ↦ h k z old | inr now ↦ subst R (sym now.1) (new now.0) ]
 
-      added : (xs : List FastState) (x : FastState) (k : ℕ) → state_of (xs ++ x ∷ []) k ≡ Some z → (state_of xs k ≡ Some z) ⊎ (z ≡ x)
-      added xs x zero e = absurd (true≢false (ap is_some (sym e)))
-      added [] x (suc zero) e = inr (some_is z x (sym e))
-      added [] x (suc (suc k)) e = absurd (true≢false (ap is_some (sym e)))
-      added (y ∷ xs) x (suc zero) e = inl e
-      added (y ∷ xs) x (suc (suc k)) e = added xs x (suc k) e
-
-      by : (b : Bool) → after.states ≡ run.states ++ (if b then after.normal.draft ∷ [] else []) → (b ≡ true → R after.normal.draft) → R z
-      by true whole new' = elim (added run.states after.normal.draft k (ap (λ l. state_of l k) (sym whole) ∙ at)) as (λ _. R z) [ inl old ↦ h k z old | inr same ↦ subst R (sym same) (new' refl) ]
-      by false whole new' = h k z (ap (λ l. state_of l k) (sym (whole ∙ append-nil run.states)) ∙ at)
+  -- one of a number beyond those before it is the draft after it
+  pub beyond_draft : (k : ℕ) (z : FastState) → length run.states < k → state_of after.states k ≡ Some z → z ≡ after.normal.draft
+  beyond_draft k z above at = elim (pushed_or k z at) as (λ _. z ≡ after.normal.draft) [ inl old ↦ absurd (true≢false (sym (ap is_some old) ∙ ap is_some (state_beyond run.states k above))) | inr now ↦ now.1 ]
 
 -- ## No generation above the draft's
 
@@ -139,5 +138,5 @@ module _ (s : Session) (marks : Marks) (scales : All (λ (x : Setting). x.scale 
       states_all s marks scales long run round legal c (λ z. carries z n ≡ true → (slot_of z n).generation ≤ generation_of after n) (λ k z at carried. let a = ripe.states k z at carried in omega (arith, a, rises)) (λ pushed carried. omega arith) k z at carried in
       record {
         states = states;
-        told = (let told = ripe.told in round_generation s run round n low (λ g. g ≤ generation_of after n) states (λ k z at carried. let a = ripe.states k z at carried in omega (arith, a, rises)) (omega (arith, told, rises)));
+        told = (let told = ripe.told in round_generation s marks run round legal n low (λ g. g ≤ generation_of after n) states (λ k z at carried. let a = ripe.states k z at carried in omega (arith, a, rises)) (omega (arith, told, rises)));
       }

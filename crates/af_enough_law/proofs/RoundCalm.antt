@@ -22,8 +22,8 @@ use Rattle.af_model.specs.ServerCalls.{ServerKept, server_kept, server_keeps, se
 use Rattle.af_runs.specs.Blocks.{BlockTold, Marks, server_list, listed, hand_does}
 use Rattle.af_runs.specs.Found.{TurnFound, outside_of, take_front, LegalTurnBy}
 use Rattle.af_runs.specs.Fronts.{front_of}
-use Rattle.af_runs.specs.Rounds.{LegalRound, LegalEntries, IsFastTurn, most_cycles, fills, early_of, late_of, early_count, before_turn, found_in, turned, after_turn, met_after, after_round}
-use Rattle.af_runs.specs.Runs.{Run, TrackTold, told_at, with_calls, with_cycles, with_turn, turned_track, stream_turned, fast_ended}
+use Rattle.af_runs.specs.Rounds.{LegalRound, LegalEntries, IsFastTurn, fills, early_of, late_of, early_count, before_turn, found_in, turned, after_turn, met_after, after_round}
+use Rattle.af_runs.specs.Runs.{Run, TrackTold, told_at, with_calls, with_cycles, with_turn, turned_track, stream_turned, fast_ended, most_cycles}
 use Rattle.af_runs.specs.Sessions.{Session, setup_of}
 use Rattle.af_enough_law.specs.Courses.{none_shut}
 use Rattle.af_enough_law.proofs.FastFlows.{Later}

@@ -1,35 +1,34 @@
 -- What the reports tell of a slot comes from the states that carry it: so no report has a generation that no state has.
-use Rattle.std.proofs.Common.{◌≡◌, ℕ, ◌<◌, ◌||◌, is_some, unwrap_or, if◌then◌else◌, Bool, true, false, true≢false, Option, Some, None, List, [], ◌∷◌, ◌++◌, refl, sym, ap, ◌∙◌, subst, append_assoc, append-nil}
+use Rattle.std.proofs.Common.{◌≡◌, ℕ, ◌<◌, ◌||◌, is_some, unwrap_or, if◌then◌else◌, Bool, true, false, true≢false, Option, Some, None, List, [], ◌∷◌, refl, sym, ap, ◌∙◌, subst, ◌≤◌, length}
 use Rattle.af_base.specs.declared.log.CycleEntry.{CycleEntry}
-use Rattle.af_base.specs.declared.report.Report.{Report}
 use Rattle.af_base.specs.declared.report.SlotReport.{SlotReport}
 use Rattle.af_base.specs.declared.state.FastState.{FastState}
 use Rattle.af_base.specs.Log.{slots, entry_slot}
 use Rattle.af_model.specs.Cycles.{state_of, last_used}
 use Rattle.af_model.specs.Draft.{initial}
 use Rattle.af_model.specs.Journals.{EntrySeen}
-use Rattle.af_model.specs.Reports.{ServerKnown, report_at, slot_report, carried, counted_look, no_slot}
+use Rattle.af_model.specs.Reports.{ServerKnown, slot_report, carried, counted_look, no_slot}
 use Rattle.af_model.specs.StateQueue.{slot_of, carries}
 use Rattle.af_judge.proofs.DraftBits.{initial_none}
-use Rattle.af_runs.specs.Blocks.{listed}
-use Rattle.af_runs.specs.Runs.{Run, plays, state_for, with_poll, with_looks, with_cycle, with_cycles, known_of, stream_of, last_report}
+use Rattle.af_runs.specs.Blocks.{listed, Marks}
+use Rattle.af_runs.specs.Runs.{Run, plays, state_for, with_poll, with_looks, with_cycle, with_cycles, known_of, stream_of}
 use Rattle.af_runs.specs.Sessions.{Session, cycle_frames}
 use Rattle.af_enough_law.specs.FastFlows.{slot_told}
-use Rattle.af_enough_law.proofs.FastFound.{adds_one}
-use Rattle.af_enough_law.proofs.FastReports.{slot_counts, last_more}
-use Rattle.af_enough_law.proofs.FastSince.{Adds}
-use Rattle.af_enough_law.proofs.FastSteps.{cycle_states}
+use Rattle.af_enough_law.proofs.FastReports.{slot_counts}
+use Rattle.af_enough_law.proofs.FastSteps.{cycle_states, entry_pushed}
+use Rattle.af_runs.proofs.StatesFor.{polled_pushed}
+use Rattle.af_runs.specs.Told.{state_at}
+use Rattle.af_runs.specs.Rounds.{LegalEntries}
 
--- ## The state that an entry counts as
+-- ## The states of a run
 
-either_state : (R : FastState → Type 0) (o p : Option FastState) (x : FastState) → ((z : FastState) → o ≡ Some z → R z) → ((z : FastState) → p ≡ Some z → R z) → R x → R (unwrap_or o (unwrap_or p x))
-either_state R (Some z) p x h g r = h z refl
-either_state R None (Some z) x h g r = g z refl
-either_state R None None x h g r = r
-
--- it is one of those that were pushed, or the one before any edit
-pub state_for_all : (s : Session) (run : Run) (R : FastState → Type 0) → ((k : ℕ) (z : FastState) → state_of run.states k ≡ Some z → R z) → R (initial (cycle_frames s)) → (k : ℕ) → R (state_for s run k)
-state_for_all s run R h r k = either_state R (state_of run.states k) (state_of run.states run.current) (initial (cycle_frames s)) (h k) (h run.current) r
+-- what holds of those that were pushed, and of the one before any edit, holds of the state of each number
+pub state_at_all : (frames : ℕ) (xs : List FastState) (R : FastState → Type 0) → ((k : ℕ) (z : FastState) → state_of xs k ≡ Some z → R z) → R (initial frames) → (k : ℕ) → R (state_at frames xs k)
+state_at_all frames xs R h r k = by (state_of xs k) refl
+  where
+    by : (o : Option FastState) → state_of xs k ≡ o → R (unwrap_or o (initial frames))
+    by (Some z) is = h k z is
+    by None is = r
 
 -- ## One entry
 
@@ -50,33 +49,23 @@ module _ (s : Session) (i : ℕ) (low : i < slots) (P : ℕ → Type 0) where
       by true k = k refl
       by false k = g
 
-  cycle_generation : (run : Run) (e : EntrySeen) → Carry run → P (slot_told run i).generation → P (slot_told (with_cycle s run e) i).generation
+  cycle_generation : (run : Run) (e : EntrySeen) → e.entry.state ≤ length run.states → Carry run → P (slot_told run i).generation → P (slot_told (with_cycle s run e) i).generation
   unfolding with_poll
-  cycle_generation run e carry told =
+  cycle_generation run e pushed carry told =
       let now : Run = with_looks s e (with_poll s e.entry.state run) in
       let x : FastState = state_for s now e.entry.state in
       let y : FastState = state_for s now (last_used run.entries) in
       let before : SlotReport = slot_told run i in
+      let at : state_at (cycle_frames s) run.states e.entry.state ≡ x = sym (polled_pushed s run e.entry.state pushed) in
       let made = carried_report (cycle_frames s) x (Some y) e.entry (known_of (listed (stream_of now x i))) before
-      (state_for_all s now (λ z. carries z i ≡ true → P (slot_of z i).generation) carry (λ c. P_none c) e.entry.state) told in
+      (subst (λ z. carries z i ≡ true → P (slot_of z i).generation) at (state_at_all (cycle_frames s) run.states (λ z. carries z i ≡ true → P (slot_of z i).generation) carry (λ c. P_none c) e.entry.state)) told in
       subst (λ (r : SlotReport). P r.generation) (sym (slot_counts s run e i low)) (either_report (is_some (state_of now.states e.entry.state) || plays x e.entry i) _ before made told)
     where
       P_none : carries (initial (cycle_frames s)) i ≡ true → P (slot_of (initial (cycle_frames s)) i).generation
       P_none c = let none : ⊥ = true≢false (sym c ∙ initial_none (cycle_frames s) i) in absurd none
 
-  -- Some entries, each of whose states does so, report such generations where the last report before them does
-  pub cycles_generations : (es : List EntrySeen) (run : Run) → Carry run → P (slot_told run i).generation → P (slot_told (with_cycles s es run) i).generation × Adds run (with_cycles s es run) (λ r. P (report_at r.slots i).generation)
-  cycles_generations [] run carry told = (told, record { news = []; whole = sym (append-nil run.reports); each = tt })
-  cycles_generations (e ∷ es) run carry told =
-      let next = with_cycle s run e in
-      let now = cycle_generation run e carry told in
-      let rest = cycles_generations es next (λ k z at c. carry k z (ap (λ l. state_of l k) (sym (cycle_states s run e)) ∙ at) c) now in
-      let added = adds_one s run e in
-      let slot : slot_told next i ≡ report_at added.report.slots i = ap (λ (l : List Report). report_at (last_report l).slots i) added.whole ∙ ap (λ (r : Report). report_at r.slots i) (last_more run.reports added.report) in (
-        rest.0,
-        record {
-          news = added.report ∷ rest.1.news;
-          whole = rest.1.whole ∙ ap (λ l. l ++ rest.1.news) added.whole ∙ append_assoc run.reports (added.report ∷ []) rest.1.news;
-          each = (subst (λ (r : SlotReport). P r.generation) slot now, rest.1.each);
-        },
-      )
+  -- Legal entries, each of whose states does so, leave such a generation where the last report before them has one
+  pub cycles_generations : (marks : Marks) (es : List EntrySeen) (run : Run) → LegalEntries s marks run es → Carry run → P (slot_told run i).generation → P (slot_told (with_cycles s es run) i).generation
+  cycles_generations marks [] run legal carry told = told
+  cycles_generations marks (e ∷ es) run legal carry told =
+      cycles_generations marks es (with_cycle s run e) legal.1 (λ k z at c. carry k z (ap (λ l. state_of l k) (sym (cycle_states s run e)) ∙ at) c) (cycle_generation run e (entry_pushed s marks run e legal.0) carry told)

@@ -160,8 +160,8 @@ module _ (s : Session) (marks : Marks) (scales : All (λ (x : Setting). x.scale 
             let was = lends_open s marks scales long run first legal c i named stays lawful o track.calm.stream two_run seen_one home in
             let few = few_one in
             let two_one : 2 ≤ (track_at one.normal.tracks i).life.retries = omega (arith, few) in
-            let turn_two = waits_turn s marks scales long one second legal_second sc_one.stands i named stays_second lawful o_one turn_one.quiet two_one seen_two sc_one.reports lent_by.slot lent_by.item u was in
-            let was_two = waits_open s marks scales long one second legal_second sc_one.stands i named stays_second lawful o_one turn_one.quiet two_one seen_two sc_one.reports lent_by.slot lent_by.item u was in
+            let turn_two = waits_turn s marks scales long one second legal_second sc_one.stands i named stays_second lawful o_one turn_one.quiet two_one seen_two sc_one.states sc_one.reports lent_by.slot lent_by.item u was in
+            let was_two = waits_open s marks scales long one second legal_second sc_one.stands i named stays_second lawful o_one turn_one.quiet two_one seen_two sc_one.states sc_one.reports lent_by.slot lent_by.item u was in
             let says = says_after s marks scales long one second legal_second sc_one.stands i named stays_second lawful o_one turn_one.quiet two_one seen_two lent_by.slot lent_by.item p.lending u.fresh u.told in
             let few_two = retries_round s marks scales long one second legal_second sc_one.stands i 3 named (omega arith) few_one in
             adopted_all run (first ∷ second ∷ []) most total (legal, (turn_of s marks scales long run first legal c, turn_one), (legal_second, (turn_of s marks scales long one second legal_second sc_one.stands, turn_two), tt)) track third legal_third sc_two lent_by.slot lent_by.item p stays_third o_two turn_two.quiet was_two says (omega (arith, few_two))
@@ -202,8 +202,8 @@ module _ (s : Session) (marks : Marks) (scales : All (λ (x : Setting). x.scale 
             let was = lends_open s marks scales long run first legal c i named stays lawful o track.calm.stream two_run seen_one home in
             let few = few_one in
             let two_one : 2 ≤ (track_at one.normal.tracks i).life.retries = omega (arith, few) in
-            let turn_two = waits_turn s marks scales long one second legal_second sc_one.stands i named stays_second lawful o_one turn_one.quiet two_one seen_two sc_one.reports lent_by.slot lent_by.item u was in
-            let was_two = waits_open s marks scales long one second legal_second sc_one.stands i named stays_second lawful o_one turn_one.quiet two_one seen_two sc_one.reports lent_by.slot lent_by.item u was in
+            let turn_two = waits_turn s marks scales long one second legal_second sc_one.stands i named stays_second lawful o_one turn_one.quiet two_one seen_two sc_one.states sc_one.reports lent_by.slot lent_by.item u was in
+            let was_two = waits_open s marks scales long one second legal_second sc_one.stands i named stays_second lawful o_one turn_one.quiet two_one seen_two sc_one.states sc_one.reports lent_by.slot lent_by.item u was in
             let says = says_after s marks scales long one second legal_second sc_one.stands i named stays_second lawful o_one turn_one.quiet two_one seen_two lent_by.slot lent_by.item p.lending u.fresh u.told in
             let few_two = retries_round s marks scales long one second legal_second sc_one.stands i 3 named (omega arith) few_one in
             late_is s marks scales long i named lawful run first second most total (legal, (turn_of s marks scales long run first legal c, turn_one), (legal_second, (turn_of s marks scales long one second legal_second sc_one.stands, turn_two), tt)) track third legal_third sc_two lent_by.slot lent_by.item p leaves sc_three o_two next legal_next silent turn_two.quiet was_two says (omega (arith, few_two)) two_three out alive emptied

@@ -1,6 +1,5 @@
 -- The rounds in which a proxy is lent and on its way: what the turns hear of it, and what they leave.
-use Rattle.std.proofs.Common.{◌≡◌, ℕ, ◌+◌, ◌≤◌, ◌<◌, unwrap_or, if◌then◌else◌, Bool, true, false, All, Option, length, refl, sym, ap, ◌∙◌, subst, arith}
-use Rattle.std.specs.Prelude.{max}
+use Rattle.std.proofs.Common.{◌≡◌, ℕ, ◌+◌, ◌≤◌, ◌<◌, unwrap_or, if◌then◌else◌, Bool, true, false, All, Option, length, refl, sym, ap, ◌∙◌, subst, arith, inl, is_some, Some}
 use Rattle.af_base.specs.declared.report.SlotReport.{SlotReport}
 use Rattle.af_base.specs.declared.state.FastTrack.{FastTrack}
 use Rattle.af_base.specs.Log.{slots}
@@ -10,20 +9,20 @@ use Rattle.af_life.specs.declared.kept.Holder.TheVariants.{Lent}
 use Rattle.af_life.specs.declared.kept.Setting.{Setting}
 use Rattle.af_life.specs.declared.kept.TrackKept.{TrackKept}
 use Rattle.af_life.specs.Heard.{learnt, heard, heard_by, heard_at_home, heard_elsewhere, slot_reported}
-use Rattle.af_life.specs.Kept.{Learnt, track_at, track_in, is_home, number_of}
+use Rattle.af_life.specs.Kept.{Learnt, track_at, track_in, is_home, number_of, NormalKept}
 use Rattle.af_model.specs.declared.shape.Shape.{Shape}
 use Rattle.af_model.specs.Cycles.{state_of}
 use Rattle.af_model.specs.Journals.{RoundSeen}
 use Rattle.af_model.specs.Reports.{report_at}
 use Rattle.af_model.specs.StateQueue.{slot_of, carries}
 use Rattle.af_runs.specs.Blocks.{Marks, server_list}
-use Rattle.af_runs.specs.Rounds.{LegalRound, early_of, late_of, after_turn, met_after, after_round}
-use Rattle.af_runs.specs.Runs.{Run, told_at, with_calls, with_cycles, report_of}
+use Rattle.af_runs.specs.Rounds.{LegalRound, early_of, late_of, after_turn, met_after, after_round, before_turn}
+use Rattle.af_runs.specs.Runs.{Run, told_at, with_calls, with_cycles, report_of, load_of}
 use Rattle.af_runs.specs.Sessions.{Session, track_count, setup_of}
 use Rattle.af_enough_law.specs.Carried.{SessionStands}
 use Rattle.af_enough_law.specs.Courses.{none_shut}
 use Rattle.af_enough_law.specs.Drafts.{is_busy}
-use Rattle.af_enough_law.specs.FastFlows.{Plays, KnowsReports, slot_told}
+use Rattle.af_enough_law.specs.FastFlows.{Plays, KnowsReports, slot_told, HasItem, KnowsStates}
 use Rattle.af_enough_law.specs.NormalRounds.{TurnMade}
 use Rattle.af_enough_law.proofs.AdoptRounds.{away_heard}
 use Rattle.af_enough_law.proofs.AwayKeeps.{StaysOpen, away_turn, looks_open}
@@ -37,12 +36,18 @@ use Rattle.af_enough_law.proofs.Generations.{Attached, greeted_lent, greeted_sam
 use Rattle.af_enough_law.proofs.HomeRounds.{IsNamed}
 use Rattle.af_enough_law.proofs.Lending.{IsLending, WasOpen, LentBy, open_now, open_still, lent_now, lent_still, lending_draft, busy_same, free_plays}
 use Rattle.af_enough_law.proofs.MeetReports.{SaysOpenOf}
-use Rattle.af_enough_law.proofs.MeetRounds.{HaveTrack, round_says}
-use Rattle.af_enough_law.proofs.RipeRounds.{IsRipe, states_all, round_generation, found_generation}
+use Rattle.af_enough_law.proofs.MeetRounds.{HaveTrack, round_says, Meeting, meets_open, named_at}
+use Rattle.af_enough_law.proofs.RipeRounds.{IsRipe, states_all, round_generation, beyond_draft}
 use Rattle.af_enough_law.proofs.RoundCalm.{turned_quiet}
 use Rattle.af_enough_law.proofs.SessionRounds.{turn_of, turn_runs}
 use Rattle.af_enough_law.proofs.SlotReports.{Carry}
 use Rattle.af_enough_law.proofs.StreamCalm.{IsQuiet, LiesIn, lies_earlier}
+use Rattle.af_enough_law.proofs.LentRounds.{draft_item}
+use Rattle.af_enough_law.proofs.LentTurns.{turn_leaves}
+use Rattle.af_enough_law.proofs.LeftEntries.{HasOrOut}
+use Rattle.af_enough_law.proofs.FastFound.{plays_item}
+use Rattle.af_life.specs.Turn.{turn_after}
+use Rattle.af_base.specs.declared.state.FastState.{FastState}
 
 -- ## After a turn
 
@@ -116,7 +121,7 @@ module _ (s : Session) (marks : Marks) (scales : All (λ (x : Setting). x.scale 
       by true busy =
           let same = (busy_same s marks scales long run round legal c i named busy).0 in
           let fresh_then : Carry s slot l.low (λ g. g + 1 ≤ item.generation) after = λ k z at. fresh k z (ap (λ xs. state_of xs k) (sym same) ∙ at) in
-          to_push busy (record { lending = l; fresh = fresh_then; told = round_generation s run round slot l.low (λ g. g + 1 ≤ item.generation) fresh_then fresh told })
+          to_push busy (record { lending = l; fresh = fresh_then; told = round_generation s marks run round legal slot l.low (λ g. g + 1 ≤ item.generation) fresh_then fresh told })
       by false free = let p = free_plays s marks scales long run round legal c i named slot item l free in pushed free (record { lending = l; some = p.0; last = p.1 })
 
   -- a turn that lends the proxy, of which no state before had the generation
@@ -178,7 +183,7 @@ module _ (s : Session) (marks : Marks) (scales : All (λ (x : Setting). x.scale 
       lends_open = open_now s marks scales long run round legal c i named home stays (own_heard ((learnt t.by.outside).own i) (slot_reported (learnt t.by.outside) g) g greeted unshut)
 
     -- and so is one in which it waits for its push
-    module _ (reports : KnowsReports run) (slot : ℕ) (item : FastTrack) (u : Unpushed s run i slot item) (was : WasOpen run i) where
+    module _ (states : KnowsStates s run) (reports : KnowsReports run) (slot : ℕ) (item : FastTrack) (u : Unpushed s run i slot item) (was : WasOpen run i) where
       pub waits_open : WasOpen after i
       waits_open = open_still s marks scales long run round legal c i named u.lending.lent was
 
@@ -191,15 +196,39 @@ module _ (s : Session) (marks : Marks) (scales : All (λ (x : Setting). x.scale 
           away : is_home g.holder ≡ false
           away = ap is_home (greeted_lent t.turn.ack run.normal.last (track_at run.normal.tracks i) u.lending.lent)
 
+          still : IsLending s after i slot item
+          still = lent_still s marks scales long run round legal c i named slot item u.lending stays
+
+          slot_next : is_some (track_at (turn_after (setup_of s) (learnt t.by.outside) run.normal t.turn).tracks i).slot ≡ true
+          slot_next = ap (λ (m : NormalKept). is_some (track_at m.tracks i).slot) (sym t.after) ∙ ap is_some still.slot_is
+
+          turn_adds : server_list (told_at (after_turn s run round) i).stream ≡ server_list (told_at (before_turn s run round) i).stream
+          turn_adds = turn_leaves s marks run round t i numbers.low numbers.there goes away slot_next
+
+          meeting : Meeting s run i slot item
+          meeting = record {
+            there = numbers.low;
+            some = (let a = ((c.order.sound.slotted i).slot (ap is_some u.lending.slot_is)).0 in let b = ap number_of u.lending.slot_is in omega (arith, a, b));
+            low = u.lending.low;
+            is = ap (λ (x : FastTrack). x.track) u.lending.item_is;
+            named = named_at s marks i slot item u.lending.low run (have_none s marks i slot item u.lending.low run u.fresh) (length run.states);
+            draft = draft_item s run i slot item c.order c.items u.lending.lent u.lending.slot_is u.lending.item_is;
+            says = says_none item (slot_told run slot) u.told;
+            quiet = quiet;
+            going = c.going;
+            knows = states;
+          }
+
+          -- a state that the turn pushes has the item
+          pushed_has : (k : ℕ) (y : FastState) → length run.states < k → state_of after.states k ≡ Some y → HasOrOut i slot item y
+          pushed_has k y above is = inl (subst (HasItem slot item) (sym (beyond_draft s marks scales long run round legal c k y above is)) (plays_item slot item after.normal.draft (lending_draft s marks scales long run round legal c i named slot item still)))
+
           report : (slot_reported (learnt t.by.outside) g).generation ≡ g.generation → (slot_reported (learnt t.by.outside) g).shut ≡ false
           report e =
               let within = found_within s run round marks false t.turn legal c.stored reports t.is goes c.logged in
-              let m : ℕ = max (length (with_calls round run).entries) t.turn.cycle in
+              let m : ℕ = load_of (with_calls round run) t.turn in
               let number = ap number_of ((greeted_alike t.turn.ack run.normal.last (track_at run.normal.tracks i)).slot ∙ u.lending.slot_is) in
-              let found : (report_at (report_of (with_cycles s round.entries (with_calls round run)).reports m).slots slot).generation + 1 ≤ item.generation =
-              found_generation s run round slot u.lending.low (λ g. g + 1 ≤ item.generation) m u.fresh u.told within.0 within.1 in
+              let found : SaysOpenOf item (report_at (report_of (with_cycles s round.entries (with_calls round run)).reports m).slots slot) = meets_open s marks run round i slot item legal meeting pushed_has turn_adds seen m within.0 within.1 in
               let here : report_at (report_of (with_cycles s round.entries (with_calls round run)).reports m).slots slot ≡ slot_reported (learnt t.by.outside) g =
               ap (λ (n : ℕ). report_at (report_of (with_cycles s round.entries (with_calls round run)).reports m).slots n) (sym number) ∙ ap (λ (k : Learnt). slot_reported k g) (sym t.sees) in
-              let h = ap (λ (r : SlotReport). r.generation) here in
-              let same_generation : item.generation ≡ g.generation = ap (λ (x : FastTrack). x.generation) u.lending.item_is ∙ sym alike.generation in
-              absurd (let z : ⊥ = omega (arith, found, h, e, same_generation) in z)
+              subst (SaysOpenOf item) here found (e ∙ alike.generation ∙ sym (ap (λ (x : FastTrack). x.generation) u.lending.item_is))

@@ -16,13 +16,13 @@ use Rattle.af_enough_law.specs.Drafts.{is_busy, PushMade}
 use Rattle.af_enough_law.specs.FastFlows.{AllStates}
 use Rattle.af_enough_law.specs.NormalRounds.{TurnMade}
 use Rattle.af_enough_law.proofs.Commanding.{le_cases}
-use Rattle.af_enough_law.proofs.FastFound.{state_none}
 use Rattle.af_enough_law.proofs.FastMixes.{state_more}
 use Rattle.af_enough_law.proofs.FastPolls.{round_states, turn_more}
 use Rattle.af_enough_law.proofs.LastStates.{round_last}
 use Rattle.af_enough_law.proofs.LentRounds.{state_last}
 use Rattle.af_enough_law.proofs.RestTurns.{low_or}
 use Rattle.af_enough_law.proofs.SessionRounds.{turn_of, push_of, states_few}
+use Rattle.af_runs.proofs.StatesFor.{state_beyond}
 
 module _ (s : Session) (marks : Marks) (scales : All (λ (x : Setting). x.scale ≤ 4096) (setup_of s).settings) (long : length (setup_of s).settings ≡ track_count s) (run : Run) (round : RoundSeen) (legal : LegalRound false s marks run round) (c : SessionCarried s run)
     (P : FastState → Type 0) (some : 1 ≤ length run.states) (before : P run.normal.last) (draft : P (turn_after (setup_of s) (learnt (turn_of s marks scales long run round legal c.stands).by.outside) run.normal (turn_of s marks scales long run round legal c.stands).turn).draft) where
@@ -65,7 +65,7 @@ module _ (s : Session) (marks : Marks) (scales : All (λ (x : Setting). x.scale 
         where
           by_place : (k ≤ length after.states) ⊎ (length after.states < k) → k ≤ length after.states
           by_place (inl low) = low
-          by_place (inr far) = absurd (true≢false (sym (ap is_some is) ∙ ap is_some (state_none after.states k far)))
+          by_place (inr far) = absurd (true≢false (sym (ap is_some is) ∙ ap is_some (state_beyond after.states k far)))
 
       by : (k : ℕ) (x : FastState) → state_of after.states k ≡ Some x → (k ≡ length run.states) ⊎ (length run.states < k) → k ≤ length after.states → P x
       by k x is (inl same) high =

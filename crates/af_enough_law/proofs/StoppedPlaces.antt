@@ -18,7 +18,7 @@ use Rattle.af_runs.specs.Runs.{Run}
 use Rattle.af_runs.specs.Sessions.{Session}
 use Rattle.af_enough_law.specs.Acks.{KnowsAcked}
 use Rattle.af_enough_law.specs.Courses.{course, Course, stage, life_after}
-use Rattle.af_enough_law.specs.FastFlows.{Plays, LastCarries, IsTold, slot_told}
+use Rattle.af_enough_law.specs.FastFlows.{Plays, IsTold, slot_told}
 use Rattle.af_enough_law.specs.NormalRounds.{TurnMade}
 use Rattle.af_enough_law.specs.TrackTurns.{greeted}
 use Rattle.af_enough_law.proofs.CommandsGo.{OpenTurn}
@@ -81,7 +81,7 @@ pub data Place (s : Session) (run : Run) (i slot : ℕ) (item : FastTrack) : Typ
   at_home : (track_at run.normal.tracks i).holder ≡ Home → Place s run i slot item
   comes : (track_at run.normal.tracks i).holder ≡ Returning → Coming run slot → Place s run i slot item
   waits : (track_at run.normal.tracks i).holder ≡ Returning → item.generation ≡ (track_at run.normal.tracks i).generation → 1 ≤ length run.states → IsOut slot i run.normal.last → SaysOpen (slot_told run slot) item → Place s run i slot item
-  unpushed : (track_at run.normal.tracks i).holder ≡ Returning → item.generation ≡ (track_at run.normal.tracks i).generation → KnowsAcked run → 1 ≤ length run.states → Plays slot item run.normal.last → LastCarries run slot → IsTold run i slot item → Place s run i slot item
+  unpushed : (track_at run.normal.tracks i).holder ≡ Returning → item.generation ≡ (track_at run.normal.tracks i).generation → KnowsAcked run → 1 ≤ length run.states → Plays slot item run.normal.last → IsTold run i slot item → Place s run i slot item
 
 pub home_is : (h : Holder) → is_home h ≡ true → h ≡ Home
 home_is Home e = refl

@@ -1,5 +1,5 @@
 -- A round whose states have nothing of a track leaves what the reports say of its slot.
-use Rattle.std.proofs.Common.{◌≡◌, ℕ, ◌≤◌, ◌<◌, unwrap_or, false, Option, Some, None, List, [], ◌∷◌, ◌++◌, length, refl, sym, ap, ◌∙◌, subst, arith, append_assoc, append-nil}
+use Rattle.std.proofs.Common.{◌≡◌, ℕ, ◌≤◌, ◌<◌, false, Option, Some, None, List, [], ◌∷◌, ◌++◌, length, refl, sym, ap, ◌∙◌, subst, arith, append_assoc, append-nil}
 use Rattle.std.proofs.lemmas.List.{take-append-drop}
 use Rattle.af_base.specs.declared.report.Report.{Report}
 use Rattle.af_base.specs.declared.report.SlotReport.{SlotReport}
@@ -13,8 +13,7 @@ use Rattle.af_runs.specs.Blocks.{Marks}
 use Rattle.af_runs.specs.Fronts.{is_shown}
 use Rattle.af_runs.specs.Rounds.{LegalRound, LegalEntry, LegalEntries, early_count, early_of, late_of, before_turn, found_in, after_turn, all_played, met_after, after_round}
 use Rattle.af_runs.specs.Runs.{Run, state_for, last_report, report_of, with_calls, with_poll, with_looks, with_mix, with_cycle, with_cycles, fast_ended}
-use Rattle.af_runs.specs.Sessions.{Session, cycle_frames}
-use Rattle.af_runs.specs.Told.{state_at}
+use Rattle.af_runs.specs.Sessions.{Session}
 use Rattle.af_enough_law.specs.FastFlows.{AllUse, KnowsStates, slot_told}
 use Rattle.af_enough_law.proofs.FastFound.{adds_one}
 use Rattle.af_enough_law.proofs.FastPolls.{calls_states, before_states, round_states, fast_parts, parts_use}
@@ -24,6 +23,7 @@ use Rattle.af_enough_law.proofs.FastSteps.{cycle_states}
 use Rattle.af_enough_law.proofs.LeftEntries.{IsOut, next_kept, next_unshown, shows_nothing}
 use Rattle.af_enough_law.proofs.LeftFound.{cycles_append, adds_both}
 use Rattle.af_enough_law.proofs.LentFlows.{state_there}
+use Rattle.af_runs.proofs.StatesFor.{polled_known}
 
 -- the states from this number on have nothing of the track
 abbrev pub AllOut : ℕ → ℕ → ℕ → Run → Type 0
@@ -40,7 +40,7 @@ module _ (s : Session) (marks : Marks) (track slot n : ℕ) (some : 0 < slot) (l
   unfolding with_poll with_mix
   entry_kept run e out high pushed =
       let y = state_there run.states e.entry.state (omega (arith, one, high)) pushed in
-      let is : state_for s (with_looks s e (with_poll s e.entry.state run)) e.entry.state ≡ y.0 = ap (λ (o : Option FastState). unwrap_or o (state_at (cycle_frames s) run.states (with_poll s e.entry.state run).current)) y.1 in
+      let is : state_for s (with_looks s e (with_poll s e.entry.state run)) e.entry.state ≡ y.0 = polled_known s run e.entry.state y.0 y.1 in
       slot_counts s run e slot low ∙ next_kept s (with_looks s e (with_poll s e.entry.state run)) e.entry (last_report run.reports).slots slot (ap (λ (z : FastState). carries z slot) is ∙ (out e.entry.state y.0 high y.1).free)
 
   found_kept : (run told : Run) (e : EntrySeen) → AllOut slot track n run → AllOut slot track n told → LegalEntry s marks (with_poll s e.entry.state run) e → n ≤ e.entry.state → e.entry.state ≤ length run.states → slot_told (with_cycle s told e) slot ≡ slot_told told slot
@@ -49,7 +49,7 @@ module _ (s : Session) (marks : Marks) (track slot n : ℕ) (some : 0 < slot) (l
     where
       by : (o : Option FastState) → state_of told.states e.entry.state ≡ o → slot_told (with_cycle s told e) slot ≡ slot_told told slot
       by (Some x) is =
-          let at : state_for s (with_looks s e (with_poll s e.entry.state told)) e.entry.state ≡ x = ap (λ (o : Option FastState). unwrap_or o (state_at (cycle_frames s) told.states (with_poll s e.entry.state told).current)) is in
+          let at : state_for s (with_looks s e (with_poll s e.entry.state told)) e.entry.state ≡ x = polled_known s told e.entry.state x is in
           slot_counts s told e slot low ∙ next_kept s (with_looks s e (with_poll s e.entry.state told)) e.entry (last_report told.reports).slots slot (ap (λ (z : FastState). carries z slot) at ∙ (out_told e.entry.state x high is).free)
       by None is =
           let y = state_there run.states e.entry.state (omega (arith, one, high)) pushed in

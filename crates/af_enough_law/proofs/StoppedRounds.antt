@@ -1,6 +1,5 @@
 -- A round of a stopped track: its turn doesn't hear that its stream is shut, wherever its proxy is, and leaves the proxy in such a place. What isn't told by the history of this round is told by that of the next one.
 use Rattle.std.proofs.Common.{◌≡◌, ◌⊎◌, inl, inr, ℕ, ◌≤◌, ◌<◌, ◌==◌, unwrap_or, is_some, Bool, true, false, true≢false, All, Option, Some, ◌++◌, length, length-append, refl, sym, ap, ◌∙◌, subst, arith}
-use Rattle.std.specs.Prelude.{max}
 use Rattle.af_base.specs.declared.report.SlotReport.{SlotReport}
 use Rattle.af_base.specs.declared.state.FastState.{FastState}
 use Rattle.af_base.specs.declared.state.FastTrack.{FastTrack}
@@ -18,13 +17,13 @@ use Rattle.af_model.specs.Reports.{report_at}
 use Rattle.af_model.specs.StateQueue.{carries}
 use Rattle.af_runs.specs.Blocks.{Marks}
 use Rattle.af_runs.specs.Rounds.{LegalRound, met_after, after_round}
-use Rattle.af_runs.specs.Runs.{Run, told_at, with_calls, with_cycles, report_of, takes_part}
+use Rattle.af_runs.specs.Runs.{Run, told_at, with_calls, with_cycles, report_of, takes_part, load_of}
 use Rattle.af_runs.specs.Sessions.{Session, track_count, setup_of, cycle_frames}
 use Rattle.af_enough_law.specs.Acks.{KnowsAcked}
 use Rattle.af_enough_law.specs.Carried.{SessionCarried}
 use Rattle.af_enough_law.specs.Drafts.{next_holder, is_busy, PushMade}
 use Rattle.af_enough_law.specs.Ends.{IsInOrder}
-use Rattle.af_enough_law.specs.FastFlows.{Plays, LastCarries, IsTold, slot_told}
+use Rattle.af_enough_law.specs.FastFlows.{Plays, IsTold, slot_told}
 use Rattle.af_enough_law.specs.NormalRounds.{TurnMade}
 use Rattle.af_enough_law.proofs.Acks.{turn_sees_ack}
 use Rattle.af_enough_law.proofs.CommandsGo.{OpenTurn}
@@ -33,7 +32,6 @@ use Rattle.af_enough_law.proofs.Drafts.{holder_turned}
 use Rattle.af_enough_law.proofs.EndRounds.{order_round}
 use Rattle.af_enough_law.proofs.Ends.{greeted_home, silent}
 use Rattle.af_enough_law.proofs.EntryCounts.{found_within}
-use Rattle.af_enough_law.proofs.FastFound.{state_none}
 use Rattle.af_enough_law.proofs.FastMixes.{state_more}
 use Rattle.af_enough_law.proofs.FastPolls.{round_states, turn_more}
 use Rattle.af_enough_law.proofs.FastRounds.{ends_part}
@@ -55,6 +53,7 @@ use Rattle.af_enough_law.proofs.StoppedPlaces.{Place, at_home, comes, waits, unp
 use Rattle.af_enough_law.proofs.StoppedReports.{AllOut, SameSlot, slot_untouched}
 use Rattle.af_enough_law.proofs.StoppedTracks.{StoppedCarried, home_open}
 use Rattle.af_enough_law.proofs.TurnLives.{shut_turned}
+use Rattle.af_runs.proofs.StatesFor.{state_beyond}
 
 not_zero : (n : ℕ) → 3 ≤ n → (n == 0) ≡ false
 not_zero n some = search (arith, some)
@@ -143,7 +142,7 @@ module _ (s : Session) (marks : Marks) (scales : All (λ (x : Setting). x.scale 
         by_push false pushed more = subst (IsOut slot i) (sym (made.done pushed).1) out_then
 
         by : (m ≤ length after.states) ⊎ (length after.states < m) → IsOut slot i y
-        by (inr far) = absurd (true≢false (sym (ap is_some is) ∙ ap is_some (state_none after.states m far)))
+        by (inr far) = absurd (true≢false (sym (ap is_some is) ∙ ap is_some (state_beyond after.states m far)))
         by (inl high) =
             let count = states_few s marks scales long run round legal c.stands in
             let at : m ≡ length after.states = omega (arith, above, high, count) in
@@ -169,7 +168,7 @@ module _ (s : Session) (marks : Marks) (scales : All (λ (x : Setting). x.scale 
         where
           by : (m ≡ n) ⊎ (n < m) → IsOut slot i y
           by (inl at) = subst (IsOut slot i) (some_is run.normal.last y (sym (first some) ∙ ap (state_of run.states) (sym at) ∙ is)) out
-          by (inr above) = absurd (true≢false (sym (ap is_some is) ∙ ap is_some (state_none run.states m above)))
+          by (inr above) = absurd (true≢false (sym (ap is_some is) ∙ ap is_some (state_beyond run.states m above)))
 
       all_after : AllOut slot i n after
       all_after m y high is = by (le_cases n m high)
@@ -189,7 +188,7 @@ module _ (s : Session) (marks : Marks) (scales : All (λ (x : Setting). x.scale 
       report : slot_reported (learnt t.by.outside) g ≡ slot_told run slot
       report =
           let within = found_within s run round marks false t.turn legal c.stands.stored c.reports t.is runs c.stands.logged in
-          let m : ℕ = max (length (with_calls round run).entries) t.turn.cycle in
+          let m : ℕ = load_of (with_calls round run) t.turn in
           ap (λ (k : Learnt). slot_reported k g) t.sees
           ∙ ap (λ (j : ℕ). report_at (report_of (with_cycles s round.entries (with_calls round run)).reports m).slots j) number_g ∙ kept.found m within.0 within.1
 
@@ -208,7 +207,7 @@ module _ (s : Session) (marks : Marks) (scales : All (λ (x : Setting). x.scale 
 
     -- ## Where the last state still carries it, and is known to be acknowledged
 
-    module _ (same : item.generation ≡ (track_at run.normal.tracks i).generation) (acked : KnowsAcked run) (some : 1 ≤ n) (last : Plays slot item run.normal.last) (used : LastCarries run slot) (told : IsTold run i slot item) where
+    module _ (held : (track_at run.normal.tracks i).holder ≡ Returning) (same : item.generation ≡ (track_at run.normal.tracks i).generation) (acked : KnowsAcked run) (some : 1 ≤ n) (last : Plays slot item run.normal.last) (told : IsTold run i slot item) where
       free : is_busy t.turn.push ≡ false
       free = (turn_sees_ack false s marks run round legal c.stands.runs acked t).1 runs
 
@@ -233,10 +232,9 @@ module _ (s : Session) (marks : Marks) (scales : All (λ (x : Setting). x.scale 
         states = some;
         last = first some;
         plays = last;
-        used = used;
+        draft = inr (draft_out run.normal i slot c.stands.order held (ap number_of slot_is));
         told = told;
         quiet = z.quiet (seen_earlier (told_at run i).stream (told_at after i).stream (round_later s run round i low) seen);
-        current = c.stands.queue.current;
         going = c.stands.going;
         knows = c.states;
       }
@@ -263,7 +261,7 @@ module _ (s : Session) (marks : Marks) (scales : All (λ (x : Setting). x.scale 
       report_open : Foreseen (told_at after i).stream → SaysOpen (slot_reported (learnt t.by.outside) g) item
       report_open seen =
           let within = found_within s run round marks false t.turn legal c.stands.stored c.reports t.is runs c.stands.logged in
-          let m : ℕ = max (length (with_calls round run).entries) t.turn.cycle in
+          let m : ℕ = load_of (with_calls round run) t.turn in
           subst (λ (r : SlotReport). SaysOpen r item)
           (ap (λ (j : ℕ). report_at (report_of (with_cycles s round.entries (with_calls round run)).reports m).slots j) (sym number_g) ∙ ap (λ (k : Learnt). slot_reported k g) (sym t.sees))
           ((open_by seen).found m within.0 within.1)
@@ -308,6 +306,6 @@ module _ (s : Session) (marks : Marks) (scales : All (λ (x : Setting). x.scale 
       by : (g.holder ≡ Home) ⊎ (g.holder ≡ Returning) → PlaceGone
       by (inl home) = home_gone home
       by (inr away) = record { turn = waits_open away same some out says; place = λ silent. waits_then away same some out says }
-  place_gone (unpushed back same acked some last used told) =
+  place_gone (unpushed back same acked some last told) =
       let away : g.holder ≡ Returning = greeted_stays t.turn.ack run.normal.last (track_at run.normal.tracks i) (ap (carries run.normal.last) (ap number_of slot_is) ∙ last.carried) ∙ back in
-      record { turn = unpushed_open away same acked some last used told; place = λ silent. unpushed_then away same acked some last used told }
+      record { turn = unpushed_open away back same acked some last told; place = λ silent. unpushed_then away back same acked some last told }

@@ -1,5 +1,5 @@
 -- Where no client flushes, the entries of a round leave a stream block's server calm and open.
-use Rattle.std.proofs.Common.{◌≡◌, ℕ, zero, suc, ◌+◌, ◌-◌, ◌≤◌, ◌<◌, ◌==◌, ◌&&◌, if◌then◌else◌, unwrap_or, Bool, true, false, true≢false, Option, Some, None, List, [], ◌∷◌, ◌++◌, length, refl, sym, ap, ◌∙◌, subst, arith, append_assoc, eqb-true, is_some}
+use Rattle.std.proofs.Common.{◌≡◌, ℕ, zero, suc, ◌+◌, ◌-◌, ◌≤◌, ◌<◌, ◌==◌, ◌&&◌, if◌then◌else◌, Bool, true, false, true≢false, Option, Some, None, List, [], ◌∷◌, ◌++◌, length, refl, sym, ap, ◌∙◌, subst, arith, append_assoc, eqb-true, is_some}
 use Rattle.std.proofs.lemmas.List.{get_or-replicate}
 use Rattle.std.specs.List.{find, range_with_len}
 use Rattle.af_base.specs.declared.event.ClientEvent.{ClientEvent}
@@ -23,13 +23,13 @@ use Rattle.af_runs.specs.Fronts.{front_of, is_shown}
 use Rattle.af_runs.specs.Rounds.{LegalEntry, LegalEntries}
 use Rattle.af_runs.specs.Runs.{Run, TrackTold, told_at, plays, slot_for, played, state_for, with_poll, with_cycle, with_cycles}
 use Rattle.af_runs.specs.Sessions.{Session, cycle_frames}
-use Rattle.af_runs.specs.Told.{state_at}
 use Rattle.af_enough_law.specs.FastFlows.{IsShown}
 use Rattle.af_enough_law.specs.Seen.{is_calm, are_calm}
 use Rattle.af_enough_law.proofs.Fair.{calm_drops}
 use Rattle.af_enough_law.proofs.FastFlows.{Later, cycles_later}
 use Rattle.af_enough_law.proofs.FastShows.{Setting, slot_look}
 use Rattle.af_enough_law.proofs.FastSteps.{cycle_length, cycle_track, played_server}
+use Rattle.af_runs.proofs.StatesFor.{state_known}
 
 -- ## Lists
 
@@ -146,7 +146,7 @@ slot_looks s marks run e track i legal is =
     by_state None none x same low carried shown at = absurd (still_shows e.entry i low (legal.cycle.still (idle_still e.entry.cycle _ (state_of run.states e.entry.state) legal.cycle.what none)) shown)
     by_state (Some y) some x same low carried shown at =
         let now = with_poll s e.entry.state run in
-        let is_y : x ≡ y = same ∙ ap (λ (o : Option FastState). unwrap_or o (state_at (cycle_frames s) now.states now.current)) some in
+        let is_y : x ≡ y = same ∙ state_known s now e.entry.state y some in
         by_mix (is_mixed e.entry.cycle) refl x (some ∙ ap Some (sym is_y)) same low carried shown at
 
 -- ## Some entries

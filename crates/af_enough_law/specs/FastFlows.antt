@@ -66,6 +66,12 @@ pub record Plays (i : ℕ) (item : FastTrack) (x : FastState) : Type 0 where
   pub is : slot_of x i ≡ item
   pub only : (j : ℕ) → j < slots → carries x j ≡ true → (slot_of x j).track ≡ item.track → j ≡ i
 
+-- the state carries this track in this slot and in no other, whatever it makes
+pub record HasItem (i : ℕ) (item : FastTrack) (x : FastState) : Type 0 where
+  pub carried : carries x i ≡ true
+  pub is : slot_of x i ≡ item
+  pub only : (j : ℕ) → j < slots → carries x j ≡ true → (slot_of x j).track ≡ item.track → j ≡ i
+
 -- how many frames the entries took in a slot
 abbrev pub taken_in : ℕ → List EntrySeen → ℕ
 taken_in i [] = 0

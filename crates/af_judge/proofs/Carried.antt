@@ -25,7 +25,7 @@ use Rattle.af_life.proofs.Lives.{acked_len, edits_len, served_len}
 use Rattle.af_model.specs.Draft.{detached}
 use Rattle.af_model.specs.StateQueue.{carries, slot_of}
 use Rattle.af_judge.specs.Entries.{CarriesApart, CarriesWithin}
-use Rattle.af_judge.specs.StatesKept.{Carried, CarriesBy, IsAway, IsLent}
+use Rattle.af_judge.specs.StatesKept.{Carried, CarriesBy, IsAway, IsLent, SameSlots}
 use Rattle.af_judge.proofs.DraftBits.{attached_else, detached_else, detached_here, initial_none, slot_else, slot_here}
 use Rattle.af_judge.proofs.SoundEdits.{at_here, at_other, comer_holds, comer_home, comer_inside, comer_slot, inside, lent_away, leaver_slot, sound_go, sound_lend}
 use Rattle.af_judge.proofs.SoundLives.{Goes, goes_served}
@@ -89,6 +89,13 @@ takes_stay asked (take ∷ takes) tracks = stay_then tracks (after_take asked tr
 lent_is_away : (h : Holder) → IsLent h → is_home h ≡ false
 lent_is_away h e = lent_away h e
 
+-- ## A state whose slots stay those of their tracks
+
+-- each slot that it carries is that of its track, whose proxy is away, and is the same in the draft
+record IsKnown (m : NormalKept) (x : FastState) : Type 0 where
+  away : CarriesBy IsAway m.tracks x
+  same : SameSlots m.draft x
+
 -- ## The acknowledgement
 
 stays_out : (last : FastState) (s : TrackKept) → comes_home last s ≡ false → welcomed last s ≡ s
@@ -118,14 +125,21 @@ carried_acked true m c = record {
 
 -- ## The tracks are served
 
+known_served : (c : Setup) (k : Learnt) (e : Turn) (m : NormalKept) (x : FastState) → Carried m → IsKnown m x → IsKnown (after_tracks c k e m) x
+known_served c k e m x h known = record {
+  away = carried_stay IsAway (λ h e. e) m.tracks (served_to c k e.tracks m.tracks (length m.tracks)) (served_stay c k e.tracks m.draft m.tracks (length m.tracks) h.sound) x known.away;
+  same = known.same;
+}
+
 pub carried_served : (c : Setup) (k : Learnt) (e : Turn) (m : NormalKept) → Carried m → Carried (after_tracks c k e m)
 carried_served c k e m h =
     let after : List TrackKept = served_to c k e.tracks m.tracks (length m.tracks) in
-    let stay : StayAway m.tracks after = served_stay c k e.tracks m.draft m.tracks (length m.tracks) h.sound in record {
+    let stay : StayAway m.tracks after = served_stay c k e.tracks m.draft m.tracks (length m.tracks) h.sound in
+    let known = known_served c k e m m.last h (record { away = h.last; same = h.same }) in record {
       sound = sound_served c k e.tracks m.draft m.tracks (length m.tracks) h.sound;
       draft = carried_stay IsLent lent_is_away m.tracks after stay m.draft h.draft;
-      last = carried_stay IsAway (λ h e. e) m.tracks after stay m.last h.last;
-      same = h.same;
+      last = known.away;
+      same = known.same;
     }
 
 -- ## The edits
@@ -154,18 +168,27 @@ module _ (m : NormalKept) (c : Carried m) (i : ℕ) (leaves : must_leave (track_
       (λ (ne : k ≢ k0). (ne, sym (detached_else k0 m.draft low.0 low.1 k lt ne) ∙ on))
       (cases_eq k k0)
 
-  carried_go : Carried (let_go i m)
+  known_go : (x : FastState) → IsKnown m x → IsKnown (let_go i m) x
   unfolding let_go
-  carried_go =
+  known_go x known =
       let s : TrackKept = record (track_at m.tracks i) { holder = Returning } in record {
-        sound = sound_go m c.sound i leaves;
-        draft = (λ k lt on. let p = still k lt on in let h = c.draft k lt p.1 in let n : ℕ = (slot_of m.draft k).track in
-            subst (λ (t : TrackKept). (t.slot ≡ Some k) × IsLent t.holder) (sym (at_other m.tracks i s n (other_track m.tracks n i k h.0 p.0))) h);
-        last = (λ k lt on. let h = c.last k lt on in let n : ℕ = (slot_of m.last k).track in elim (at_set m.tracks i s n) as (λ x. ((track_at (slice_set m.tracks i s) n).slot ≡ Some k) × IsAway (track_at (slice_set m.tracks i s) n).holder) [
+        away = (λ k lt on. let h = known.away k lt on in let n : ℕ = (slot_of x k).track in elim (at_set m.tracks i s n) as (λ w. ((track_at (slice_set m.tracks i s) n).slot ≡ Some k) × IsAway (track_at (slice_set m.tracks i s) n).holder) [
           | inl p ↦ (ap (λ (t : TrackKept). t.slot) p.1 ∙ ap (λ (j : ℕ). (track_at m.tracks j).slot) (sym p.0) ∙ h.0, ap (λ (t : TrackKept). is_home t.holder) p.1)
           | inr q ↦ subst (λ (t : TrackKept). (t.slot ≡ Some k) × IsAway t.holder) (sym q) h
         ]);
-        same = (λ k lt on also. let p = still k lt on in c.same k lt p.1 also);
+        same = (λ k lt on also. let p = still k lt on in known.same k lt p.1 also);
+      }
+
+  carried_go : Carried (let_go i m)
+  unfolding let_go
+  carried_go =
+      let s : TrackKept = record (track_at m.tracks i) { holder = Returning } in
+      let known = known_go m.last (record { away = c.last; same = c.same }) in record {
+        sound = sound_go m c.sound i leaves;
+        draft = (λ k lt on. let p = still k lt on in let h = c.draft k lt p.1 in let n : ℕ = (slot_of m.draft k).track in
+            subst (λ (t : TrackKept). (t.slot ≡ Some k) × IsLent t.holder) (sym (at_other m.tracks i s n (other_track m.tracks n i k h.0 p.0))) h);
+        last = known.away;
+        same = known.same;
       }
 
 -- a track enters
@@ -182,11 +205,11 @@ module _ (m : NormalKept) (c : Carried m) (b : Setup) (i : ℕ) (own : Heard) (e
   low1 : (1 ≤ slot_number (track_at m.tracks i)) × (slot_number (track_at m.tracks i) < slots)
   low1 = comer_slot m c.sound b i own enters
 
-  -- the last state doesn't carry its slot
-  last_not : carries m.last (slot_number (track_at m.tracks i)) ≡ true → ⊥
-  last_not on =
-      let h = c.last k1 low1.1 on in
-      let n : ℕ = (slot_of m.last k1).track in
+  -- such a state doesn't carry its slot
+  known_not : (x : FastState) → IsKnown m x → carries x (slot_number (track_at m.tracks i)) ≡ true → ⊥
+  known_not x known on =
+      let h = known.away k1 low1.1 on in
+      let n : ℕ = (slot_of x k1).track in
       let holds_it : holds k1 (track_at m.tracks n) ≡ true = ap (λ (k : ℕ). holds k (track_at m.tracks n)) (sym (ap number_of h.0)) ∙ away_holds (track_at m.tracks n) (c.sound.slotted n) h.1 in
       other_place m.tracks n i h.1 (comer_home m c.sound b i own enters) (c.sound.alone n i k1 holds_it (comer_holds m c.sound b i own enters))
 
@@ -212,22 +235,34 @@ module _ (m : NormalKept) (c : Carried m) (b : Setup) (i : ℕ) (own : Heard) (e
       (subst (λ (t : TrackKept). (t.slot ≡ Some k) × IsLent t.holder) (sym (at_other m.tracks i s1 n (other_place m.tracks n i (lent_away _ h.1) (comer_home m c.sound b i own enters)))) h))
       (cases_eq k k1)
 
-  carried_lend : Carried (lend b i own m)
+  known_lend : (x : FastState) → IsKnown m x → IsKnown (lend b i own m) x
   unfolding lend
-  carried_lend = record {
-    sound = sound_lend m c.sound b i own enters fine;
-    draft = draft_lent;
-    last = (λ k lt on. let h = c.last k lt on in let n : ℕ = (slot_of m.last k).track in
+  known_lend x known = record {
+    away = (λ k lt on. let h = known.away k lt on in let n : ℕ = (slot_of x k).track in
         subst (λ (t : TrackKept). (t.slot ≡ Some k) × IsAway t.holder) (sym (at_other m.tracks i s1 n (other_place m.tracks n i h.1 (comer_home m c.sound b i own enters)))) h);
     same = (λ k lt on also. ⊎_elim
-        (λ (e : k ≡ k1). absurd (last_not (ap (carries m.last) (sym e) ∙ also)))
-        (λ (ne : k ≢ k1). let other = else_so k ne in other.1 ∙ c.same k lt (sym other.0 ∙ on) also)
+        (λ (e : k ≡ k1). absurd (known_not x known (ap (carries x) (sym e) ∙ also)))
+        (λ (ne : k ≢ k1). let other = else_so k ne in other.1 ∙ known.same k lt (sym other.0 ∙ on) also)
         (cases_eq k k1));
   }
+
+  carried_lend : Carried (lend b i own m)
+  unfolding lend
+  carried_lend =
+      let known = known_lend m.last (record { away = c.last; same = c.same }) in record {
+        sound = sound_lend m c.sound b i own enters fine;
+        draft = draft_lent;
+        last = known.away;
+        same = known.same;
+      }
 
 by_test : (b : Bool) (m n : NormalKept) → (b ≡ true → Carried m) → (b ≡ false → Carried n) → Carried (if b then m else n)
 by_test true m n f g = f refl
 by_test false m n f g = g refl
+
+known_by : (x : FastState) (b : Bool) (m n : NormalKept) → (b ≡ true → IsKnown m x) → (b ≡ false → IsKnown n x) → IsKnown (if b then m else n) x
+known_by x true m n f g = f refl
+known_by x false m n f g = g refl
 
 module _ (b : Setup) (scales : All (λ (s : Setting). s.scale ≤ 4096) b.settings) (k : Learnt) where
   carried_edited : (i : ℕ) (m : NormalKept) → length m.tracks ≤ length b.settings → Carried m → Carried (edited b k i m)
@@ -256,6 +291,39 @@ module _ (b : Setup) (scales : All (λ (s : Setting). s.scale ≤ 4096) b.settin
   carried_after_edits e m few h = carried_mutated e.room (after_tracks b k e (after_ack e.ack m))
       (let l = served_len b k e.tracks (after_ack e.ack m).tracks (length (after_ack e.ack m).tracks) in let a = acked_len e.ack m in omega (arith, l, a, few))
       (carried_served b k e (after_ack e.ack m) (carried_acked e.ack m h))
+
+  known_edited : (i : ℕ) (m : NormalKept) (x : FastState) → length m.tracks ≤ length b.settings → Carried m → IsKnown m x → IsKnown (edited b k i m) x
+  unfolding edited
+  known_edited i m x few h known = known_by x (must_leave (track_at m.tracks i)) _ _ (λ e. known_go m h i e x known)
+      (λ stays. known_by x (must_enter (track_at m.tracks i)) _ m
+      (λ e. known_lend m h b i (k.own i) e (scale_fits b i scales (let l = comer_inside m h.sound b i (k.own i) e in omega (arith, l, few))) x known)
+      (λ f. known))
+
+  known_edits : (n : ℕ) (m : NormalKept) (x : FastState) → length m.tracks ≤ length b.settings → Carried m → IsKnown m x → IsKnown (edited_to b k m n) x
+  known_edits zero m x few h known = known
+  known_edits (suc n) m x few h known = known_edited n (edited_to b k m n) x (let l = edits_len b k m n in omega (arith, l, few)) (carried_edits n m few h) (known_edits n m x few h known)
+
+  known_command : (command : Command) (m : NormalKept) (x : FastState) → IsKnown m x → IsKnown (ordered command m) x
+  unfolding ordered
+  known_command command m x known = known_by x _ m _ (λ e. known) (λ e. record { away = known.away; same = known.same })
+
+  known_mutated : (room : ℕ) (m : NormalKept) (x : FastState) → length m.tracks ≤ length b.settings → Carried m → IsKnown m x → IsKnown (mutated b k room m) x
+  unfolding mutated
+  known_mutated room m x few h known = known_command _ (edited_to b k m (length m.tracks)) x (known_edits (length m.tracks) m x few h known)
+
+  -- a slot that the draft carries before a turn and after its edits is the same in both
+  pub draft_stays : (e : Turn) (m : NormalKept) → length m.tracks ≤ length b.settings → Carried m → SameSlots (after_edits b k e m).draft m.draft
+  draft_stays e m few h =
+      let acked : NormalKept = after_ack e.ack m in
+      let c : Carried acked = carried_acked e.ack m h in
+      let known = known_mutated e.room (after_tracks b k e acked) m.draft
+      (let l = served_len b k e.tracks acked.tracks (length acked.tracks) in let a = acked_len e.ack m in omega (arith, l, a, few))
+      (carried_served b k e acked c) (known_served b k e acked m.draft c (by_ack e.ack c)) in
+      known.same
+    where
+      by_ack : (ack : Bool) → Carried (after_ack ack m) → IsKnown (after_ack ack m) m.draft
+      by_ack true c = record { away = (λ k lt on. let p = c.draft k lt on in (p.0, lent_away _ p.1)); same = (λ k lt on also. refl) }
+      by_ack false c = record { away = (λ k lt on. let p = c.draft k lt on in (p.0, lent_away _ p.1)); same = (λ k lt on also. refl) }
 
   -- ## The push and the takes
 

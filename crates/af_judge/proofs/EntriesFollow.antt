@@ -6,6 +6,7 @@ use Rattle.af_base.specs.declared.frame.Frame.{Frame}
 use Rattle.af_base.specs.declared.log.CycleEntry.{CycleEntry}
 use Rattle.af_base.specs.declared.report.Report.{Report}
 use Rattle.af_base.specs.declared.state.FastState.{FastState}
+use Rattle.af_life.specs.Kept.{NormalKept}
 use Rattle.af_model.specs.JournalForm.{IsEntry}
 use Rattle.af_model.specs.Journals.{EntrySeen, taken_by}
 use Rattle.af_runs.specs.Blocks.{Marks}
@@ -44,6 +45,7 @@ frames-more s run e = ap (sum_by taken_by) (cycle_entries s run e) ∙ sum_by-ap
 -- what is kept of a run within a round
 pub record KeepsPlaying (s : Session) (marks : Marks) (W : ℕ → Type 0) (earlier : List Report) (p : Playing) (run : Run) : Type 0 where
   pub fast : FastOf s earlier run p.fast
+  pub draft : p.fast.told.draft ≡ run.normal.draft
   pub tracks : KeepsTracks s marks W p.tracks run
   pub fits : StatesFit s run
 
@@ -52,16 +54,17 @@ pub entry_keeps : (s : Session) (marks : Marks) (W : ℕ → Type 0) (earlier : 
     → KeepsPlaying s marks W earlier (entry_leaves run.states frames e.entry p) (with_cycle s run e)
 unfolding entry_leaves
 entry_keeps s marks W earlier frames p run e stands keeps = record {
-  fast = fast_follows s marks W earlier run e p.fast frames p.tracks keeps.fits stands keeps.fast keeps.tracks;
-  tracks = tracks_follow s marks W earlier run e p.fast frames p.tracks keeps.fits stands keeps.fast keeps.tracks;
-  fits = fits_follow s marks W earlier run e p.fast frames p.tracks keeps.fits stands keeps.fast keeps.tracks;
+  fast = fast_follows s marks W earlier run e p.fast frames p.tracks keeps.fits stands keeps.fast keeps.draft keeps.tracks;
+  draft = (let b = cycle_beside s run e in keeps.draft ∙ ap (λ (m : NormalKept). m.draft) (sym b.normal));
+  tracks = tracks_follow s marks W earlier run e p.fast frames p.tracks keeps.fits stands keeps.fast keeps.draft keeps.tracks;
+  fits = fits_follow s marks W earlier run e p.fast frames p.tracks keeps.fits stands keeps.fast keeps.draft keeps.tracks;
 }
 
 -- and is right exactly where it is legal
 pub entry_right : (s : Session) (marks : Marks) (W : ℕ → Type 0) (earlier : List Report) (frames : List Frame) (p : Playing) (run : Run) (e : EntrySeen) → StandsIn frames e → IsEntry (frames_before run) e.entry → KeepsPlaying s marks W earlier p run
     → IsRightAfter run.states frames e.entry p ↔ LegalEntry s marks (with_poll s e.entry.state run) e
 unfolding IsRightAfter
-entry_right s marks W earlier frames p run e stands form keeps = entry_exact s marks W earlier run e p.fast frames p.tracks keeps.fits stands keeps.fast keeps.tracks form
+entry_right s marks W earlier frames p run e stands form keeps = entry_exact s marks W earlier run e p.fast frames p.tracks keeps.fits stands keeps.fast keeps.draft keeps.tracks form
 
 -- ## Some entries
 

@@ -1,6 +1,6 @@
 -- What is kept of the fast mixer follows an entry as the run tells it.
 use Rattle.std.specs.List.{range_with_len}
-use Rattle.std.proofs.Common.{◌≡◌, ℕ, zero, suc, ◌+◌, ◌<◌, ◌≤◌, ◌||◌, Bool, true, false, nat_lt, if◌then◌else◌, unwrap_or, refl, sym, ap, ◌∙◌, List, [], ◌∷◌, ◌++◌, append_assoc, length, length-append, map, arith}
+use Rattle.std.proofs.Common.{◌≡◌, ℕ, zero, suc, ◌+◌, ◌<◌, ◌≤◌, ◌==◌, ◌||◌, Bool, true, false, nat_lt, if◌then◌else◌, unwrap_or, refl, sym, ap, ◌∙◌, List, [], ◌∷◌, ◌++◌, append_assoc, length, length-append, map, arith}
 use Rattle.std.proofs.lemmas.Bool.Decides.{nat_tests}
 use Rattle.std.proofs.lemmas.Grind.{fold-append}
 use Rattle.std.proofs.lemmas.List as lists
@@ -59,13 +59,13 @@ server-same marks run tracks streams n = by_case (nat_lt n (length tracks)) refl
         ap listed_in (get_or-eq_default (map (λ (u : TrackJudge). u.stream) tracks) no_block (omega (arith, out, l)))
         ∙ sym (ap (λ (u : TrackTold). listed u.stream) (get_or-eq_default run.tracks no_track (omega (arith, out, m))))
 
-module _ (s : Session) (marks : Marks) (r : Run) (e : EntrySeen) (f : FastKept) (frames : List Frame) (tracks : List TrackJudge) (earlier : List Report) (fast : FastOf s earlier r f) (stands : StandsIn frames e) (streams : StreamsOf marks (with_looks s e r) tracks) where
+module _ (s : Session) (marks : Marks) (r : Run) (e : EntrySeen) (f : FastKept) (frames : List Frame) (tracks : List TrackJudge) (earlier : List Report) (fast : FastOf s earlier r f) (drafts : f.told.draft ≡ r.normal.draft) (stands : StandsIn frames e) (streams : StreamsOf marks (with_looks s e r) tracks) where
   abbrev x : FastState
   x = state_in f.told r.states e.entry.state
 
   known-same : (i : ℕ) → i < slots → told_at_slot (heard_slots tracks x) i ≡ known_of (listed (stream_of (with_looks s e r) (state_for s r e.entry.state) i))
   known-same i low =
-      let state : x ≡ state_for s r e.entry.state = λ j. unwrap_or (state_of r.states e.entry.state) (state_at (fast.asked j) r.states (fast.current j)) in
+      let state : x ≡ state_for s r e.entry.state = λ j. unwrap_or (state_of r.states e.entry.state) (if e.entry.state == 0 then state_at (fast.asked j) r.states (fast.current j) else drafts j) in
       ap told_by (get_or-map-range_with_len (heard_at (map (λ t. t.stream) tracks) x) 0 slots i i nothing_heard low (omega arith))
       ∙ (ap (λ (z : Listed). told_by (known_by z)) (server-same marks (with_looks s e r) tracks streams (slot_of x i).track)
       ∙ ap (λ (y : FastState). known_of (listed (stream_of (with_looks s e r) y i))) state)
@@ -73,8 +73,8 @@ module _ (s : Session) (marks : Marks) (r : Run) (e : EntrySeen) (f : FastKept) 
   report-same : report_added r.states (told_at_slot (heard_slots tracks x)) e.entry f.told ≡ next_report s (with_looks s e r) e.entry
   report-same =
       let cycle : f.told.report.cycle + 1 ≡ length r.entries + 1 = ap (λ (n : ℕ). n + 1) (ap (λ (q : Report). q.cycle) fast.report ∙ fast.numbered.cycle) in
-      let each = same-map _ _ 0 slots (λ i low. λ j. slot_added (fast.asked j) r.states (unwrap_or (state_of r.states e.entry.state) (state_at (fast.asked j) r.states (fast.current j)))
-      (unwrap_or (state_of r.states (fast.used j)) (state_at (fast.asked j) r.states (fast.current j))) e.entry (known-same i low j) i (report_at (fast.report j).slots i)) in
+      let each = same-map _ _ 0 slots (λ i low. λ j. slot_added (fast.asked j) r.states (unwrap_or (state_of r.states e.entry.state) (if e.entry.state == 0 then state_at (fast.asked j) r.states (fast.current j) else drafts j))
+      (unwrap_or (state_of r.states (fast.used j)) (if fast.used j == 0 then state_at (fast.asked j) r.states (fast.current j) else drafts j)) e.entry (known-same i low j) i (report_at (fast.report j).slots i)) in
       λ j. record { cycle = cycle j; slots = each j }
 
   takes-same : (b : Bool) → (let slot = entry_slot e.entry 0 in let es = λ (n : ℕ). server.SawRear slot.rear ∷ server.SawFront (wrapped n) ∷ takes_shown slot.seen in

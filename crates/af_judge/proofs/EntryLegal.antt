@@ -87,7 +87,7 @@ seen-shown seen.Empty h = refl
 seen-shown (seen.Flushed dropped) h = refl
 seen-shown (seen.Shut front rear) h = refl
 
-module _ (s : Session) (marks : Marks) (r : Run) (e : EntrySeen) (f : FastKept) (frames : List Frame) (tracks : List TrackJudge) (earlier : List Report) (fast : FastOf s earlier r f) (streams : StreamsOf marks r tracks) (form : IsEntry (frames_before r) e.entry) where
+module _ (s : Session) (marks : Marks) (r : Run) (e : EntrySeen) (f : FastKept) (frames : List Frame) (tracks : List TrackJudge) (earlier : List Report) (fast : FastOf s earlier r f) (drafts : f.told.draft ≡ r.normal.draft) (streams : StreamsOf marks r tracks) (form : IsEntry (frames_before r) e.entry) where
   abbrev asked : ℕ
   asked = cycle_frames s
 
@@ -96,7 +96,7 @@ module _ (s : Session) (marks : Marks) (r : Run) (e : EntrySeen) (f : FastKept) 
   x = state_for s r e.entry.state
 
   state-same : state_in f.told r.states e.entry.state ≡ x
-  state-same = λ i. unwrap_or (state_of r.states e.entry.state) (state_at (fast.asked i) r.states (fast.current i))
+  state-same = λ i. unwrap_or (state_of r.states e.entry.state) (if e.entry.state == 0 then state_at (fast.asked i) r.states (fast.current i) else drafts i)
 
   -- ## The pipe
 
@@ -294,12 +294,12 @@ module _ (s : Session) (marks : Marks) (run : Run) (e : EntrySeen) (f : FastKept
   streams_of_polled streams = record { many = streams.many; each = λ n t is. let h = streams.each n t is in record { server = h.server; lawful = h.lawful; wrap = h.wrap } }
 
   -- an entry of its form is right after what is kept exactly where it is legal in the run
-  pub right_legal_entry : FastOf s earlier run f → StreamsOf marks run tracks → IsEntry (frames_before run) e.entry → CarriesApart (state_for s polled e.entry.state) → CarriesWithin (length tracks) (state_for s polled e.entry.state)
+  pub right_legal_entry : FastOf s earlier run f → f.told.draft ≡ run.normal.draft → StreamsOf marks run tracks → IsEntry (frames_before run) e.entry → CarriesApart (state_for s polled e.entry.state) → CarriesWithin (length tracks) (state_for s polled e.entry.state)
       → IsEntryRight run.states frames e.entry f tracks ↔ LegalEntry s marks polled e
   unfolding with_poll
-  right_legal_entry fast streams form apart within =
+  right_legal_entry fast drafts streams form apart within =
       let g = fast_polled run.states e.entry.state f in
-      let exact = entry_legal s marks polled e g frames tracks earlier (fast_of_polled fast) (streams_of_polled streams) form apart within in (
+      let exact = entry_legal s marks polled e g frames tracks earlier (fast_of_polled fast) drafts (streams_of_polled streams) form apart within in (
         (λ h. exact.0 (record { next = h.follows.next; pushed = h.follows.pushed; runs = h.follows.runs; what = h.follows.what }, record { marked = h.mixes.marked; submix = h.mixes.submix; tracks_right = h.mixes.tracks_right })),
         (λ l. let h = exact.1 l in record {
           follows = record { next = h.0.next; pushed = h.0.pushed; runs = h.0.runs; what = h.0.what };

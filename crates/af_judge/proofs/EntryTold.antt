@@ -1,12 +1,12 @@
 -- What is kept of a run follows an entry, and the entry is right exactly where it is legal.
 use Rattle.std.specs.Prelude.{slice_index_or}
-use Rattle.std.proofs.Common.{◌≡◌, ◌↔◌, ℕ, zero, suc, ◌+◌, unwrap_or, refl, sym, ◌∙◌, subst, List, [], ◌∷◌, length, Option, Some, None}
+use Rattle.std.proofs.Common.{◌≡◌, ◌↔◌, ℕ, zero, suc, ◌+◌, ◌==◌, if◌then◌else◌, unwrap_or, refl, sym, ◌∙◌, subst, List, [], ◌∷◌, length, Option, Some, None}
 use Rattle.af_base.specs.declared.frame.Frame.{Frame}
 use Rattle.af_base.specs.declared.report.Report.{Report}
 use Rattle.af_base.specs.declared.state.FastState.{FastState}
 use Rattle.af_base.specs.Log.{slots}
+use Rattle.af_life.specs.Kept.{NormalKept}
 use Rattle.af_model.specs.Cycles.{state_of}
-use Rattle.af_model.specs.Draft.{initial}
 use Rattle.af_model.specs.JournalForm.{IsEntry}
 use Rattle.af_model.specs.Journals.{EntrySeen}
 use Rattle.af_runs.specs.Blocks.{BlockTold, Marks}
@@ -14,11 +14,12 @@ use Rattle.af_runs.specs.Rounds.{LegalEntry}
 use Rattle.af_runs.specs.Runs.{Run, TrackTold, each_from, frames_before, mixed_track, no_track, played, slot_for, state_for, told_at, with_cycle, with_looks, with_mix, with_poll}
 use Rattle.af_runs.specs.Sessions.{Session, cycle_frames, track_count}
 use Rattle.af_runs.specs.Told.{state_at}
+use Rattle.af_runs.proofs.StatesFor.{state_among}
 use Rattle.af_judge.specs.declared.track_judge.TrackJudge.{TrackJudge}
 use Rattle.af_judge.specs.Entries.{CarriesApart, CarriesWithin, FastOf, StandsIn}
 use Rattle.af_judge.specs.FastKept.{FastKept, IsEntryRight, entry_told, entry_tracks, fast_polled, slots_played}
 use Rattle.af_judge.specs.Reporting.{state_in}
-use Rattle.af_judge.specs.RunTold.{KeepsTracks, StatesFit}
+use Rattle.af_judge.specs.RunTold.{CarriesFit, KeepsTracks, StatesFit}
 use Rattle.af_judge.proofs.EntryFollows.{fast_mixed}
 use Rattle.af_judge.proofs.EntryLegal.{fast_of_polled, right_legal_entry}
 use Rattle.af_judge.proofs.EntryStreams.{looks_long, streams_of, tracks_mixed}
@@ -79,19 +80,15 @@ cycle_beside s run e =
 
 -- ## The states
 
-fit-or : (P : FastState → Type 0) (o : Option FastState) (d y : FastState) → P (unwrap_or o y) → P d → P (unwrap_or o d)
-fit-or P None d y found default = default
-fit-or P (Some x) d y found default = found
-
 -- they fit a run in which they are the same
-pub fits_same : (s : Session) (run after : Run) → after.states ≡ run.states → StatesFit s run → StatesFit s after
-fits_same s run after same fits = record {
-  apart = subst (λ (xs : List FastState). (k : ℕ) → CarriesApart (state_at (cycle_frames s) xs k)) (sym same) fits.apart;
-  within = subst (λ (xs : List FastState). (k : ℕ) → CarriesWithin (track_count s) (state_at (cycle_frames s) xs k)) (sym same) fits.within;
+pub fits_same : (s : Session) (run after : Run) → after.states ≡ run.states → after.normal ≡ run.normal → StatesFit s run → StatesFit s after
+fits_same s run after states normal fits = record {
+  pushed = subst (λ (xs : List FastState). (k : ℕ) → CarriesFit s (state_at (cycle_frames s) xs k)) (sym states) fits.pushed;
+  draft = subst (λ (m : NormalKept). CarriesFit s m.draft) (sym normal) fits.draft;
 }
 
 module _ (s : Session) (marks : Marks) (W : ℕ → Type 0) (earlier : List Report) (run : Run) (e : EntrySeen) (f : FastKept) (frames : List Frame) (tracks : List TrackJudge)
-    (fits : StatesFit s run) (stands : StandsIn frames e) (fast : FastOf s earlier run f) (keeps : KeepsTracks s marks W tracks run) where
+    (fits : StatesFit s run) (stands : StandsIn frames e) (fast : FastOf s earlier run f) (drafts : f.told.draft ≡ run.normal.draft) (keeps : KeepsTracks s marks W tracks run) where
   -- the run once the mixer has polled, and what is kept then
   abbrev polled : Run
   polled = with_poll s e.entry.state run
@@ -106,17 +103,23 @@ module _ (s : Session) (marks : Marks) (W : ℕ → Type 0) (earlier : List Repo
   fast-polled : FastOf s earlier polled g
   fast-polled = fast_of_polled s marks run e f frames tracks earlier fast
 
-  apart : CarriesApart x
+  drafts-polled : g.told.draft ≡ polled.normal.draft
   unfolding with_poll
-  apart = fit-or CarriesApart (state_of run.states e.entry.state) (state_at (cycle_frames s) run.states polled.current) (initial (cycle_frames s)) (fits.apart e.entry.state) (fits.apart polled.current)
+  drafts-polled = drafts
+
+  fitting : CarriesFit s x
+  unfolding with_poll
+  fitting = state_among s (CarriesFit s) polled e.entry.state fits.pushed fits.draft
+
+  apart : CarriesApart x
+  apart = let fit = fitting in fit.apart
 
   within : CarriesWithin (track_count s) x
-  unfolding with_poll
-  within = fit-or (CarriesWithin (track_count s)) (state_of run.states e.entry.state) (state_at (cycle_frames s) run.states polled.current) (initial (cycle_frames s)) (fits.within e.entry.state) (fits.within polled.current)
+  within = let fit = fitting in fit.within
 
   state-same : state_in g.told run.states e.entry.state ≡ x
   unfolding with_poll
-  state-same = let p = fast-polled in λ i. unwrap_or (state_of run.states e.entry.state) (state_at (p.asked i) run.states (p.current i))
+  state-same = let p = fast-polled in λ i. unwrap_or (state_of run.states e.entry.state) (if e.entry.state == 0 then state_at (p.asked i) run.states (p.current i) else drafts i)
 
   keeps-polled : KeepsTracks s marks W tracks polled
   unfolding with_poll
@@ -139,12 +142,12 @@ module _ (s : Session) (marks : Marks) (W : ℕ → Type 0) (earlier : List Repo
   -- the fast mixer follows it
   pub fast_follows : FastOf s earlier (with_cycle s run e) (entry_told run.states frames e.entry tracks f)
   unfolding with_poll
-  fast_follows = fast_mixed s marks polled e g frames (entry_tracks run.states frames e.entry f tracks) earlier fast-polled stands (streams_of s marks W (entry_tracks run.states frames e.entry f tracks) (with_looks s e polled) keeps-looks)
+  fast_follows = fast_mixed s marks polled e g frames (entry_tracks run.states frames e.entry f tracks) earlier fast-polled drafts-polled stands (streams_of s marks W (entry_tracks run.states frames e.entry f tracks) (with_looks s e polled) keeps-looks)
 
   -- and it is right exactly where it is legal
   pub entry_exact : IsEntry (frames_before run) e.entry → IsEntryRight run.states frames e.entry f tracks ↔ LegalEntry s marks polled e
-  entry_exact form = right_legal_entry s marks run e f frames tracks earlier fast (streams_of s marks W tracks run keeps) form apart (subst (λ (n : ℕ). CarriesWithin n x) (sym keeps.all) within)
+  entry_exact form = right_legal_entry s marks run e f frames tracks earlier fast drafts (streams_of s marks W tracks run keeps) form apart (subst (λ (n : ℕ). CarriesWithin n x) (sym keeps.all) within)
 
   -- the states fit as before
   pub fits_follow : StatesFit s (with_cycle s run e)
-  fits_follow = let b = cycle_beside s run e in fits_same s run (with_cycle s run e) b.states fits
+  fits_follow = let b = cycle_beside s run e in fits_same s run (with_cycle s run e) b.states b.normal fits

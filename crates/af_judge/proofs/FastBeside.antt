@@ -21,7 +21,6 @@ use Rattle.af_judge.specs.Entries.{AreNumbered, FastOf}
 use Rattle.af_judge.specs.FastKept.{FastKept, fast_begins}
 use Rattle.af_judge.specs.PipeKept.{with_meeting}
 use Rattle.af_judge.specs.QueueNumbers.{QueueKept}
-use Rattle.af_judge.specs.Reporting.{Telling}
 
 -- ## The ends of the pipe
 
@@ -69,9 +68,12 @@ fast_same s earlier run after f same fast = record {
   taken = fast.taken ∙ sym same.taken;
 }
 
--- nor does it matter what else the judge keeps of the queue and of the pipe
+-- nor does it matter which draft the judge has, and what else it keeps of the queue and of the pipe
 pub record SameTold (f g : FastKept) : Type 0 where
-  pub told : g.told ≡ f.told
+  pub asked : g.told.asked ≡ f.told.asked
+  pub current : g.told.current ≡ f.told.current
+  pub used : g.told.used ≡ f.told.used
+  pub report : g.told.report ≡ f.told.report
   pub cold : g.cold ≡ f.cold
   pub ended : g.ended ≡ f.ended
   pub before : g.before ≡ f.before
@@ -81,10 +83,10 @@ pub record SameTold (f g : FastKept) : Type 0 where
 
 pub fast_told_same : (s : Session) (earlier : List Report) (run : Run) (f g : FastKept) → SameTold f g → FastOf s earlier run f → FastOf s earlier run g
 fast_told_same s earlier run f g same fast = record {
-  asked = ap (λ (t : Telling). t.asked) same.told ∙ fast.asked;
-  current = ap (λ (t : Telling). t.current) same.told ∙ fast.current;
-  used = ap (λ (t : Telling). t.used) same.told ∙ fast.used;
-  report = ap (λ (t : Telling). t.report) same.told ∙ fast.report;
+  asked = same.asked ∙ fast.asked;
+  current = same.current ∙ fast.current;
+  used = same.used ∙ fast.used;
+  report = same.report ∙ fast.report;
   numbered = fast.numbered;
   before = same.before ∙ fast.before;
   first = fast.first;

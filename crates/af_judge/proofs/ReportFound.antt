@@ -16,6 +16,7 @@ use Rattle.af_runs.specs.Runs.{Run, last_report, next_report, report_of, with_ca
 use Rattle.af_runs.specs.Sessions.{Session}
 use Rattle.af_judge.specs.Entries.{AreNumbered}
 use Rattle.af_judge.specs.EntriesTold.{AreFormed, Playing, entries_leave}
+use Rattle.af_judge.specs.FastKept.{number_found}
 use Rattle.af_judge.specs.Foresight.{Foreseen, entries_foreseen, foreseen, servers_at}
 use Rattle.af_judge.proofs.EntriesFollow.{KeepsPlaying, cycles_entries, entries_in, entries_keep}
 use Rattle.af_judge.proofs.ForeseenTold.{entries_foreseen_told}
@@ -210,10 +211,12 @@ calls-entries round run = refl
 
 -- what is told before the turn, with the late entries of the round still to come, is what the turn finds
 pub report_found : (s : Session) (marks : Marks) (W : ℕ → Type 0) (frames : List Frame) (p : Playing) (run : Run) (round : RoundSeen) (place : ℕ) (e : Turn) (r : Report) → AreNumbered run → AreFormed frames place (late_of run round)
-    → KeepsPlaying s marks W run.reports p (before_turn s run round) → IsReportTold p (before_turn s run round) (entries_in (late_of run round)) e.cycle r → r ≡ (found_in s run round e).report
+    → KeepsPlaying s marks W run.reports p (before_turn s run round) → IsReportTold p (before_turn s run round) (entries_in (late_of run round)) (number_found p.fast e.cycle) r → r ≡ (found_in s run round e).report
 report_found s marks W frames p run round place e r numbered formed keeps told =
     let start = with_calls round run in
     let many : length run.reports ≡ length start.entries = numbered.many ∙ ap (λ (xs : List CycleEntry). length xs) (sym (calls-entries round run)) in
-    report_told s marks W run.reports frames p (before_turn s run round) (late_of run round) place formed keeps e.cycle r told
-    ∙ (ap (λ (rn : Run). report_of rn.reports (max (length run.reports) e.cycle)) (sym (cycles-split s (early_count run round) round.entries start))
-    ∙ ap (λ (n : ℕ). report_of (with_cycles s round.entries start).reports (max n e.cycle)) many)
+    let first = first-is s marks W run.reports frames p (before_turn s run round) (late_of run round) place formed keeps in
+    let at : max (length run.reports) (min e.cycle (p.fast.before.cycle + 16)) ≡ min (max (length start.entries) e.cycle) (length start.entries + 16) = omega (arith, first, many) in
+    report_told s marks W run.reports frames p (before_turn s run round) (late_of run round) place formed keeps (number_found p.fast e.cycle) r told
+    ∙ (ap (λ (rn : Run). report_of rn.reports (max (length run.reports) (number_found p.fast e.cycle))) (sym (cycles-split s (early_count run round) round.entries start))
+    ∙ ap (report_of (with_cycles s round.entries start).reports) at)

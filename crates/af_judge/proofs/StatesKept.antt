@@ -21,7 +21,7 @@ use Rattle.af_runs.specs.Told.{is_pushed, state_at}
 use Rattle.af_judge.specs.Entries.{CarriesApart, CarriesWithin}
 use Rattle.af_judge.specs.QueueTold.{Follow}
 use Rattle.af_judge.specs.StatesKept.{Carried, SameSlots, StatesKept}
-use Rattle.af_judge.proofs.Carried.{carried_after_edits, carried_new, carried_turn, carries_apart, carries_within}
+use Rattle.af_judge.proofs.Carried.{carried_after_edits, carried_new, carried_turn, carries_apart, carries_within, draft_stays}
 use Rattle.af_judge.proofs.DraftBits.{initial_none, initial_state}
 use Rattle.af_judge.proofs.NormalKept.{goes_on_so, rests_so}
 use Rattle.af_judge.proofs.StatesAt.{state_outside}
@@ -142,6 +142,10 @@ module _ (s : Session) (scales : All (λ (t : Setting). t.scale ≤ 4096) (setup
 
   whole : Carried (turn_after (setup_of s) k m e)
   whole = carried_turn c scales k m e few h.carried
+
+  -- a slot that the draft carries before and after the edits is the same in both
+  pub drafts_same : SameSlots (after_edits (setup_of s) k e m).draft m.draft
+  drafts_same = draft_stays c scales k e m few h.carried
 
   long : length (turn_after (setup_of s) k m e).tracks ≡ length m.tracks
   long = turn_len c k m e

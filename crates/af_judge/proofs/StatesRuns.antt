@@ -15,8 +15,10 @@ use Rattle.af_runs.specs.Runs.{Run, met, new_run, with_calls, with_cycles, with_
 use Rattle.af_runs.specs.Sessions.{Session, setup_of, spec_setting}
 use Rattle.af_script.specs.declared.track.TrackSpec.{TrackSpec}
 use Rattle.af_script.specs.Form.{IsScript, IsTrack}
+use Rattle.af_judge.specs.Entries.{CarriesWithin}
 use Rattle.af_judge.specs.RunTold.{StatesFit}
 use Rattle.af_judge.specs.StatesKept.{StatesKept}
+use Rattle.af_judge.proofs.Carried.{carries_apart, carries_within}
 use Rattle.af_judge.proofs.EntriesFollow.{cycles_beside}
 use Rattle.af_judge.proofs.StatesKept.{states_new, states_turned}
 
@@ -80,7 +82,12 @@ pub kept_beside : (s : Session) (before after : Run) → SameNormal before after
 kept_beside s before after same h = subst (λ (p : NormalKept × List FastState). StatesKept s p.0 p.1) (λ i. (sym same.normal i, sym same.states i)) h
 
 pub fits_of : (s : Session) (run : Run) → RunKept s run → StatesFit s run
-fits_of s run h = record { apart = h.apart; within = h.within }
+fits_of s run h =
+    let m : NormalKept = run.normal in
+    record {
+      pushed = λ k. record { apart = h.apart k; within = h.within k };
+      draft = record { apart = carries_apart m.tracks m.draft h.carried.draft; within = subst (λ (n : ℕ). CarriesWithin n m.draft) h.many (carries_within m.tracks m.draft h.carried.draft) };
+    }
 
 pub kept_new : (s : Session) → RunKept s (new_run s)
 kept_new s = states_new s

@@ -1,5 +1,5 @@
 -- What is kept of the fast mixer, and what an entry leaves of it and of the tracks.
-use Rattle.std.specs.Prelude.{◌≡◌, ℕ, zero, suc, ◌+◌, ◌<◌, ◌≤◌, ◌==◌, ◌&&◌, ◌||◌, ◌-◌, ◌⊎◌, Bool, true, false, if◌then◌else◌, List, [], ◌∷◌, ◌++◌, map, length, Some, None, slice_get, slice_set}
+use Rattle.std.specs.Prelude.{◌≡◌, ℕ, zero, suc, ◌+◌, ◌<◌, ◌≤◌, ◌==◌, ◌&&◌, ◌||◌, ◌-◌, ◌⊎◌, min, Bool, true, false, if◌then◌else◌, List, [], ◌∷◌, ◌++◌, map, length, Some, None, slice_get, slice_set}
 use Rattle.std.specs.List.{range_with_len, list_any}
 use Rattle.af_base.specs.declared.frame.Frame.{Frame}
 use Rattle.af_base.specs.declared.log.CycleEntry.{CycleEntry}
@@ -14,7 +14,7 @@ use Rattle.af_model.specs.Point.{wrapped}
 use Rattle.af_model.specs.Reports.{no_report}
 use Rattle.af_model.specs.StateQueue.{carries, slot_of}
 use Rattle.af_runs.specs.Fronts.{is_shown}
-use Rattle.af_runs.specs.Runs.{plays}
+use Rattle.af_runs.specs.Runs.{most_cycles, plays}
 use Rattle.af_judge.specs.declared.track_judge.TrackJudge.{TrackJudge}
 use Rattle.af_judge.specs.Blocks.{BlockJudged, listed_in, played_told}
 use Rattle.af_judge.specs.EntryMarks.{IsMarkedBy}
@@ -91,6 +91,10 @@ pub record FollowsTold (f : FastKept) (states : List FastState) (entry : CycleEn
 abbrev pub heard_slots : List TrackJudge → FastState → List Heard
 heard_slots tracks x = map (heard_at (map (λ t. t.stream) tracks) x) (range_with_len 0 slots)
 
+-- the normal mixer's draft is now this one
+abbrev pub fast_drafted : FastState → FastKept → FastKept
+fast_drafted draft f = record f { told = record f.told { draft = draft } }
+
 -- the mixer has polled
 abbrev pub fast_polled : List FastState → ℕ → FastKept → FastKept
 fast_polled states number f = record f { queue = with_looks (poll_steps f.told.current number) f.queue; told = polled_in states number f.told }
@@ -128,6 +132,10 @@ abbrev pub fast_begins : (asked size cells : ℕ) → FastKept
 fast_begins asked size cells = record { told = telling_begins asked; cold = 0; ended = false; before = no_report; reports = []; queue = queue_begins; pipe = new_pipe size cells }
 
 -- ## The turn
+
+-- the number of the report that a turn finds which loaded this one: none comes behind the first 16 entries of the round
+abbrev pub number_found : FastKept → ℕ → ℕ
+number_found f number = min number (f.before.cycle + most_cycles)
 
 -- A turn of so many entries of a log, from this place on, ends where it may: after so many cycles, or after one that isn't Mixed, or, where `full` says so, since the log is full. Each before the last is Mixed
 pub record EndsAsTurn (entries : List CycleEntry) (first count cycles : ℕ) (full : Bool) : Type 0 where

@@ -1,5 +1,5 @@
 -- What the fast mixer reports, by what it told so far and by what is known of the servers.
-use Rattle.std.specs.Prelude.{ℕ, ◌+◌, ◌<◌, ◌≤◌, ◌||◌, nat_le, true, if◌then◌else◌, is_some, List, [], map, length, Some, unwrap_or, slice_index_or}
+use Rattle.std.specs.Prelude.{ℕ, ◌+◌, ◌<◌, ◌≤◌, ◌==◌, ◌||◌, nat_le, true, if◌then◌else◌, is_some, List, [], map, length, Some, unwrap_or, slice_index_or}
 use Rattle.std.specs.List.{range_with_len}
 use Rattle.af_base.specs.declared.log.CycleEntry.{CycleEntry}
 use Rattle.af_base.specs.declared.report.Report.{Report}
@@ -10,6 +10,7 @@ use Rattle.af_life.specs.declared.kept.Heard.{Heard}
 use Rattle.af_life.specs.Heard.{known_by}
 use Rattle.af_life.specs.Kept.{nothing_heard}
 use Rattle.af_model.specs.Cycles.{state_of}
+use Rattle.af_model.specs.Draft.{initial}
 use Rattle.af_model.specs.Reports.{ServerKnown, no_report, report_at, slot_report}
 use Rattle.af_model.specs.StateQueue.{slot_of}
 use Rattle.af_runs.specs.Runs.{plays}
@@ -17,16 +18,17 @@ use Rattle.af_runs.specs.Sessions.{command_shape}
 use Rattle.af_runs.specs.Told.{state_at}
 use Rattle.af_judge.specs.Blocks.{BlockJudged, listed_in}
 
--- the frames of a cycle, the number of the state adopted last, that of the last entry, and the report after it
+-- the frames of a cycle, the number of the state adopted last, that of the last entry, the normal mixer's draft, and the last report
 pub record Telling : Type 0 where
   pub asked : ℕ
   pub current : ℕ
   pub used : ℕ
+  pub draft : FastState
   pub report : Report
 
 -- before the first entry
 abbrev pub telling_begins : ℕ → Telling
-telling_begins asked = record { asked = asked; current = 0; used = 0; report = no_report }
+telling_begins asked = record { asked = asked; current = 0; used = 0; draft = initial asked; report = no_report }
 
 -- so many looks were counted at most
 pub record CountsUpTo (most : ℕ) (r : SlotReport) : Type 0 where
@@ -42,9 +44,13 @@ CountsEntries r = (i : ℕ) → i < slots → CountsUpTo r.cycle (report_at r.sl
 abbrev pub adopted_in : Telling → List FastState → FastState
 adopted_in t states = state_at t.asked states t.current
 
--- the state of a number; one that isn't pushed counts as the one adopted last
+-- the state that a number without one counts as: number 0 as the one adopted last, and any other as the normal mixer's draft
+abbrev pub unpushed_in : Telling → List FastState → ℕ → FastState
+unpushed_in t states k = if k == 0 then adopted_in t states else t.draft
+
+-- the state of a number
 abbrev pub state_in : Telling → List FastState → ℕ → FastState
-state_in t states k = unwrap_or (state_of states k) (adopted_in t states)
+state_in t states k = unwrap_or (state_of states k) (unpushed_in t states k)
 
 -- it polls and finds the state of a number
 abbrev pub polled_in : List FastState → ℕ → Telling → Telling

@@ -1,5 +1,6 @@
 -- What a judge keeps of a run within a round: the mixers' sides of each track, whatever its client did, and the whole of each track whose client made a legal turn.
 use Rattle.std.specs.Prelude.{◌≡◌, ℕ, ◌≤◌, ◌^◌, false, List, length}
+use Rattle.af_base.specs.declared.state.FastState.{FastState}
 use Rattle.af_runs.specs.Blocks.{BlockTold, Marks, hand_list, server_list}
 use Rattle.af_runs.specs.Runs.{Run, TrackTold, told_at}
 use Rattle.af_runs.specs.Sessions.{Session, cycle_frames, setup_of, spec_of, track_count}
@@ -45,7 +46,12 @@ pub record NormalOf (s : Session) (run : Run) (j : NormalJudged) : Type 0 where
   pub states : j.states ≡ run.states
   pub handed : j.handed ≡ run.handed
 
--- each state carries each track in one slot at most, and no track that isn't there
+-- a state carries each track in one slot at most, and no track that isn't there
+pub record CarriesFit (s : Session) (x : FastState) : Type 0 where
+  pub apart : CarriesApart x
+  pub within : CarriesWithin (track_count s) x
+
+-- each state does, and the draft
 pub record StatesFit (s : Session) (run : Run) : Type 0 where
-  pub apart : (k : ℕ) → CarriesApart (state_at (cycle_frames s) run.states k)
-  pub within : (k : ℕ) → CarriesWithin (track_count s) (state_at (cycle_frames s) run.states k)
+  pub pushed : (k : ℕ) → CarriesFit s (state_at (cycle_frames s) run.states k)
+  pub draft : CarriesFit s run.normal.draft

@@ -5,7 +5,8 @@ ghost use Rattle.af_base.specs.Sample.{packed_word};
 ghost use Rattle.af_model.specs.Cycles.{is_exit, is_mixed, submix_slot};
 ghost use Rattle.af_model.specs.Point.{wrapped};
 ghost use Rattle.af_model.specs.StateQueue.{carries, slot_of};
-ghost use Rattle.af_judge.specs.FastKept.{AreSlotsRight, EndsAsTurn, FollowsTold, IsEntryRight, IsLookRight, IsMixRight, IsSlotRight, carries_track, entry_told, entry_tracks, fast_added, fast_begins, fast_polled, pipe_played, slot_played, slots_played, stream_changed};
+ghost use Rattle.af_judge.specs.FastKept.{AreSlotsRight, EndsAsTurn, FollowsTold, IsEntryRight, IsLookRight, IsMixRight, IsSlotRight, carries_track, entry_told, entry_tracks, fast_added, fast_begins, fast_drafted, fast_polled, number_found, pipe_played, slot_played, slots_played, stream_changed};
+ghost use Rattle.af_runs.specs.Runs.{most_cycles};
 ghost use Rattle.af_judge.specs.Blocks.{played_told};
 ghost use Rattle.af_judge.specs.EntriesTold.{AreEntriesRight, entries_leave, playing};
 ghost use Rattle.af_judge.specs.Foresight.{entries_foreseen, foreseen, server_of, servers_at};
@@ -25,6 +26,9 @@ use std::marker::Model;
 
 // The most entries that are counted.
 const MOST_ENTRIES: u64 = 1 << 31;
+
+// The most entries of a round.
+const MOST_CYCLES: u64 = 16;
 
 /// The entries of a turn: the place of the first one in the log, and how many there are.
 #[derive(Clone, Copy, Debug, PartialEq, Eq)]
@@ -189,6 +193,16 @@ pub fn is_fast_turn(log: &FastLog, entries: Entries, cycles: usize, full: bool) 
     both(ends, are_mixes(log, entries.first, last))
 }
 
+// A number, but none behind the entries that a round may have after so many reports.
+fn within_round(before: u64, number: u64) -> u64
+    ensures { result ≡ min number (before + most_cycles) }
+{
+    if number <= before {
+        return number;
+    }
+    before + (number - before).min(MOST_CYCLES)
+}
+
 // Adds these entries as they would be.
 fn foresee_all(
     told: &mut Reporter,
@@ -255,6 +269,13 @@ impl FastJudge {
         carries_track(&self.told.adopted(states), track)
     }
 
+    /// The normal mixer's draft is now this one.
+    pub fn drafted(&mut self, draft: &FastState)
+        ensures { self.new ≡ fast_drafted draft.now self.old }
+    {
+        self.told.drafted(draft);
+    }
+
     /// A round begins.
     pub fn begin_round(&mut self)
         ensures { self.new ≡ record self.old { before = self.old.told.report; reports = [] } }
@@ -283,7 +304,7 @@ impl FastJudge {
         Ok(())
     }
 
-    // The state of a number; one that isn't pushed counts as the one adopted last.
+    // The state of a number.
     fn state(&self, states: &[FastState], number: u64) -> FastState
         ensures { result ≡ state_in self.now.told states.now number }
     {
@@ -459,6 +480,13 @@ impl FastJudge {
         let mut told = self.told.copy();
         foresee_all(&mut told, states, &mut servers, log, later)?;
         Ok(told.report())
+    }
+
+    /// The number of the report that a turn finds which loaded this one.
+    pub fn number_found(&self, number: u64) -> u64
+        ensures { result ≡ number_found self.now number }
+    {
+        within_round(self.before.cycle, number)
     }
 
     /// The report of a number, where these entries of the round are still to come; where there aren't so many, the last one. A number before the round stands for the last report before it.

@@ -104,6 +104,13 @@ impl NormalJudge {
         self.states.as_slice()
     }
 
+    /// The state that it would push now.
+    pub fn draft(&self) -> &FastState
+        ensures { result.now ≡ self.now.plain.kept.draft }
+    {
+        self.mixer.draft()
+    }
+
     /// Whether the stream proxy of a track is home.
     pub fn is_home(&self, track: u32) -> bool
         ensures { result ≡ is_home (track_at self.now.plain.kept.tracks track).holder }

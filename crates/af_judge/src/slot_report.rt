@@ -1,5 +1,5 @@
 //! What the fast mixer reports after an entry, as a journal tells it.
-ghost use Rattle.std.specs.Prelude.{◌≡◌, ℕ, List, [], ◌∷◌, ◌+◌, ◌<◌, ◌≤◌, ◌^◌, map, length, Some, slice_index_or, if◌then◌else◌};
+ghost use Rattle.std.specs.Prelude.{◌≡◌, ℕ, List, [], ◌∷◌, ◌+◌, ◌<◌, ◌≤◌, ◌==◌, ◌^◌, map, length, Some, slice_index_or, if◌then◌else◌};
 ghost use Rattle.std.specs.Option.{option_map};
 ghost use Rattle.af_base.specs.Log.{slots};
 ghost use Rattle.af_life.specs.Heard.{known_by};
@@ -11,7 +11,7 @@ ghost use Rattle.af_judge.specs.Blocks.{listed_in};
 ghost use Rattle.af_judge.specs.Foresight.{did_more, entry_foreseen, foreseen, heard_foreseen, looked_by, server_changed, server_in, server_of, slot_foreseen, slots_foreseen};
 ghost use Rattle.af_model.specs.ServerCalls.{drops_of, look_events};
 ghost use Rattle.af_judge.specs.FastKept.{heard_slots};
-ghost use Rattle.af_judge.specs.Reporting.{CountsUpTo, adopted_in, block_at, entry_added, polled_in, slot_added, state_in, telling_begins, told_at_slot, told_by};
+ghost use Rattle.af_judge.specs.Reporting.{CountsUpTo, adopted_in, block_at, entry_added, polled_in, slot_added, state_in, telling_begins, told_at_slot, told_by, unpushed_in};
 
 use crate::server_judge::ServerJudge;
 use crate::track_judge::TrackJudge;
@@ -281,13 +281,14 @@ fn foresee_slots(servers: &mut [ServerJudge], asked: u32, state: &FastState, ent
     }
 }
 
-/// What the fast mixer has told: the number of the state adopted last, that of the last entry, and the report after it, whose number is that of the entries.
+/// What the fast mixer has told: the number of the state adopted last, that of the last entry, and the last report, whose number is that of the entries. It has the normal mixer's draft, as which states count that aren't pushed yet.
 #[derive(Drop)]
 pub struct Reporter {
     asked: u32,
     first: FastState,
     current: u64,
     used: u64,
+    draft: FastState,
     report: Report,
 }
 
@@ -298,7 +299,7 @@ impl Model for Reporter {
 
     ghost Value = { Telling };
 
-    ghost view = { λ r. record { asked = r.asked; current = r.current; used = r.used; report = r.report } };
+    ghost view = { λ r. record { asked = r.asked; current = r.current; used = r.used; draft = r.draft; report = r.report } };
 
     ghost invariant = { λ r. (r.first ≡ initial r.asked) × CountsEntries r.report };
 }
@@ -308,11 +309,13 @@ impl Reporter {
     pub fn new(asked: u32) -> Reporter
         ensures { result ≡ telling_begins asked }
     {
+        let first = first_state(asked);
         Reporter {
             asked,
-            first: first_state(asked),
+            first,
             current: 0,
             used: 0,
+            draft: first,
             report: Report {
                 cycle: 0,
                 slots: [NO_SLOT; SLOTS],
@@ -329,6 +332,7 @@ impl Reporter {
             first: self.first,
             current: self.current,
             used: self.used,
+            draft: self.draft,
             report: self.report,
         }
     }
@@ -354,6 +358,13 @@ impl Reporter {
         self.report
     }
 
+    /// The normal mixer's draft is now this one.
+    pub fn drafted(&mut self, draft: &FastState)
+        ensures { self.new ≡ record self.old { draft = draft.now } }
+    {
+        self.draft = *draft;
+    }
+
     /// The state adopted last: at first one that carries nothing.
     pub fn adopted(&self, states: &[FastState]) -> FastState
         ensures { result ≡ adopted_in self.now states.now }
@@ -364,13 +375,23 @@ impl Reporter {
         }
     }
 
-    /// The state of a number; one that isn't pushed counts as the one adopted last.
+    // The state that a number without one counts as: number 0 as the one adopted last, and any other as the normal mixer's draft.
+    fn unpushed(&self, states: &[FastState], number: u64) -> FastState
+        ensures { result ≡ unpushed_in self.now states.now number }
+    {
+        if number == 0 {
+            return self.adopted(states);
+        }
+        self.draft
+    }
+
+    /// The state of a number.
     pub fn state(&self, states: &[FastState], number: u64) -> FastState
         ensures { result ≡ state_in self.now states.now number }
     {
         match state_of(states, number) {
             Some(state) => *state,
-            None => self.adopted(states),
+            None => self.unpushed(states, number),
         }
     }
 

@@ -21,8 +21,10 @@ use Rattle.af_runs.specs.Runs.{Run, told_at, state_for, with_poll, with_mix, met
 use Rattle.af_runs.specs.Sessions.{Session, track_count, cycle_frames, setup_of}
 use Rattle.af_runs.specs.Told.{Item, QueueTold, PipeTold, pipe_met, state_at, items_of, poll_events, IsQueueAsTold}
 use Rattle.af_runs.specs.TurnRuns.{cycle_alone, LegalAlone}
-use Rattle.af_judge.specs.Entries.{CarriesApart, CarriesWithin}
-use Rattle.af_judge.proofs.StatesRuns.{RunKept, SameNormal, kept_beside}
+use Rattle.af_runs.proofs.StatesFor.{state_among}
+use Rattle.af_judge.specs.Entries.{CarriesWithin}
+use Rattle.af_judge.specs.RunTold.{CarriesFit}
+use Rattle.af_judge.proofs.StatesRuns.{RunKept, SameNormal, fits_of, kept_beside}
 use Rattle.af_one_turn_run.specs.Growing.{IsCounted}
 use Rattle.af_one_turn_run.proofs.Growing.{told_before}
 use Rattle.af_one_turn_run.proofs.OneEntry.{IsEntryTold, IsBeforeEntry, one_entry}
@@ -62,14 +64,6 @@ met_put s k run = refl
 met_states : (s : Session) (k : ℕ) (run : Run) → SameNormal run (met s (with_poll s k run))
 unfolding with_poll met
 met_states s k run = record { normal = refl; states = refl }
-
--- what holds of all states holds of the one that is found
-state_found : (s : Session) (P : FastState → Type 0) (r : Run) (k : ℕ) → ((n : ℕ) → P (state_at (cycle_frames s) r.states n)) → P (state_for s r k)
-state_found s P r k all = by_state (state_of r.states k) refl
-  where
-    by_state : (o : Option FastState) → state_of r.states k ≡ o → P (unwrap_or o (state_at (cycle_frames s) r.states r.current))
-    by_state None is = all r.current
-    by_state (Some x) is = subst P (ap (λ (o : Option FastState). unwrap_or o (initial (cycle_frames s))) is) (all k)
 
 -- ## Which state is found
 
@@ -160,13 +154,15 @@ module _ (s : Session) (marks : Marks) (lawful : (n : ℕ) → marks.streams n �
       let r = found run e.entry.state in
       let f = found_follows run e.entry.state in
       let kept = kept_beside s run r (met_states s e.entry.state run) h.kept in
+      let fits = fits_of s r kept in
+      let fit : CarriesFit s (state_for s r e.entry.state) = state_among s (CarriesFit s) r e.entry.state fits.pushed fits.draft in
       let tracks = f.long ∙ h.tracks in
       let counted : (n : ℕ) → n < many → IsCounted (told_at r n).stream = λ n low. f.counted n (let t = h.tracks in omega (arith, t, low)) (h.counted n low) in
       let earlier = told_earlier s many frames put r (cycle_alone s run e) tracks counted (mix_follows s e r long) t in
       record {
         tracks = tracks;
-        apart = state_found s CarriesApart r e.entry.state kept.apart;
-        within = subst (λ m. CarriesWithin m (state_for s r e.entry.state)) (sym h.count) (state_found s (CarriesWithin (track_count s)) r e.entry.state kept.within);
+        apart = fit.apart;
+        within = subst (λ m. CarriesWithin m (state_for s r e.entry.state)) (sym h.count) fit.within;
         streams = λ n low. (earlier.streams n low).taken;
       }
 

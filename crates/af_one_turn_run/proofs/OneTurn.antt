@@ -1,5 +1,5 @@
 -- A turn of the normal mixer is determined by what the blocks, the queue, the report and the pipe tell.
-use Rattle.std.proofs.Common.{◌≡◌, ℕ, ◌%◌, ◌^◌, ◌<◌, ◌&&◌, ◌||◌, max, Bool, true, false, map, List, [], ◌∷◌, ◌++◌, length, All, refl, sym, ap, ◌∙◌, subst, arith}
+use Rattle.std.proofs.Common.{◌≡◌, ℕ, ◌+◌, ◌%◌, ◌^◌, ◌<◌, ◌&&◌, ◌||◌, max, min, Bool, true, false, map, List, [], ◌∷◌, ◌++◌, length, All, refl, sym, ap, ◌∙◌, subst, arith}
 use Rattle.std.specs.List.{AllByRecursion}
 use Rattle.std.proofs.lemmas.List.Elements.{All-head, All-tail}
 use Rattle.af_base.specs.Turn.{Turn, TakeSeen, TrackSeen}
@@ -27,7 +27,7 @@ use Rattle.af_model.specs.StateQueue.{QueuePoint}
 use Rattle.af_runs.specs.Blocks.{BlockTold, listed}
 use Rattle.af_runs.specs.Found.{TurnFound, take_front, outside_of, lawful_outside}
 use Rattle.af_runs.specs.Fronts.{lawful_front}
-use Rattle.af_runs.specs.Runs.{Run, told_at, found_before, report_of, stream_turned, commands_turned, queue_turned, pipe_turned}
+use Rattle.af_runs.specs.Runs.{Run, most_cycles, told_at, found_before, report_of, stream_turned, commands_turned, queue_turned, pipe_turned}
 use Rattle.af_runs.specs.Sessions.{Session, setup_of, cycle_frames}
 use Rattle.af_runs.specs.Told.{Item, IsQueueAsTold, IsReportAsTold}
 use Rattle.af_one_turn_run.specs.Taking.{IsTakenOf, HasFrames}
@@ -103,7 +103,7 @@ module _ (s : Session) (run : Run) (many : ℕ) (frames : ℕ → List ℕ) wher
     -- ## A turn that goes on
 
     abbrev learnt_at : ℕ → Learnt
-    learnt_at n = record { report = report_of run.reports (max (length run.entries) n); own = λ i. known_by (listed (told_at run i).stream) }
+    learnt_at n = record { report = report_of run.reports (min (max (length run.entries) n) (length run.entries + most_cycles)); own = λ i. known_by (listed (told_at run i).stream) }
 
     same_cycle : (a b : Turn) → IsTurnTold a → IsTurnTold b → a.ended ≡ false → b.ended ≡ false → a.cycle ≡ b.cycle
     same_cycle a b t u goes goes_b = cycle_of a t goes ∙ sym (cycle_of b u goes_b)

@@ -28,6 +28,7 @@ use Rattle.af_audit.proofs.Booleans.{no}
 use Rattle.af_audit.proofs.SidesKept.{sides_mixed}
 use Rattle.af_audit.proofs.TrackStands.{server-server, told_more}
 use Rattle.af_audit.proofs.TrackUnshut.{IsUnshut, unshut_mixed}
+use Rattle.af_runs.proofs.StatesFor.{state_known}
 
 -- ## The look answers
 
@@ -59,7 +60,7 @@ module _ (s : Session) (marks : Marks) (r : Run) (e : EntrySeen) (legal : LegalE
       by_state : (o : Option FastState) → state_of r.states e.entry.state ≡ o → is_mixed e.entry.cycle ≡ true → Looked s e i (told_at r n).stream
       by_state None is mixed = no (sym (ap is_mixed (legal.cycle.what ∙ ap (cycle_of _) is)) ∙ mixed)
       by_state (Some y) is mixed =
-          let same : x ≡ y = ap (λ (o : Option FastState). unwrap_or o (state_at (cycle_frames s) r.states r.current)) is in
+          let same : x ≡ y = state_known s r e.entry.state y is in
           let slot = (legal.cycle.mixes y is mixed).tracks i low (subst (λ (z : FastState). carries z i ≡ true) same carried) in
           (slot.front, subst (λ (t : ℕ). LooksBy (cycle_frames s) (listed (told_at r t).stream) (entry_slot e.entry i) slot.front) of_track slot.looks)
 

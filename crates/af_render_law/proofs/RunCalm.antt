@@ -1,5 +1,5 @@
 -- All tracks of a turn run stay calm: what each step leaves of them.
-use Rattle.std.proofs.Common.{◌≡◌, ℕ, ◌<◌, ◌==◌, Bool, true, false, if◌then◌else◌, fold, List, [], ◌∷◌, length, refl, sym, ap, ◌∙◌, subst, arith, eqb-true}
+use Rattle.std.proofs.Common.{◌≡◌, ℕ, ◌<◌, ◌==◌, Bool, true, false, if◌then◌else◌, fold, List, [], ◌∷◌, length, refl, sym, ap, ◌∙◌, subst, arith, eqb-true, ◌≤◌}
 use Rattle.std.specs.Prelude.{slice_index_or}
 use Rattle.af_base.specs.Turn.{Turn}
 use Rattle.af_life.specs.Heard.{learnt}
@@ -12,10 +12,10 @@ use Rattle.af_runs.specs.ClientTurns.{LegalClientTurn}
 use Rattle.af_runs.specs.Found.{LegalTurnBy, outside_of}
 use Rattle.af_runs.specs.Runs.{Run, TrackTold, no_track, told_at, each_from, each_track, called, calls_in, sides_of, state_for, mixed_track, turned_track, track_met, with_poll, with_mix, with_turn, with_load, with_ends, found_before, met, takes_part}
 use Rattle.af_runs.specs.Sessions.{Session, track_count, setup_of}
-use Rattle.af_runs.specs.TurnRuns.{cycle_alone, calls_alone}
+use Rattle.af_runs.specs.TurnRuns.{cycle_alone, calls_alone, LegalAlone}
 use Rattle.af_judge.proofs.EachTrack.{each_long, told_each}
 use Rattle.af_turn_law.specs.Acting.{ActsWhereMet}
-use Rattle.af_turn_law.proofs.RunBlocks.{part_at, PlaysParts, holds_played}
+use Rattle.af_turn_law.proofs.RunBlocks.{part_at, PlaysParts, alone_pushed, holds_played}
 use Rattle.af_turn_law.proofs.RunPolls.{AllFind, same_current}
 use Rattle.af_turn_law.proofs.RunTurns.{none_after}
 use Rattle.af_render_law.proofs.TrackCalm.{TrackCalm, IsOpenStream, calm_called, calm_mixed, calm_turned, calm_met, calm_ended, calm_first}
@@ -86,17 +86,17 @@ unfolding with_mix
 calm_mix s e run parts h = calm_each s run (with_mix s e run) (mixed_track s (state_for s run e.entry.state) e) refl h.many
     (λ n low. calm_mixed (takes_part s run n) s (state_for s run e.entry.state) e n (told_at run n) (parts n) (h.tracks n low))
 
-calm_cycle : (s : Session) (run : Run) (e : EntrySeen) → RunCalm s (with_poll s e.entry.state run) → RunCalm s (cycle_alone s run e)
-calm_cycle s run e h = calm_mix s e (met s (with_poll s e.entry.state run)) (holds_played s e run) (run_calm_met s (with_poll s e.entry.state run) h)
+calm_cycle : (s : Session) (run : Run) (e : EntrySeen) → e.entry.state ≤ length run.states → RunCalm s (with_poll s e.entry.state run) → RunCalm s (cycle_alone s run e)
+calm_cycle s run e low h = calm_mix s e (met s (with_poll s e.entry.state run)) (holds_played s e run low) (run_calm_met s (with_poll s e.entry.state run) h)
 
-calm_later : (s : Session) (entries : List EntrySeen) (run : Run) (m : ℕ) → (with_poll s m run).current ≡ run.current → AllFind s m entries → RunCalm s run → RunCalm s (fold (cycle_alone s) run entries)
-calm_later s [] run m same find h = h
-calm_later s (e ∷ entries) run m same find h =
-    calm_later s entries (cycle_alone s run e) m (same_current s run e m find.0) find.1 (calm_cycle s run e (calm_poll_again s e.entry.state run (ap (λ k. (with_poll s k run).current) find.0 ∙ same) h))
+calm_later : (s : Session) (marks : Marks) (entries : List EntrySeen) (run : Run) (m : ℕ) → (with_poll s m run).current ≡ run.current → AllFind s m entries → LegalAlone s marks run entries → RunCalm s run → RunCalm s (fold (cycle_alone s) run entries)
+calm_later s marks [] run m same find legal h = h
+calm_later s marks (e ∷ entries) run m same find legal h =
+    calm_later s marks entries (cycle_alone s run e) m (same_current s run e m find.0) find.1 legal.1 (calm_cycle s run e (alone_pushed s marks run e legal.0) (calm_poll_again s e.entry.state run (ap (λ k. (with_poll s k run).current) find.0 ∙ same) h))
 
-pub run_calm_cycles : (s : Session) (entries : List EntrySeen) (run : Run) (m : ℕ) → AllFind s m entries → AllOpen run → RunCalm s run → RunCalm s (fold (cycle_alone s) run entries)
-run_calm_cycles s [] run m find is h = h
-run_calm_cycles s (e ∷ entries) run m find is h = calm_later s entries (cycle_alone s run e) m (same_current s run e m find.0) find.1 (calm_cycle s run e (calm_poll_first s e.entry.state run is h))
+pub run_calm_cycles : (s : Session) (marks : Marks) (entries : List EntrySeen) (run : Run) (m : ℕ) → AllFind s m entries → LegalAlone s marks run entries → AllOpen run → RunCalm s run → RunCalm s (fold (cycle_alone s) run entries)
+run_calm_cycles s marks [] run m find legal is h = h
+run_calm_cycles s marks (e ∷ entries) run m find legal is h = calm_later s marks entries (cycle_alone s run e) m (same_current s run e m find.0) find.1 legal.1 (calm_cycle s run e (alone_pushed s marks run e legal.0) (calm_poll_first s e.entry.state run is h))
 
 -- ## The normal mixer's turn
 

@@ -22,7 +22,7 @@ use Rattle.af_turn_law.proofs.RunBegins.{turns_new}
 use Rattle.af_turn_law.proofs.RunPolls.{pushed_in, all_find}
 use Rattle.af_turn_law.proofs.RunShared.{SharedDone, shared_rest, shared_mixed, shared_cycles}
 use Rattle.af_turn_law.proofs.TurnActs.{acts}
-use Rattle.af_turn_law.proofs.TurnsForced.{TurnsReady, turn_by, queue_told, round_forced}
+use Rattle.af_turn_law.proofs.TurnsForced.{TurnsReady, turn_by, queue_told, round_forced, legal_alone}
 use Rattle.af_render_law.proofs.RunCalm.{RunCalm, AllOpen, run_calm_met, run_calm_ends, open_ends, run_calm_calls, run_calm_cycles, run_calm_turned}
 use Rattle.af_told_law.proofs.TakesRise.{turn_rises}
 use Rattle.af_render_law.proofs.TrackCalm.{TrackCalm, IsOpenStream, stream_open}
@@ -51,7 +51,7 @@ module _ (s : Session) (marks : Marks) (scales : All (λ (x : Setting). x.scale 
   calm_made run (makes.Fast cycles) round h made histories unseen =
       let last = fold (cycle_alone s) run round.entries in
       let shared : SharedDone last = shared_mixed last (shared_cycles s round.entries run (shared_rest run h.turns.shared)) in
-      run_calm_cycles s round.entries run (pushed_in s run.queue) (all_find s round.entries run (pushed_in s run.queue) refl (queue_told s marks scales last shared histories)) h.is_open h.calm
+      run_calm_cycles s marks round.entries run (pushed_in s run.queue) (all_find s round.entries run (pushed_in s run.queue) refl (queue_told s marks scales last shared histories)) (legal_alone s marks scales run cycles round made) h.is_open h.calm
   calm_made run makes.Normal round h made histories unseen = by_turn round.turn refl
     where
       by_turn : (o : Option Turn) → round.turn ≡ o → RunCalm s (loaded o (turned s (found_before s run []) o run))

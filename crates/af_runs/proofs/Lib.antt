@@ -1,5 +1,6 @@
 mod Begun
 pub mod RunGrows
 pub mod RoundEntries
+pub mod StatesFor
 mod RunChecks
 mod CutExample

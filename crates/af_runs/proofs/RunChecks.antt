@@ -116,7 +116,7 @@ abbrev empty_slot : SlotEntry
 empty_slot = record { gains = 0; flush = 0; rear = 2; seen = seen.Empty; first = 0 }
 
 abbrev long : Run
-long = record put { current = 1; entries = entry_with 1 empty_slot ∷ []; reports = ten ∷ [] }
+long = record put { normal = record put.normal { draft = mixing }; current = 1; entries = entry_with 1 empty_slot ∷ []; reports = ten ∷ [] }
 
 abbrev four : List EntrySeen
 four = map (λ k. record { entry = entry_with k empty_slot; frames = [] }) (1 ∷ 1 ∷ 2 ∷ 2 ∷ [])
@@ -128,6 +128,36 @@ late_turn = record { ended = false; room = 8; ack = true; cycle = 5; tracks = []
 all_count : (report_at (found_before session long four late_turn).report.slots 1).empties ≡ 14
 unfolding with_calls met cells_of with_poll with_mix
 all_count = refl
+
+-- ## A report with an entry of a state whose push was busy before
+
+-- the proxy is lent by the draft, and no state was pushed
+abbrev waiting : Run
+waiting = record put { normal = record put.normal { draft = mixing }; states = [] }
+
+abbrev first_late : EntrySeen
+first_late = record { entry = entry_with 1 slot; frames = frames }
+
+abbrev first_turn : Turn
+first_turn = record { ended = false; room = 8; ack = true; cycle = 1; tracks = []; push = pushing.Clean; mixes = [] }
+
+-- the entry counts by the draft, whose item it shows
+draft_counts : report_at (found_before session waiting (first_late ∷ []) first_turn).report.slots 1 ≡ (record { consumed = 2; shut = false; generation = 1; flush_seen = 0; fulls = 1; partials = 0; empties = 0 })
+unfolding with_calls met cells_of with_poll with_mix
+draft_counts = refl
+
+-- ## A report behind the entries that a round may have
+
+-- of eighteen entries sixteen count
+abbrev eighteen : List EntrySeen
+eighteen = replicate 18 (record { entry = entry_with 1 empty_slot; frames = [] })
+
+abbrev far_turn : Turn
+far_turn = record { ended = false; room = 8; ack = true; cycle = 19; tracks = []; push = pushing.Clean; mixes = [] }
+
+sixteen_count : (report_at (found_before session long eighteen far_turn).report.slots 1).empties ≡ 26
+unfolding with_calls met cells_of with_poll with_mix
+sixteen_count = refl
 
 -- ## Fronts that an answer leaves open
 

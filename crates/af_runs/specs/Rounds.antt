@@ -13,7 +13,7 @@ use Rattle.af_runs.specs.Blocks.{BlockTold, Marks, listed, is_tame, HasBlockHist
 use Rattle.af_runs.specs.ClientTurns.{LegalClientTurn}
 use Rattle.af_runs.specs.Found.{TurnFound, LegalTurnBy}
 use Rattle.af_runs.specs.Fronts.{lawful_front}
-use Rattle.af_runs.specs.Runs.{Run, told_at, sides_of, calls_in, with_calls, state_for, with_poll, with_mix, with_cycle, with_cycles, frames_before, stream_of, found_before, with_turn, with_load, takes_part, met, with_ends, fast_ended, all_ended}
+use Rattle.af_runs.specs.Runs.{Run, most_cycles, told_at, sides_of, calls_in, with_calls, state_for, with_poll, with_mix, with_cycle, with_cycles, frames_before, stream_of, found_before, with_turn, with_load, takes_part, met, with_ends, fast_ended, all_ended}
 use Rattle.af_runs.specs.Sessions.{Session, track_count, cycle_frames, setup_of}
 use Rattle.af_runs.specs.Told.{HasQueueHistory, HasReportHistory, HasPipeTold}
 
@@ -67,10 +67,6 @@ abbrev pub after_round : Session → Run → RoundSeen → Run
 after_round s run round = with_ends (met_after s run round)
 
 -- ## The fast mixer's turn
-
--- the most cycles of a turn
-abbrev pub most_cycles : ℕ
-most_cycles = 16
 
 -- there are some entries: each but the last is Mixed, and the last is one of which this holds
 abbrev pub AreMixedBut : (EntrySeen → Type 0) → List EntrySeen → Type 0

@@ -122,9 +122,9 @@ with_calls round run = each_track (λ track t. called (calls_in round track) t) 
 
 -- ## The fast mixer
 
--- the state of a number; one that isn't pushed yet counts as the one adopted last
+-- the state of a number: number 0 counts as the one adopted last, and one that isn't pushed yet as the normal mixer's draft
 abbrev pub state_for : Session → Run → ℕ → FastState
-state_for s run k = unwrap_or (state_of run.states k) (state_at (cycle_frames s) run.states run.current)
+state_for s run k = unwrap_or (state_of run.states k) (if k == 0 then state_at (cycle_frames s) run.states run.current else run.normal.draft)
 
 -- it polls and finds the state of a number, which it adopts where it was pushed
 unfoldable pub with_poll : Session → ℕ → Run → Run
@@ -212,10 +212,18 @@ frames_before run = sum_by taken_by run.entries
 abbrev pub report_of : List Report → ℕ → Report
 report_of reports n = if n == 0 then no_report else slice_index_or reports (n - 1) (last_report reports)
 
--- What a turn finds that comes before these entries. The report that it loads is the last one before it, or one of theirs, as far as it is told without the state that the turn itself pushes
+-- the most entries of a round
+abbrev pub most_cycles : ℕ
+most_cycles = 16
+
+-- The number of the report that a turn loads: it is the last one before the round, or one of the round's first 16 entries. So what a turn finds rests on no entry beyond those that a legal round may have
+abbrev pub load_of : Run → Turn → ℕ
+load_of run e = min (max (length run.entries) e.cycle) (length run.entries + most_cycles)
+
+-- What a turn finds that comes before these entries. An entry of the state that the turn itself pushes counts in the report by the draft before the turn, as far as it shows its slots
 abbrev pub found_before : Session → Run → List EntrySeen → Turn → TurnFound
 found_before s run entries e = record {
-  report = report_of (with_cycles s entries run).reports (max (length run.entries) e.cycle);
+  report = report_of (with_cycles s entries run).reports (load_of run e);
   streams = λ track. (told_at run track).stream;
   commands = λ track. (told_at run track).commands;
 }

@@ -1,6 +1,5 @@
 -- The report that the fast mixer stores in a mix is the next one of the run, and its slots are empty while no state was used.
-use Rattle.std.proofs.Common.{◌≡◌, ℕ, ◌+◌, ◌<◌, true, fold, List, [], ◌∷◌, ◌++◌, length, Option, Some, refl, sym, ap, ◌∙◌, subst, arith}
-use Rattle.std.specs.Prelude.{unwrap_or}
+use Rattle.std.proofs.Common.{◌≡◌, ℕ, ◌+◌, ◌<◌, true, fold, List, [], ◌∷◌, ◌++◌, length, Some, refl, sym, ap, ◌∙◌, subst, arith}
 use Rattle.std.proofs.lemmas.Grind.{fold-append}
 use Rattle.af_base.specs.declared.log.CycleEntry.{CycleEntry}
 use Rattle.af_base.specs.declared.report.Report.{Report}
@@ -20,7 +19,7 @@ use Rattle.af_normal.specs.State.{NormalState}
 use Rattle.af_runs.specs.Blocks.{listed}
 use Rattle.af_runs.specs.Runs.{Run, known_of, last_report, next_report, stream_of, with_looks, with_mix}
 use Rattle.af_runs.specs.Sessions.{Session, cycle_frames}
-use Rattle.af_runs.specs.Told.{state_at}
+use Rattle.af_runs.proofs.StatesFor.{state_known}
 use Rattle.af_told_law.specs.Tells.{IsFresh, TellsFast, TellsNormal, reports_stored}
 use Rattle.af_told_law.proofs.MixReport.{report_told}
 use Rattle.af_told_law.proofs.MixStates.{none_adopted, none_used, same_state, state_told}
@@ -50,11 +49,11 @@ module _ (s : Session) (run : Run) (n : NormalState) (f g : MixerState) (e : Ent
   }
 
   state_is : (y : FastState) → state_of run.states e.entry.state ≡ Some y → f.observer.past.state ≡ y
-  state_is y is = sym (state_told s run n f order normal fast history e.entry.state adds.state) ∙ ap (λ (o : Option FastState). unwrap_or o (state_at (cycle_frames s) run.states run.current)) is
+  state_is y is = sym (state_told s run n f order normal fast history e.entry.state adds.state) ∙ state_known s run e.entry.state y is
 
   pub report_is : adds.report.0 ≡ next_report s (with_looks s e run) e.entry
   report_is = report_told s (with_looks s e run) e.entry (known g.observer) adds.report.0 next_told
-      (λ i low none. ap (λ (z : FastState). carries z i) (sym fast.state) ∙ none_adopted s run n f order normal fast history (ap (state_of run.states) (sym adds.state) ∙ none) i low)
+      (λ i low none. ap (λ (z : FastState). carries z i) (state_told s run n f order normal fast history e.entry.state adds.state) ∙ none_adopted s run n f order normal fast history (ap (state_of run.states) (sym adds.state) ∙ none) i low)
       (λ i low none. fast.fresh (none_used s run n f order normal fast history none) i low)
       (λ i low y is on. subst (λ (z : FastState). carries z i ≡ true → known g.observer i ≡ known_of (listed (stream_of (with_looks s e run) z i))) (state_is y is) (knows i low) on)
 

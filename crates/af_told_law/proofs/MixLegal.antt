@@ -19,6 +19,7 @@ use Rattle.af_runs.specs.Runs.{Run, frames_before, state_for, stream_of, with_mi
 use Rattle.af_runs.specs.Sessions.{Session, cycle_frames}
 use Rattle.af_runs.specs.Told.{state_at}
 use Rattle.af_told_law.specs.Tells.{TellsFast, TellsShared}
+use Rattle.af_runs.proofs.StatesFor.{state_known}
 
 -- What the run tells of the states that the entry finds, and of the servers of its slots: on a block that was poked the list after the look is the one told, with what the look did by the front that it really saw
 pub record FindsTold (s : Session) (marks : Marks) (run : Run) (f : MixerState) (e : EntrySeen) : Type 0 where
@@ -48,7 +49,7 @@ module _ (s : Session) (marks : Marks) (run : Run) (n : NormalState) (f g : Mixe
   legal = adds.legal
 
   state_is : (y : FastState) → state_of run.states e.entry.state ≡ Some y → x ≡ y
-  state_is y is = ap (λ (o : Option FastState). unwrap_or o (state_at (cycle_frames s) run.states run.current)) is
+  state_is y is = state_known s run e.entry.state y is
 
   -- the slots of a mix
   mixes_x : is_mixed e.entry.cycle ≡ true → Mixes (cycle_frames s) x (frames_before run) before really e.entry → Mixes (cycle_frames s) x (frames_before run) (found_for run x) after e.entry

@@ -1,5 +1,5 @@
 -- The report that the fast mixer stores after an entry is the one that the run tells.
-use Rattle.std.proofs.Common.{◌≡◌, ℕ, ◌+◌, ◌<◌, ◌&&◌, ◌||◌, Bool, true, false, if◌then◌else◌, map, is_some, List, Option, Some, None, refl, sym, ap, ◌∙◌, arith}
+use Rattle.std.proofs.Common.{◌≡◌, ℕ, ◌+◌, ◌<◌, ◌==◌, ◌&&◌, ◌||◌, Bool, true, false, if◌then◌else◌, map, is_some, List, Option, Some, None, refl, sym, ap, ◌∙◌, arith}
 use Rattle.std.specs.Prelude.{unwrap_or}
 use Rattle.std.specs.List.{range_with_len}
 use Rattle.std.proofs.lemmas.List.{ext_get_or}
@@ -14,13 +14,20 @@ use Rattle.af_model.specs.Reports.{IsNextReport, ServerKnown, carried, counted_l
 use Rattle.af_model.specs.StateQueue.{carries, slot_of}
 use Rattle.af_runs.specs.Blocks.{listed}
 use Rattle.af_runs.specs.Fronts.{is_shown}
-use Rattle.af_runs.specs.Runs.{Run, known_of, last_report, next_report, next_slot, stream_of}
+use Rattle.af_runs.specs.Runs.{Run, known_of, last_report, next_report, next_slot, state_for, stream_of}
 use Rattle.af_runs.specs.Sessions.{Session, cycle_frames}
 use Rattle.af_runs.specs.Told.{state_at}
 
 module _ (s : Session) (run : Run) (entry : CycleEntry) (before : List SlotReport) (i : ℕ) (known : ServerKnown) where
-  abbrev adopted : FastState
-  adopted = state_at (cycle_frames s) run.states run.current
+  -- what a number without a state counts as
+  abbrev counts : ℕ → FastState
+  counts k = if k == 0 then state_at (cycle_frames s) run.states run.current else run.normal.draft
+
+  abbrev first : FastState
+  first = counts entry.state
+
+  abbrev second : FastState
+  second = counts (last_used run.entries)
 
   abbrev was : SlotReport
   was = report_at before i
@@ -28,41 +35,41 @@ module _ (s : Session) (run : Run) (entry : CycleEntry) (before : List SlotRepor
   -- what the run tells, by the states that the entry and the one before it used
   abbrev next_by : Option FastState → Option FastState → SlotReport
   next_by o p =
-      if is_some o || (carries (unwrap_or o adopted) i && is_shown (entry_slot entry i).seen)
-      then slot_report (cycle_frames s) (Some (unwrap_or o adopted)) (Some (unwrap_or p adopted)) entry (known_of (listed (stream_of run (unwrap_or o adopted) i))) i was
+      if is_some o || (carries (unwrap_or o first) i && is_shown (entry_slot entry i).seen)
+      then slot_report (cycle_frames s) (Some (unwrap_or o first)) (Some (unwrap_or p second)) entry (known_of (listed (stream_of run (unwrap_or o first) i))) i was
       else was
 
   either_none : (b : Bool) → was ≡ no_slot → (if b then was else no_slot) ≡ no_slot
   either_none true e = e
   either_none false e = refl
 
-  since : (x : FastState) (p : Option FastState) → (p ≡ None → was ≡ no_slot) → (if carried (Some (unwrap_or p adopted)) i then was else no_slot) ≡ (if carried p i then was else no_slot)
+  since : (x : FastState) (p : Option FastState) → (p ≡ None → was ≡ no_slot) → (if carried (Some (unwrap_or p second)) i then was else no_slot) ≡ (if carried p i then was else no_slot)
   since x (Some y) fresh = refl
-  since x None fresh = either_none (carries adopted i) (fresh refl)
+  since x None fresh = either_none (carries second i) (fresh refl)
 
-  slot_by : (o p : Option FastState) → (o ≡ None → carries adopted i ≡ false) → (p ≡ None → was ≡ no_slot) → ((x : FastState) → o ≡ Some x → carries x i ≡ true → known ≡ known_of (listed (stream_of run x i)))
+  slot_by : (o p : Option FastState) → (o ≡ None → carries first i ≡ false) → (p ≡ None → was ≡ no_slot) → ((x : FastState) → o ≡ Some x → carries x i ≡ true → known ≡ known_of (listed (stream_of run x i)))
       → next_by o p ≡ slot_report (cycle_frames s) o p entry known i was
   slot_by None p none fresh knows =
-      ap (λ (b : Bool). if b && is_shown (entry_slot entry i).seen then slot_report (cycle_frames s) (Some adopted) (Some (unwrap_or p adopted)) entry (known_of (listed (stream_of run adopted i))) i was else was) (none refl)
+      ap (λ (b : Bool). if b && is_shown (entry_slot entry i).seen then slot_report (cycle_frames s) (Some first) (Some (unwrap_or p second)) entry (known_of (listed (stream_of run first i))) i was else was) (none refl)
   slot_by (Some x) p none fresh knows = by_mask (carries x i) refl
     where
       look : ServerKnown → SlotReport → SlotReport
       look k r = counted_look (cycle_frames s) (slot_of x i).generation (entry_slot entry i).seen k r
 
-      by_mask : (b : Bool) → carries x i ≡ b → (if b then look (known_of (listed (stream_of run x i))) (if carried (Some (unwrap_or p adopted)) i then was else no_slot) else was) ≡ (if b then look known (if carried p i then was else no_slot) else was)
+      by_mask : (b : Bool) → carries x i ≡ b → (if b then look (known_of (listed (stream_of run x i))) (if carried (Some (unwrap_or p second)) i then was else no_slot) else was) ≡ (if b then look known (if carried p i then was else no_slot) else was)
       by_mask true on = λ j. look (sym (knows x refl on) j) (since x p fresh j)
       by_mask false off = refl
 
   -- a slot of the report
-  pub slot_told : (state_of run.states entry.state ≡ None → carries adopted i ≡ false) → (state_of run.states (last_used run.entries) ≡ None → was ≡ no_slot)
+  pub slot_told : (state_of run.states entry.state ≡ None → carries (state_for s run entry.state) i ≡ false) → (state_of run.states (last_used run.entries) ≡ None → was ≡ no_slot)
       → ((x : FastState) → state_of run.states entry.state ≡ Some x → carries x i ≡ true → known ≡ known_of (listed (stream_of run x i)))
       → next_slot s run entry before i ≡ slot_report (cycle_frames s) (state_of run.states entry.state) (state_of run.states (last_used run.entries)) entry known i was
-  slot_told none fresh knows = slot_by (state_of run.states entry.state) (state_of run.states (last_used run.entries)) none fresh knows
+  slot_told none fresh knows = slot_by (state_of run.states entry.state) (state_of run.states (last_used run.entries)) (λ is. ap (λ (o : Option FastState). carries (unwrap_or o first) i) (sym is) ∙ none is) fresh knows
 
 -- Where the run, in which the looks of the entry were made, has the states, and tells what is known of the proxies, the report is the next one of the run. Where no state was used before, each slot still has its first report
 pub report_told : (s : Session) (run : Run) (entry : CycleEntry) (known : ℕ → ServerKnown) (report : Report)
     → IsNextReport (cycle_frames s) run.states run.entries entry known (last_report run.reports).slots report
-    → ((i : ℕ) → i < slots → state_of run.states entry.state ≡ None → carries (state_at (cycle_frames s) run.states run.current) i ≡ false)
+    → ((i : ℕ) → i < slots → state_of run.states entry.state ≡ None → carries (state_for s run entry.state) i ≡ false)
     → ((i : ℕ) → i < slots → state_of run.states (last_used run.entries) ≡ None → report_at (last_report run.reports).slots i ≡ no_slot)
     → ((i : ℕ) → i < slots → (x : FastState) → state_of run.states entry.state ≡ Some x → carries x i ≡ true → known i ≡ known_of (listed (stream_of run x i)))
     → report ≡ next_report s run entry

@@ -16,7 +16,8 @@ use Rattle.af_model.specs.Order.{Event, Legal, one, two, twos}
 use Rattle.af_model.specs.StateQueue.{HasHistory, QueuePoint, legal, next, start}
 use Rattle.af_normal.specs.State.{NormalState}
 use Rattle.af_runs.specs.Runs.{Run, state_for}
-use Rattle.af_runs.specs.Sessions.{Session, cycle_frames}
+use Rattle.af_runs.specs.Sessions.{Session}
+use Rattle.af_runs.proofs.StatesFor.{state_adopted}
 use Rattle.af_server.specs.Order.{ServerState}
 use Rattle.af_stateq.specs.Laws.{polled_states}
 use Rattle.af_stateq.specs.Shelved.{no_state}
@@ -63,10 +64,6 @@ cold_front xs more n done (entry ∷ entries) few up =
     cold_front xs more n (cold_after (xs ++ more) done entry) entries few up.1
     ∙ ap (λ (o : Option FastState). fold (cold_after xs) (if is_cold entry.cycle then cold_of o else done) entries) (state_of-front xs more entry.state (let le = up.0 in omega (arith, le, few)))
 
-twice : (o : Option FastState) (d : FastState) → unwrap_or o (unwrap_or o d) ≡ unwrap_or o d
-twice None d = refl
-twice (Some x) d = refl
-
 -- ## In a session
 
 module _ (s : Session) (run : Run) (n : NormalState) (f : MixerState) (order : IsInOrder f) (normal : TellsNormal s run n) (fast : TellsFast s run f) (history : HasHistory n.mutator.past.first n.mutator.past.events f.observer.past.events) where
@@ -91,7 +88,9 @@ module _ (s : Session) (run : Run) (n : NormalState) (f : MixerState) (order : I
 
   -- the state of the observer's number is the observer's
   pub state_told : (k : ℕ) → k ≡ f.observer.past.number → state_for s run k ≡ f.observer.past.state
-  state_told k is = ap (λ (i : ℕ). state_for s run i) (is ∙ fast.current) ∙ twice (state_of run.states run.current) (initial (cycle_frames s)) ∙ sym fast.state
+  state_told k is =
+      let low : run.current ≤ length run.states = (let m = many in let l = few_adopted in let c = fast.current in omega (arith, m, l, c)) in
+      ap (λ (i : ℕ). state_for s run i) (is ∙ fast.current) ∙ state_adopted s run low ∙ sym fast.state
 
   -- where it is of no number it carries nothing
   pub none_adopted : state_of run.states f.observer.past.number ≡ None → CarriesNone f.observer.past.state

@@ -1,6 +1,6 @@
 -- A turn of the normal mixer between two rounds loads the last report that was stored.
-use Rattle.std.proofs.Common.{List, [], ap, append_assoc, arith, fold, length, refl, suc, sym, ℕ, ⊎_elim, ◌++◌, ◌∙◌, ◌∷◌, ◌≡◌}
-use Rattle.std.specs.Prelude.{max}
+use Rattle.std.proofs.Common.{◌≡◌, ⊎_elim, ℕ, suc, ◌+◌, fold, List, [], ◌∷◌, ◌++◌, length, refl, sym, ap, subst, ◌∙◌, append_assoc, arith}
+use Rattle.std.specs.Prelude.{max, min}
 use Rattle.af_base.specs.declared.log.CycleEntry.{CycleEntry}
 use Rattle.af_base.specs.declared.report.Report.{Report}
 use Rattle.af_latest.specs.Laws.{last_of, stores}
@@ -16,7 +16,7 @@ use Rattle.af_model.specs.NewestValue.{HasHistory}
 use Rattle.af_model.specs.Order.{one, two, ones, twos}
 use Rattle.af_model.specs.Reports.{no_report, report_at}
 use Rattle.af_normal.specs.State.{NormalState}
-use Rattle.af_runs.specs.Runs.{Run, last_report, report_of}
+use Rattle.af_runs.specs.Runs.{Run, last_report, most_cycles, report_of}
 use Rattle.af_runs.specs.Sessions.{Session}
 use Rattle.af_runs.specs.Told.{ReportTold, report_met}
 use Rattle.af_session.specs.Together.{AreTogether, SessionState}
@@ -116,14 +116,14 @@ module _ (s : Session) (run : Run) {d : Deeds} (x : SessionState) (n : NormalSta
       let long : length run.reports ≡ length run.entries = ap (λ (l : List Report). length l) (sym told.fast.reports) ∙ stored_long ws ∙ together.fast.0.reports.many ∙ entries_many in
       seen.1 ∙ sym (last_stored ws no_report) ∙ ap (λ (l : List Report). last_report l) told.fast.reports ∙ sym (last_told run.reports) ∙ ap (report_of run.reports) long
 
-  -- by the greater of the number of entries and the cycle of the turn's entry
-  loaded_found : (cycle : ℕ) → cycle ≡ loaded.cycle → loaded ≡ report_of run.reports (max (length run.entries) cycle)
+  -- by the number that a turn with this cycle finds
+  loaded_found : (cycle : ℕ) → cycle ≡ loaded.cycle → loaded ≡ report_of run.reports (min (max (length run.entries) cycle) (length run.entries + most_cycles))
   loaded_found cycle is =
-      let same : max (length run.entries) cycle ≡ length run.entries = (let c = cycle_is in let e : cycle ≡ length run.entries = is ∙ c in omega (arith, e)) in
+      let same : min (max (length run.entries) cycle) (length run.entries + 16) ≡ length run.entries = (let c = cycle_is in let e : cycle ≡ length run.entries = is ∙ c in omega (arith, e)) in
       loaded_is ∙ ap (report_of run.reports) (sym same)
 
   -- so the same is heard by both
-  pub heard_found : (tracks : List TrackKept) (cycle : ℕ) → cycle ≡ loaded.cycle → HeardAlike tracks loaded (report_of run.reports (max (length run.entries) cycle))
+  pub heard_found : (tracks : List TrackKept) (cycle : ℕ) → cycle ≡ loaded.cycle → HeardAlike tracks loaded (report_of run.reports (min (max (length run.entries) cycle) (length run.entries + most_cycles)))
   heard_found tracks cycle is =
-      let same : loaded ≡ report_of run.reports (max (length run.entries) cycle) = loaded_found cycle is in
+      let same : loaded ≡ report_of run.reports (min (max (length run.entries) cycle) (length run.entries + most_cycles)) = loaded_found cycle is in
       record { cycle = ap (λ (r : Report). r.cycle) same; slots = (λ i low away. ap (λ (r : Report). report_at r.slots (slot_number (track_at tracks i))) same) }

@@ -1,5 +1,5 @@
 -- The command blocks of a turn run, and the stream blocks that are tame so far, are told in phases: what each step leaves of them.
-use Rattle.std.proofs.Common.{◌≡◌, inl, inr, ℕ, zero, suc, ◌+◌, ◌<◌, ◌==◌, ◌&&◌, ◌||◌, nat_le, Bool, true, false, true≢false, if◌then◌else◌, unwrap_or, is_some, map, length, drop, Option, Some, None, refl, sym, ap, ◌∙◌, subst, arith}
+use Rattle.std.proofs.Common.{◌≡◌, inl, inr, ℕ, zero, suc, ◌+◌, ◌<◌, ◌==◌, ◌&&◌, ◌||◌, nat_le, Bool, true, false, true≢false, if◌then◌else◌, unwrap_or, is_some, map, length, drop, Option, Some, None, refl, sym, ap, ◌∙◌, subst, arith, ◌≤◌}
 use Rattle.std.specs.List.{find, list_any, range_with_len}
 use Rattle.std.proofs.lemmas.Bool.{cases_lt}
 use Rattle.af_base.specs.declared.state.FastState.{FastState}
@@ -10,7 +10,7 @@ use Rattle.af_model.specs.Cycles.{cycle_events, state_of}
 use Rattle.af_model.specs.History.{by_client, by_server}
 use Rattle.af_model.specs.Journals.{EntrySeen, RoundSeen}
 use Rattle.af_model.specs.StateQueue.{slot_of, carries}
-use Rattle.af_runs.specs.Blocks.{client_list, listed}
+use Rattle.af_runs.specs.Blocks.{client_list, listed, Marks}
 use Rattle.af_runs.specs.Clients.{ends}
 use Rattle.af_runs.specs.ClientTurns.{after_calls}
 use Rattle.af_runs.specs.Fronts.{front_of, is_shown}
@@ -20,10 +20,11 @@ use Rattle.af_runs.specs.Told.{state_at}
 use Rattle.af_runs.specs.TurnRuns.{cycle_alone, calls_alone}
 use Rattle.af_judge.proofs.BlocksMeet.{met_at, met_many}
 use Rattle.af_judge.proofs.EachTrack.{each_long, told_each}
-use Rattle.af_judge.proofs.StatesAt.{state_outside}
 use Rattle.af_turn_law.proofs.BlockSteps.{Ready, Done, told_more, rest_done, client_done, server_done, block_met}
 use Rattle.af_turn_law.proofs.BlocksTame.{StreamReady, StreamDone, tame_told, tame_met}
 use Rattle.af_turn_law.proofs.PlainLists.{plain_turn, plain_cycle}
+use Rattle.af_runs.specs.Rounds.{LegalEntry}
+use Rattle.af_runs.proofs.StatesFor.{polled_pushed}
 
 -- these blocks between two rounds
 pub record RunReady (s : Session) (run : Run) : Type 0 where
@@ -178,36 +179,21 @@ found_any p q a (suc n) k imp is = by_first (p a) refl is (found_any p q (a + 1)
     by_first true is e rest = by_true (q a) (list_any q (range_with_len (a + 1) n)) (imp a is)
     by_first false is e rest = by_rest (q a) (list_any q (range_with_len (a + 1) n)) (rest e)
 
-not_le : (k n : ℕ) → nat_le k n ≡ false → n < k
-not_le k n is = elim (cases_lt n k) [
-  | inl more ↦ more
-  | inr le ↦ absurd (true≢false (sym (is_le k n le) ∙ is))
-]
-
--- after a poll the state of that number is the one that the observer has
-polled_state : (s : Session) (k : ℕ) (run : Run) → state_for s (with_poll s k run) k ≡ state_at (cycle_frames s) run.states (with_poll s k run).current
+-- after a poll the state of that number, which was pushed, is the one that the observer has
+polled_state : (s : Session) (k : ℕ) (run : Run) → k ≤ length run.states → state_for s (with_poll s k run) k ≡ state_at (cycle_frames s) run.states (with_poll s k run).current
 unfolding with_poll
-polled_state s k run = by_low (nat_le k (length run.states)) refl
-  where
-    same_or : (o : Option FastState) (d : FastState) → unwrap_or o (unwrap_or o d) ≡ unwrap_or o d
-    same_or None d = refl
-    same_or (Some x) d = refl
+polled_state s k run low = polled_pushed s run k low ∙ ap (λ (b : Bool). state_at (cycle_frames s) run.states (if b then k else run.current)) (sym (is_le k (length run.states) low))
 
-    by_low : (b : Bool) → nat_le k (length run.states) ≡ b
-        → unwrap_or (state_of run.states k) (state_at (cycle_frames s) run.states (if b then k else run.current)) ≡ state_at (cycle_frames s) run.states (if b then k else run.current)
-    by_low true is = same_or (state_of run.states k) _
-    by_low false is = ap (λ o. unwrap_or o (state_at (cycle_frames s) run.states run.current)) (sym (state_outside run.states k (inr (not_le k (length run.states) is))))
-
-pub holds_played : (s : Session) (e : EntrySeen) (run : Run) → PlaysParts s e (met s (with_poll s e.entry.state run))
+pub holds_played : (s : Session) (e : EntrySeen) (run : Run) → e.entry.state ≤ length run.states → PlaysParts s e (met s (with_poll s e.entry.state run))
 unfolding met with_poll
-holds_played s e run n i is =
+holds_played s e run low n i is =
     let k = e.entry.state in
     let x = state_for s (with_poll s k run) k in
     let y = state_at (cycle_frames s) run.states (with_poll s k run).current in
     let any : list_any (λ i. carries x i && ((slot_of x i).track == n)) (range_with_len 0 slots) ≡ true =
     found_any (λ i. plays x e.entry i && ((slot_of x i).track == n)) (λ i. carries x i && ((slot_of x i).track == n)) 0 slots i
     (λ i h. weaker (carries x i) (is_shown (entry_slot e.entry i).seen) ((slot_of x i).track == n) h) is in
-    right (is_home (track_at run.normal.tracks n).holder) _ (subst (λ (z : FastState). list_any (λ i. carries z i && ((slot_of z i).track == n)) (range_with_len 0 slots) ≡ true) (polled_state s k run) any)
+    right (is_home (track_at run.normal.tracks n).holder) _ (subst (λ (z : FastState). list_any (λ i. carries z i && ((slot_of z i).track == n)) (range_with_len 0 slots) ≡ true) (polled_state s k run low) any)
   where
     weaker : (a b c : Bool) → ((a && b) && c) ≡ true → (a && c) ≡ true
     weaker true true c h = h
@@ -218,10 +204,15 @@ holds_played s e run n i is =
     right true b h = refl
     right false b h = h
 
+-- a legal cycle's state was pushed
+pub alone_pushed : (s : Session) (marks : Marks) (run : Run) (e : EntrySeen) → LegalEntry s marks (met s (with_poll s e.entry.state run)) e → e.entry.state ≤ length run.states
+unfolding met with_poll
+alone_pushed s marks run e legal = legal.cycle.pushed
+
 -- the first cycle of a turn
-pub cycle_first : (s : Session) (run : Run) (e : EntrySeen) → RunReady s run → RunDone s (cycle_alone s run e)
-cycle_first s run e h = run_mix s e (met s (with_poll s e.entry.state run)) (holds_played s e run) (run_met s (with_poll s e.entry.state run) (poll_first s e.entry.state run h))
+pub cycle_first : (s : Session) (run : Run) (e : EntrySeen) → e.entry.state ≤ length run.states → RunReady s run → RunDone s (cycle_alone s run e)
+cycle_first s run e low h = run_mix s e (met s (with_poll s e.entry.state run)) (holds_played s e run low) (run_met s (with_poll s e.entry.state run) (poll_first s e.entry.state run h))
 
 -- a later one, which finds the same state
-pub cycle_again : (s : Session) (run : Run) (e : EntrySeen) → (with_poll s e.entry.state run).current ≡ run.current → RunDone s run → RunDone s (cycle_alone s run e)
-cycle_again s run e same h = run_mix s e (met s (with_poll s e.entry.state run)) (holds_played s e run) (run_met s (with_poll s e.entry.state run) (poll_again s e.entry.state run same h))
+pub cycle_again : (s : Session) (run : Run) (e : EntrySeen) → e.entry.state ≤ length run.states → (with_poll s e.entry.state run).current ≡ run.current → RunDone s run → RunDone s (cycle_alone s run e)
+cycle_again s run e low same h = run_mix s e (met s (with_poll s e.entry.state run)) (holds_played s e run low) (run_met s (with_poll s e.entry.state run) (poll_again s e.entry.state run same h))

@@ -12,8 +12,9 @@ use Rattle.af_model.specs.StateQueue.{QueuePoint}
 use Rattle.af_runs.specs.Runs.{Run, with_poll, with_mix, met}
 use Rattle.af_runs.specs.Sessions.{Session, cycle_frames}
 use Rattle.af_runs.specs.Told.{Item, QueueTold, state_at, items_of, poll_events, observer_does}
-use Rattle.af_runs.specs.TurnRuns.{cycle_alone}
-use Rattle.af_turn_law.proofs.RunBlocks.{RunReady, RunDone, nothing_done, cycle_first, cycle_again}
+use Rattle.af_runs.specs.TurnRuns.{cycle_alone, LegalAlone}
+use Rattle.af_turn_law.proofs.RunBlocks.{RunReady, RunDone, nothing_done, alone_pushed, cycle_first, cycle_again}
+use Rattle.af_runs.specs.Blocks.{Marks}
 
 -- ## Orders in parts
 
@@ -110,11 +111,11 @@ module _ (s : Session) where
       by_low true = refl
       by_low false = refl
 
-  later_cycles : (entries : List EntrySeen) (run : Run) (m : ℕ) → (with_poll s m run).current ≡ run.current → AllFind m entries → RunDone s run → RunDone s (fold (cycle_alone s) run entries)
-  later_cycles [] run m same find h = h
-  later_cycles (e ∷ entries) run m same find h =
-      later_cycles entries (cycle_alone s run e) m (same_current run e m find.0) find.1 (cycle_again s run e (ap (λ k. (with_poll s k run).current) find.0 ∙ same) h)
+  later_cycles : (marks : Marks) (entries : List EntrySeen) (run : Run) (m : ℕ) → (with_poll s m run).current ≡ run.current → AllFind m entries → LegalAlone s marks run entries → RunDone s run → RunDone s (fold (cycle_alone s) run entries)
+  later_cycles marks [] run m same find legal h = h
+  later_cycles marks (e ∷ entries) run m same find legal h =
+      later_cycles marks entries (cycle_alone s run e) m (same_current run e m find.0) find.1 legal.1 (cycle_again s run e (alone_pushed s marks run e legal.0) (ap (λ k. (with_poll s k run).current) find.0 ∙ same) h)
 
-  pub all_cycles : (entries : List EntrySeen) (run : Run) (m : ℕ) → AllFind m entries → RunReady s run → RunDone s (fold (cycle_alone s) run entries)
-  all_cycles [] run m find h = nothing_done s run h
-  all_cycles (e ∷ entries) run m find h = later_cycles entries (cycle_alone s run e) m (same_current run e m find.0) find.1 (cycle_first s run e h)
+  pub all_cycles : (marks : Marks) (entries : List EntrySeen) (run : Run) (m : ℕ) → AllFind m entries → LegalAlone s marks run entries → RunReady s run → RunDone s (fold (cycle_alone s) run entries)
+  all_cycles marks [] run m find legal h = nothing_done s run h
+  all_cycles marks (e ∷ entries) run m find legal h = later_cycles marks entries (cycle_alone s run e) m (same_current run e m find.0) find.1 legal.1 (cycle_first s run e (alone_pushed s marks run e legal.0) h)

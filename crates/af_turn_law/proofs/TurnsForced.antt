@@ -14,9 +14,9 @@ use Rattle.af_runs.specs.Blocks.{Marks, is_tame}
 use Rattle.af_runs.specs.Clients.{ends}
 use Rattle.af_runs.specs.Found.{LegalTurnBy, outside_of}
 use Rattle.af_runs.specs.Rounds.{HaveHistories, LegalTurnIn, loaded, turned}
-use Rattle.af_runs.specs.Runs.{Run, TrackTold, no_track, told_at, each_track, with_mix, with_poll, with_turn, with_load, with_ends, found_before, met}
+use Rattle.af_runs.specs.Runs.{Run, TrackTold, no_track, told_at, each_track, with_mix, with_poll, with_turn, with_load, with_ends, fast_ended, found_before, met}
 use Rattle.af_runs.specs.Sessions.{Session, cycle_frames, setup_of}
-use Rattle.af_runs.specs.TurnRuns.{cycle_alone, turn_alone, calls_alone, made_alone, met_alone, IsMadeBy, SeesAllBefore, AreTurns}
+use Rattle.af_runs.specs.TurnRuns.{LegalAlone, cycle_alone, turn_alone, calls_alone, made_alone, met_alone, IsMadeBy, SeesAllBefore, AreTurns}
 use Rattle.af_judge.proofs.SoundTurns.{Sound, sound_turn}
 use Rattle.af_turn_law.specs.Acting.{FindsShutUnseen}
 use Rattle.af_turn_law.specs.ListTurns.{AreListTurns, FindShutUnseen}
@@ -89,6 +89,13 @@ module _ (s : Session) (marks : Marks) (scales : All (λ (x : Setting). x.scale 
     | inr (goes, made) ↦ subst (λ o. MatchOption o ⊥ (λ e. LegalTurnBy (setup_of s) marks (found_before s run [] e) run.normal e)) is made
   ]
 
+  -- the entries of the fast mixer's turn, if there are any, are legal one after the other
+  pub legal_alone : (run : Run) (cycles : ℕ) (round : RoundSeen) → IsMadeBy s marks run (makes.Fast cycles) round → LegalAlone s marks run round.entries
+  legal_alone run cycles round made = elim (by_flag (fast_ended run) made.2) [
+    | inl (ended, none) ↦ subst (LegalAlone s marks run) (sym none) tt
+    | inr (goes, both) ↦ both.1
+  ]
+
   -- the queue is as told up to the meetings
   pub queue_told : (made : Run) → SharedDone made → HaveHistories s (met s made) → AsTold s made.queue
   unfolding met
@@ -109,7 +116,7 @@ module _ (s : Session) (marks : Marks) (scales : All (λ (x : Setting). x.scale 
       let shared : SharedDone (fold (cycle_alone s) run round.entries) = shared_mixed (fold (cycle_alone s) run round.entries) (shared_cycles s round.entries run (shared_rest run h.shared)) in
       let same = cycles_same s round.entries run in
       record {
-        blocks = all_cycles s round.entries run (pushed_in s run.queue) (all_find s round.entries run (pushed_in s run.queue) refl (queue_told (fold (cycle_alone s) run round.entries) shared histories)) h.blocks;
+        blocks = all_cycles s marks round.entries run (pushed_in s run.queue) (all_find s round.entries run (pushed_in s run.queue) refl (queue_told (fold (cycle_alone s) run round.entries) shared histories)) (legal_alone run cycles round made) h.blocks;
         shared = shared;
         normal = normal_same s run (fold (cycle_alone s) run round.entries) same.0 same.1 h.normal;
       }

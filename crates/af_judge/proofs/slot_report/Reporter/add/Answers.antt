@@ -25,5 +25,6 @@ returns c =
     let whole : c.loop-slot.slots ≡ map f (range_with_len 0 slots) = fill_by_all f c.loop-slot.slots slots no_slot c.loop-slot.invariant.long each in
     let asked : c.self-2.inside.asked ≡ v.asked = ap (λ (t : Telling). t.asked) c.self-2.view_is in
     let current : c.self-2.inside.current ≡ v.current = ap (λ (t : Telling). t.current) c.self-2.view_is in
+    let draft : c.self-2.inside.draft ≡ v.draft = ap (λ (t : Telling). t.draft) c.self-2.view_is in
     let cycle : c.self-2.inside.report.cycle + 1 ≡ v.report.cycle + 1 = ap (λ (t : Telling). t.report.cycle + 1) c.self-2.view_is in
-    λ j. record { asked = asked j; current = current j; used = entry.state; report = record { cycle = cycle j; slots = whole j } }
+    λ j. record { asked = asked j; current = current j; used = entry.state; draft = draft j; report = record { cycle = cycle j; slots = whole j } }

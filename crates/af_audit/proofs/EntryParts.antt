@@ -1,0 +1,15 @@
+-- Both parts of the entries of a legal round are legal, those before the turn and those behind it.
+use Rattle.std.proofs.Common.{◌≡◌, ℕ, Bool, true, false, [], take, drop, sym, ap, subst}
+use Rattle.std.specs.Prelude.{MatchBool}
+use Rattle.std.specs.List.{prefix_len}
+use Rattle.af_model.specs.Journals.{RoundSeen}
+use Rattle.af_runs.specs.Blocks.{Marks}
+use Rattle.af_runs.specs.Rounds.{is_early, IsFastTurn, LegalEntries, early_of, late_of, after_turn}
+use Rattle.af_runs.specs.Runs.{Run, most_cycles, with_calls}
+use Rattle.af_runs.specs.Sessions.{Session}
+
+-- where there are none too
+pub legal_parts : (b full : Bool) (s : Session) (marks : Marks) (run : Run) (round : RoundSeen) → MatchBool b (round.entries ≡ []) (IsFastTurn most_cycles full round.entries × LegalEntries s marks (with_calls round run) (early_of run round) × LegalEntries s marks (after_turn s run round) (late_of run round))
+    → LegalEntries s marks (with_calls round run) (early_of run round) × LegalEntries s marks (after_turn s run round) (late_of run round)
+legal_parts false full s marks run round h = (h.1, h.2)
+legal_parts true full s marks run round none = (subst (LegalEntries s marks (with_calls round run)) (sym (ap (λ l. take (prefix_len (is_early run) l) l) none)) tt, subst (LegalEntries s marks (after_turn s run round)) (sym (ap (λ l. drop (prefix_len (is_early run) l) l) none)) tt)
