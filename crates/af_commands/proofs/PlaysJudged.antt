@@ -9,7 +9,7 @@ use Rattle.af_audit.proofs.OneVerdict.{one_verdict}
 use Rattle.af_base.specs.declared.frame.Frame.{Frame}
 use Rattle.af_model.specs.Journals.{JournalData}
 use Rattle.af_script.specs.Data.{ScriptData}
-use Rattle.af_session.specs.PlayedRuns.{HandsBackRun}
+use Rattle.af_playing.specs.PlayedRuns.{HandsBackRun}
 use Rattle.af_session.specs.Ends.{EndsState}
 use Rattle.af_commands.specs.Plays.{IsPlay}
 use Rattle.af_commands.specs.PlaysJudged.{IsFoundLegal, PlayIsFoundLegal}

@@ -1,6 +1,7 @@
 //! The fast mixer, how it is made, and what it lends.
-ghost use Rattle.std.specs.Prelude.{◌≡◌, ◌*◌, ◌≤◌, ◌^◌, IfOk, length};
+ghost use Rattle.std.specs.Prelude.{◌≡◌, ◌*◌, ◌≤◌, ◌^◌, [], IfOk, length};
 ghost use Rattle.std.specs.Borrow.{sem};
+ghost use Rattle.af_base.specs.Log.{slots};
 ghost use Rattle.af_fast.specs.Lends.{lends_ends, lends_observer, lends_pair};
 ghost use Rattle.af_stateq.specs.Observes.{InOrder};
 ghost use Rattle.af_fast.specs.Fits.{stream_fits};
@@ -68,6 +69,29 @@ fn silence(alloc: Global, frames: usize) -> Result<Vec<Frame>, Memory>
     Ok(buffer)
 }
 
+// What a mixer reserves: its whole log, and the sums and frames of one cycle.
+#[derive(Drop)]
+struct Reserved {
+    log: FastLog,
+    sums: Vec<Sum>,
+    buffer: Vec<Frame>,
+}
+
+// What is reserved for so many entries, and for so many frames a cycle.
+fn reserve(alloc: Global, cycles: usize, frames: usize) -> Result<Reserved, Memory>
+    requires cycles { cycles ≤ 100000 }
+    requires frames { cycles * frames ≤ 2 ^ 21 }
+    ensures log { IfOk result (λ r. r.log ≡ record { entries = []; frames = []; room = cycles; frame_room = slots * (cycles * frames) }) }
+    ensures sums { IfOk result (λ r. length r.sums.items ≡ frames) }
+    ensures buffer { IfOk result (λ r. length r.buffer.items ≡ frames) }
+{
+    Ok(Reserved {
+        log: FastLog::with_room(alloc, cycles, frames)?,
+        sums: no_sums(alloc, frames)?,
+        buffer: silence(alloc, frames)?,
+    })
+}
+
 impl FastMixer {
     /// A mixer over its three ends, on which nothing was done: for `cycles` entries, from 1 to 100,000, and `frames` frames a cycle, at least 1, with `cycles * frames` at most 2^21.
     ///
@@ -87,9 +111,8 @@ impl FastMixer {
         ensures made { IfOk result (λ m. m ≡ made_of observer writer pipe cycles frames) }
         ensures order { IfOk result IsInOrder }
     {
-        let log = FastLog::with_room(alloc, cycles, frames)?;
-        let sums = no_sums(alloc, frames)?;
-        let buffer = silence(alloc, frames)?;
+        let reserved = reserve(alloc, cycles, frames)?;
+        let Reserved { log, sums, buffer } = reserved;
         Ok(FastMixer {
             observer,
             ends: (writer, pipe),

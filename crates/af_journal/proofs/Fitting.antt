@@ -1,5 +1,5 @@
 -- The numbers of a journal lie in the ranges of their fields just where those of its lines do.
-use Rattle.std.proofs.Common.{◌≡◌, ◌⊎◌, inl, inr, ℕ, zero, suc, ◌+◌, ◌*◌, ◌/◌, ◌%◌, ◌<◌, ◌≤◌, ◌^◌, ◌==◌, List, [], ◌∷◌, ◌++◌, length, map, Option, Some, None, Bool, true, false, cond, slice_index_or, MatchOption, lit<, refl, ap, ◌∙◌, sym, subst, arith, All}
+use Rattle.std.proofs.Common.{⊎_elim, ◌≡◌, ◌⊎◌, inl, inr, ℕ, zero, suc, ◌+◌, ◌*◌, ◌/◌, ◌%◌, ◌<◌, ◌≤◌, ◌^◌, ◌==◌, List, [], ◌∷◌, ◌++◌, length, map, Option, Some, None, Bool, true, false, cond, slice_index_or, MatchOption, lit<, refl, ap, ◌∙◌, sym, subst, arith, All}
 use Rattle.std.specs.Int.{bit_at, cast_unsigned, w16}
 use Rattle.std.specs.List.{AllByRecursion, flat_map, range_with_len}
 use Rattle.std.proofs.lemmas.Bool.{cases_eq}
@@ -305,17 +305,13 @@ module _ (place : ℕ) (e : EntrySeen) (m : IsMixed place e.entry) where
 
   slots_told : (n : ℕ) → n ≤ slots → AreWritten (flat_map (slot_lines e) (range_with_len 0 n)) → (i : ℕ) → i < n → Tells i
   slots_told zero few fit i lt = absurd (omega (arith, lt))
-  slots_told (suc n) few fit i lt = by (cases_eq i n)
-    where
-      more : flat_map (slot_lines e) (range_with_len 0 (suc n)) ≡ flat_map (slot_lines e) (range_with_len 0 n) ++ slot_lines e n
-      more = ap (λ (k : ℕ). flat_map (slot_lines e) (range_with_len 0 k)) (let one : suc n ≡ n + 1 = omega arith in one) ∙ range-more (slot_lines e) n
-
-      parts : AreWritten (flat_map (slot_lines e) (range_with_len 0 n)) × AreWritten (slot_lines e n)
-      parts = fits-split (flat_map (slot_lines e) (range_with_len 0 n)) (slot_lines e n) (subst AreWritten more fit)
-
-      by : (i ≡ n) ⊎ (i ≡ n → ⊥) → Tells i
-      by (inl same) = subst Tells (sym same) (slot_told n (slot_is n (omega arith)) parts.1)
-      by (inr other) = slots_told n (omega arith) parts.0 i (omega (arith, lt, other))
+  slots_told (suc n) few fit i lt =
+      let more : flat_map (slot_lines e) (range_with_len 0 (suc n)) ≡ flat_map (slot_lines e) (range_with_len 0 n) ++ slot_lines e n =
+      ap (λ (k : ℕ). flat_map (slot_lines e) (range_with_len 0 k)) (let one : suc n ≡ n + 1 = omega arith in one) ∙ range-more (slot_lines e) n in
+      let parts = fits-split (flat_map (slot_lines e) (range_with_len 0 n)) (slot_lines e n) (subst AreWritten more fit) in
+      let few_before : n ≤ slots = omega (arith, few) in
+      ⊎_elim (λ (same : i ≡ n). subst Tells (sym same) (slot_told n (slot_is n (omega (arith, few))) parts.1))
+      (λ (other : i ≡ n → ⊥). slots_told n few_before parts.0 i (omega (arith, lt, other))) (cases_eq i n)
 
 -- ## Entries
 

@@ -25,6 +25,7 @@ use Rattle.af_runs.specs.Fronts.{is_shown, lawful_front}
 use Rattle.af_runs.specs.Rounds.{LegalEntry, found_for}
 use Rattle.af_runs.specs.Runs.{Run, frames_before, plays, state_for, stream_of, with_mix, with_poll}
 use Rattle.af_runs.specs.Sessions.{Session, cycle_frames}
+use Rattle.af_runs.proofs.StatesFor.{state_known}
 use Rattle.af_runs.specs.Told.{state_at}
 use Rattle.af_judge.specs.declared.track_judge.TrackJudge.{TrackJudge}
 use Rattle.af_judge.specs.Blocks.{listed_in}
@@ -219,7 +220,7 @@ module _ (s : Session) (marks : Marks) (r : Run) (e : EntrySeen) (f : FastKept) 
         runs = sym fast.ended ∙ follows.runs;
         what = follows.what ∙ ap (λ (c : ℕ). cycle_of c (state_of r.states e.entry.state)) fast.cold;
         still = form.still;
-        mixes = λ y is mixed. subst (λ (z : FastState). Mixes asked z (frames_before r) (found_for r x) after e.entry) (ap (λ (o : Option FastState). unwrap_or o (state_at asked r.states r.current)) is) (mixes-so mixed right);
+        mixes = λ y is mixed. subst (λ (z : FastState). Mixes asked z (frames_before r) (found_for r x) after e.entry) (state_known s r e.entry.state y is) (mixes-so mixed right);
       };
       pipe = refl;
       lawful = λ mixed i low carried lawful. ap (λ (b : Bool). let k = listed (stream_of r x i) in k.events ++ cycle_events asked k (entry_slot e.entry i) (front_judged b asked k (entry_slot e.entry i))) lawful;
@@ -238,7 +239,7 @@ module _ (s : Session) (marks : Marks) (r : Run) (e : EntrySeen) (f : FastKept) 
       where
         by_state : (o : Option FastState) → state_of r.states e.entry.state ≡ o → Mixes asked x (frames_before r) (found_for r x) l.after e.entry
         by_state None is = absurd (true≢false (sym mixed ∙ (ap is_mixed l.cycle.what ∙ ap (λ (o : Option FastState). is_mixed (cycle_of (cold_done r.states r.entries) o)) is)))
-        by_state (Some y) is = subst (λ (z : FastState). Mixes asked z (frames_before r) (found_for r x) l.after e.entry) (sym (ap (λ (o : Option FastState). unwrap_or o (state_at asked r.states r.current)) is)) (l.cycle.mixes y is mixed)
+        by_state (Some y) is = subst (λ (z : FastState). Mixes asked z (frames_before r) (found_for r x) l.after e.entry) (sym (state_known s r e.entry.state y is)) (l.cycle.mixes y is mixed)
 
     right-so : LegalEntry s marks r e → IsMixRight f.told.asked x frames e.entry f.pipe tracks
     unfolding mixes-of second-front

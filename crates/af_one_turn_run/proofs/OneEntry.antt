@@ -29,6 +29,7 @@ use Rattle.af_runs.specs.Rounds.{LegalEntry, found_for}
 use Rattle.af_runs.specs.Runs.{Run, TrackTold, told_at, no_track, frames_before, mixed_track, played, plays, slot_for, state_for, stream_of, with_mix}
 use Rattle.af_runs.specs.Sessions.{Session, cycle_frames, setup_of}
 use Rattle.af_runs.specs.Told.{PipeTold, state_at}
+use Rattle.af_runs.proofs.StatesFor.{state_known}
 use Rattle.af_judge.proofs.EachTrack.{each_at}
 use Rattle.af_judge.proofs.EntryLegal.{twos-more}
 use Rattle.af_judge.specs.Entries.{CarriesApart, CarriesWithin}
@@ -117,7 +118,7 @@ module _ (s : Session) (marks : Marks) (lawful : (n : ℕ) → marks.streams n �
         by_state : (o : Option FastState) → state_of r.states e.entry.state ≡ o → Mixes asked x (frames_before r) (found_for r x) t.legal.after e.entry
         by_state None is = absurd (true≢false (sym mixed ∙ (ap is_mixed t.legal.cycle.what ∙ ap (λ (o : Option FastState). is_mixed (cycle_of (cold_done r.states r.entries) o)) is)))
         by_state (Some y) is =
-            let same : y ≡ x = ap (λ (o : Option FastState). unwrap_or o (state_at asked r.states r.current)) (sym is) ∙ state in
+            let same : y ≡ x = sym (state_known s r e.entry.state y is) ∙ state in
             subst (λ (z : FastState). Mixes asked z (frames_before r) (found_for r x) t.legal.after e.entry) same
             (subst (λ (z : FastState). Mixes asked y (frames_before r) (found_for r z) t.legal.after e.entry) state (t.legal.cycle.mixes y is mixed))
 

@@ -14,5 +14,5 @@ returns-clause-order c = record {
   room = search (rules);
   uses = search (rules);
   keeps = search (rules);
-  reports = subst (λ (r : Report). Reported (length c.in_ok-log.log.entries) c.args.writer.events r.slots) (sym c.first_report.ensures) (nothing_reported (length c.in_ok-log.log.entries) c.args.writer.events no_slot (ap (λ (l : Logged). length l.entries) c.in_ok-log.ensures) c.requires.unused.stored refl);
+  reports = subst (λ (r : Report). Reported (length c.in_ok-reserved.reserved.log.entries) c.args.writer.events r.slots) (sym c.first_report.ensures) (nothing_reported (length c.in_ok-reserved.reserved.log.entries) c.args.writer.events no_slot (ap (λ (l : Logged). length l.entries) c.in_ok-reserved.ensures.log) c.requires.unused.stored refl);
 }

@@ -1,12 +1,39 @@
 use Rattle.std.specs.List.{range_with_len}
-use Rattle.std.proofs.Common.{◌≡◌, ℕ, ◌+◌, ◌<◌, map, ap, ◌∙◌, arith}
+use Rattle.std.specs.Prelude.{slice_set}
+use Rattle.std.proofs.Common.{List, ◌≡◌, ◌⊎◌, inl, inr, ℕ, ◌+◌, ◌<◌, ◌≤◌, length, map, sym, ap, ◌∙◌, subst, arith}
+use Rattle.std.proofs.lemmas.Bool.{cases_lt}
+use Rattle.std.proofs.lemmas.List.{get_or-set_other, get_or-set_same, length-set}
+use Rattle.std.proofs.lemmas.List.Edits.{fill_by_more}
 use Rattle.std.proofs.lemmas.List.FromFn.{fill_by_all}
 use Rattle.af_base.specs.declared.report.SlotReport.{SlotReport}
 use Rattle.af_base.specs.declared.state.FastState.{FastState}
 use Rattle.af_base.specs.Log.{slots}
 use Rattle.af_model.specs.Reports.{no_slot, report_at}
-use Rattle.af_judge.specs.Reporting.{Telling, slot_added, state_in, told_at_slot}
+use Rattle.af_judge.specs.Reporting.{CountsUpTo, Telling, slot_added, state_in, told_at_slot}
 use Rattle.af_judge.proofs.slot_report.Reporter.add.Goals as goal
+
+few_more : (most : ℕ) (xs : List SlotReport) (i : ℕ) (r : SlotReport) → i < length xs → CountsUpTo most r → ((k : ℕ) → k < i → CountsUpTo most (report_at xs k)) → (k : ℕ) → k < i + 1 → CountsUpTo most (report_at (slice_set xs i r) k)
+few_more most xs i r low here each k lt = by (cases_lt k i)
+  where
+    by : (k < i) ⊎ (i ≤ k) → CountsUpTo most (report_at (slice_set xs i r) k)
+    by (inl less) = subst (CountsUpTo most) (sym (get_or-set_other xs i k r no_slot (λ e. omega (arith, e, less)))) (each k less)
+    by (inr more) =
+        let is : k ≡ i = omega (arith, more, lt) in
+        subst (CountsUpTo most) (sym (ap (report_at (slice_set xs i r)) is ∙ get_or-set_same xs i r no_slot low)) here
+
+pub loop-slot-preserved : goal.loop-slot-preserved
+loop-slot-preserved c =
+    let l = c.loop-slot in
+    let i = l.invariant in
+    let v : Telling = c.args.self.now in
+    let f : ℕ → SlotReport = λ k. slot_added v.asked c.args.states.now c.state-state.result c.state-last.result c.args.entry.now (told_at_slot c.args.heard.now k) k (report_at v.report.slots k) in
+    let low : l.slot < length l.slots = omega (arith, i.long, c.loop-slot-test.true, l.auto.slot-end) in
+    let here : c.slot.result ≡ f l.slot = c.slot.ensures.slot in
+    record {
+      long = length-set l.slots l.slot c.slot.result ∙ i.long;
+      each = λ k lt. ap (λ (r : SlotReport). report_at (slice_set l.slots l.slot r) k) here ∙ fill_by_more f l.slots l.slot no_slot low i.each k lt;
+      few = few_more (v.report.cycle + 1) l.slots l.slot c.slot.result low c.slot.ensures.few i.few;
+    }
 
 pub returns : goal.returns
 returns c =
