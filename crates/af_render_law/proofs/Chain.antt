@@ -12,7 +12,8 @@ use Rattle.af_session.specs.Rounds.{IsRound}
 use Rattle.af_session.specs.Together.{SessionState}
 use Rattle.af_render_law.specs.Aware.{KnowsAway}
 use Rattle.af_told_law.specs.Between.{StandsBetween}
-use Rattle.af_told_law.specs.Sizes.{IsMarkedRun, IsSmallRun}
+use Rattle.af_told_law.specs.Sizes.{IsSmallRun}
+use Rattle.af_told_law.specs.Marked.{IsMarkedRun}
 use Rattle.af_render_law.specs.Laws.{StepIsTold, round_of}
 use Rattle.af_told_law.specs.QueueTurned.{QueueKnown, ReportMet}
 use Rattle.af_told_law.specs.Tells.{Tells, given_of}

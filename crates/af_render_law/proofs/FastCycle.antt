@@ -22,7 +22,8 @@ use Rattle.af_stateq.specs.Observes.{Observes}
 use Rattle.af_session.specs.FastTurns.{IsCycle}
 use Rattle.af_rendering.specs.Leads.{InStep, LeadAway}
 use Rattle.af_session.specs.Together.{AreTogether, SessionState}
-use Rattle.af_told_law.specs.Sizes.{AreSmall, IsMarkedRun}
+use Rattle.af_told_law.specs.Sizes.{AreSmall}
+use Rattle.af_told_law.specs.Marked.{IsMarkedRun}
 use Rattle.af_told_law.specs.MixLaws.{MixesAreTold}
 use Rattle.af_render_law.specs.Laws.{IsBetween}
 use Rattle.af_told_law.specs.MixLaws.{entry_told}

@@ -16,7 +16,7 @@ use Rattle.af_session.specs.FastTurns as parties
 use Rattle.af_session.specs.Rounds.{IsRound, fast_round, still_round}
 use Rattle.af_session.specs.Rounds as rounds
 use Rattle.af_session.specs.Together.{SessionState}
-use Rattle.af_told_law.specs.Sizes.{IsMarkedRun}
+use Rattle.af_told_law.specs.Marked.{IsMarkedRun}
 use Rattle.af_told_law.specs.MixLaws.{MixesAreTold}
 use Rattle.af_render_law.specs.Laws.{IsBetween, StepIsTold, round_of}
 use Rattle.af_told_law.specs.Tells.{Tells, given_of}

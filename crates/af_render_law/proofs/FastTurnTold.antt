@@ -15,7 +15,8 @@ use Rattle.af_runs.specs.TurnRuns.{LegalAlone, cycle_alone}
 use Rattle.af_session.specs.FastTurns.{IsCycle, IsFastTurn, WritesCycle}
 use Rattle.af_session.specs.Met.{Met}
 use Rattle.af_session.specs.Together.{AreTogether, SessionState}
-use Rattle.af_told_law.specs.Sizes.{AreSmall, IsMarkedRun}
+use Rattle.af_told_law.specs.Sizes.{AreSmall}
+use Rattle.af_told_law.specs.Marked.{IsMarkedRun}
 use Rattle.af_told_law.specs.MixLaws.{MixesAreTold}
 use Rattle.af_render_law.specs.Laws.{IsBetween}
 use Rattle.af_told_law.specs.MixLaws.{entry_told}

@@ -26,8 +26,8 @@ use Rattle.af_runs.specs.Sessions.{Session, setup_of, track_count}
 use Rattle.af_runs.specs.TurnRuns.{calls_alone, cycle_alone, made_alone, met_alone, turn_alone}
 use Rattle.af_script.specs.declared.op.TurnSpec.{TurnSpec}
 use Rattle.af_script.specs.declared.op.TurnSpec.TheVariants as makes
-use Rattle.af_told_law.specs.Sizes.{IsMarkedRun, IsSmallRun, IsTrackMarked}
-use Rattle.af_told_law.specs.Marked.{AreRoundsMarked, IsRoundMarked}
+use Rattle.af_told_law.specs.Sizes.{IsSmallRun}
+use Rattle.af_told_law.specs.Marked.{AreRoundsMarked, IsMarkedRun, IsRoundMarked, IsTrackMarked}
 use Rattle.af_told_law.proofs.TameRuns.{both_lawful, each_keeps_at, met_marked, mix_marked, poll_marked}
 
 -- ## Calls

@@ -30,7 +30,7 @@ use Rattle.af_session.specs.Together.{AreTogether, SessionState}
 use Rattle.af_judge.proofs.SoundTurns.{welcomed_at}
 use Rattle.af_turn_law.proofs.MixedHome.{mixed_home}
 use Rattle.af_told_law.specs.Comers.{ComersTell}
-use Rattle.af_told_law.specs.Sizes.{IsMarkedRun}
+use Rattle.af_told_law.specs.Marked.{IsMarkedRun}
 use Rattle.af_told_law.specs.Outsides.{AreAlike, IsFound, ListAlike, LooksTold, TakeTold}
 use Rattle.af_told_law.specs.Own.{SeesOwn}
 use Rattle.af_told_law.specs.Tells.{Tells, TellsServer}

@@ -29,7 +29,7 @@ use Rattle.af_session.specs.Met.{Met}
 use Rattle.af_session.specs.Together.{AreTogether, SessionState}
 use Rattle.af_told_law.specs.Between.{StandsBetween}
 use Rattle.af_told_law.specs.NormalLaws.{PartsTold, seen_of, track_turned, turned_run}
-use Rattle.af_told_law.specs.Sizes.{IsMarkedRun}
+use Rattle.af_told_law.specs.Marked.{IsMarkedRun}
 use Rattle.af_told_law.specs.Own.{SeesOwn}
 use Rattle.af_told_law.specs.Places.{StreamsGo, StreamsStay}
 use Rattle.af_told_law.specs.QueueTurned.{MutatorGoes, QueueKnown, ReportMet}

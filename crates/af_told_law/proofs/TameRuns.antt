@@ -19,7 +19,8 @@ use Rattle.af_runs.specs.Sessions.{Session, cycle_frames}
 use Rattle.af_judge.proofs.EachTrack.{each_at, each_long}
 use Rattle.af_party.specs.Parties.{PartyState}
 use Rattle.af_session.specs.Together.{SessionState}
-use Rattle.af_told_law.specs.Sizes.{AreSmall, IsMarkedRun, IsSmallRun, IsTrackMarked, IsTrackSmall}
+use Rattle.af_told_law.specs.Sizes.{AreSmall, IsSmallRun, IsTrackSmall}
+use Rattle.af_told_law.specs.Marked.{IsMarkedRun, IsTrackMarked}
 use Rattle.af_told_law.specs.Tells.{Tells}
 
 -- ## Lists without pokes

@@ -17,7 +17,7 @@ use Rattle.af_server.specs.Order.{ServerState}
 use Rattle.af_stateq.specs.Mutates.{at}
 use Rattle.af_session.specs.Together.{AreTogether, SessionState}
 use Rattle.af_told_law.specs.Comers.{ComersTell}
-use Rattle.af_told_law.specs.Sizes.{IsMarkedRun}
+use Rattle.af_told_law.specs.Marked.{IsMarkedRun}
 use Rattle.af_told_law.specs.Own.{SeesOwn}
 use Rattle.af_told_law.specs.Tells.{Tells, TellsServer}
 use Rattle.af_told_law.proofs.FoundLegal.{ended_legal}
