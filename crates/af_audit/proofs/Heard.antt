@@ -1,5 +1,7 @@
 -- What a turn hears of a track's server is no more than the server's list tells once the round's turns were made.
-use Rattle.std.proofs.Common.{◌≡◌, ℕ, ◌<◌, ◌≤◌, ◌==◌, if◌then◌else◌, Bool, true, false, List, [], length, Option, Some, refl, sym, ap, ◌∙◌, subst, eqb-true, arith}
+use Rattle.std.proofs.Common.{◌≡◌, ℕ, ◌<◌, ◌≤◌, ◌==◌, max, if◌then◌else◌, Bool, true, false, List, [], ◌∷◌, length, Option, Some, None, refl, sym, ap, ◌∙◌, subst, eqb-true, length-append, arith}
+use Rattle.std.specs.Prelude.{nat_le}
+use Rattle.std.proofs.lemmas.Bool.Decides.{nat_tests}
 use Rattle.af_base.specs.declared.report.SlotReport.{SlotReport}
 use Rattle.af_base.specs.declared.state.FastState.{FastState}
 use Rattle.af_base.specs.Turn.{Turn}
@@ -11,12 +13,13 @@ use Rattle.af_life.specs.Kept.{Setup, NormalKept, Learnt, track_at, is_home, slo
 use Rattle.af_life.specs.Sound.{IsSound}
 use Rattle.af_life.specs.TurnEvents.{tracks_at, stream_list}
 use Rattle.af_model.specs.JournalForm.{IsRound}
-use Rattle.af_model.specs.Journals.{RoundSeen}
+use Rattle.af_model.specs.Journals.{EntrySeen, RoundSeen}
 use Rattle.af_model.specs.StateQueue.{slot_of}
 use Rattle.af_runs.specs.Blocks.{Marks, listed}
+use Rattle.af_runs.specs.Clients.{ends}
 use Rattle.af_runs.specs.Found.{TurnFound, outside_of}
-use Rattle.af_runs.specs.Rounds.{LegalEntries, LegalRound, after_round, after_turn, all_played, before_turn, early_of, found_in, late_of, met_after, turned}
-use Rattle.af_runs.specs.Runs.{Run, load_of, fast_ended, new_run, told_at, with_calls, with_cycles, with_turn}
+use Rattle.af_runs.specs.Rounds.{LegalEntries, LegalRound, after_round, after_turn, all_played, before_turn, early_of, found_in, late_of, loaded, met_after, turned}
+use Rattle.af_runs.specs.Runs.{Run, load_of, each_track, fast_ended, met, new_run, pushed_by, told_at, with_calls, with_cycle, with_cycles, with_ends, with_load, with_mix, with_poll, with_turn}
 use Rattle.af_runs.specs.Sessions.{Session, setup_of, track_count}
 use Rattle.af_script.specs.Form.{IsScript}
 use Rattle.af_judge.proofs.EntriesFollow.{cycles_beside}

@@ -1,5 +1,5 @@
 -- An entry of the fast mixer is determined by what the stream blocks, the queue and the pipe tell.
-use Rattle.std.proofs.Common.{◌≡◌, ◌⊎◌, inl, inr, ℕ, zero, suc, ◌+◌, ◌<◌, ◌&&◌, Bool, true, false, true≢false, if◌then◌else◌, is_some, map, List, [], ◌∷◌, ◌++◌, replicate, take, drop, length, All, Option, Some, None, refl, sym, ap, ◌∙◌, subst, arith, length-append}
+use Rattle.std.proofs.Common.{◌≡◌, ◌⊎◌, inl, inr, ℕ, zero, suc, ◌+◌, ◌<◌, ◌&&◌, Bool, true, false, true≢false, if◌then◌else◌, is_some, unwrap_or, map, List, [], ◌∷◌, ◌++◌, replicate, take, drop, length, All, Option, Some, None, refl, sym, ap, ◌∙◌, subst, arith, length-append}
 use Rattle.std.specs.Prelude.{slice_index_or, MatchOption}
 use Rattle.std.proofs.lemmas.List.{ext_get_or, append_cancel_left, length-map, drop_at, drop-take}
 use Rattle.std.proofs.lemmas.Bool.{cases_eq}
@@ -28,7 +28,7 @@ use Rattle.af_runs.specs.Fronts.{front_of, is_shown, lawful_front}
 use Rattle.af_runs.specs.Rounds.{LegalEntry, found_for}
 use Rattle.af_runs.specs.Runs.{Run, TrackTold, told_at, no_track, frames_before, mixed_track, played, plays, slot_for, state_for, stream_of, with_mix}
 use Rattle.af_runs.specs.Sessions.{Session, cycle_frames, setup_of}
-use Rattle.af_runs.specs.Told.{PipeTold}
+use Rattle.af_runs.specs.Told.{PipeTold, state_at}
 use Rattle.af_runs.proofs.StatesFor.{state_known}
 use Rattle.af_judge.proofs.EachTrack.{each_at}
 use Rattle.af_judge.proofs.EntryLegal.{twos-more}

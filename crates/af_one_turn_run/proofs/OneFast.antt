@@ -1,5 +1,5 @@
 -- The entries of a fast turn are determined by what is told at its end.
-use Rattle.std.proofs.Common.{◌≡◌, ◌⊎◌, inl, inr, ℕ, ◌+◌, ◌<◌, ◌≤◌, ◌==◌, Bool, true, false, true≢false, if◌then◌else◌, fold, map, List, [], ◌∷◌, ◌++◌, take, length, All, Some, None, refl, sym, ap, ◌∙◌, subst, arith, length-append}
+use Rattle.std.proofs.Common.{◌≡◌, ◌⊎◌, inl, inr, ℕ, ◌+◌, ◌<◌, ◌≤◌, ◌==◌, Bool, true, false, true≢false, if◌then◌else◌, unwrap_or, fold, map, List, [], ◌∷◌, ◌++◌, take, length, All, Option, Some, None, refl, sym, ap, ◌∙◌, subst, arith, length-append}
 use Rattle.std.proofs.lemmas.List.{take_at, take-take}
 use Rattle.af_base.specs.declared.event.ClientEvent.{ClientEvent}
 use Rattle.af_base.specs.declared.event.ServerEvent.{ServerEvent}
@@ -8,7 +8,7 @@ use Rattle.af_base.specs.Log.{slots}
 use Rattle.af_base.specs.Sample.{IsFrame}
 use Rattle.af_life.specs.Kept.{pipe_size}
 use Rattle.af_model.specs.declared.states.ObserverEvent.TheVariants as observer
-use Rattle.af_model.specs.Cycles.{is_mixed, taken_before}
+use Rattle.af_model.specs.Cycles.{state_of, is_mixed, taken_before}
 use Rattle.af_model.specs.Draft.{initial}
 use Rattle.af_model.specs.Journals.{EntrySeen}
 use Rattle.af_model.specs.Order.{Event, two, Legal, after as after_both}

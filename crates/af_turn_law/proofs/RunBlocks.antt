@@ -1,11 +1,12 @@
 -- The command blocks of a turn run, and the stream blocks that are tame so far, are told in phases: what each step leaves of them.
-use Rattle.std.proofs.Common.{◌≡◌, ℕ, zero, suc, ◌+◌, ◌<◌, ◌==◌, ◌&&◌, ◌||◌, Bool, true, false, true≢false, if◌then◌else◌, is_some, map, length, drop, Option, Some, None, refl, sym, ap, ◌∙◌, subst, arith, ◌≤◌}
+use Rattle.std.proofs.Common.{◌≡◌, inl, inr, ℕ, zero, suc, ◌+◌, ◌<◌, ◌==◌, ◌&&◌, ◌||◌, nat_le, Bool, true, false, true≢false, if◌then◌else◌, unwrap_or, is_some, map, length, drop, Option, Some, None, refl, sym, ap, ◌∙◌, subst, arith, ◌≤◌}
 use Rattle.std.specs.List.{find, list_any, range_with_len}
+use Rattle.std.proofs.lemmas.Bool.{cases_lt}
 use Rattle.af_base.specs.declared.state.FastState.{FastState}
 use Rattle.af_base.specs.Log.{slots, entry_slot}
 use Rattle.af_life.specs.Kept.{is_home, track_at}
 use Rattle.af_model.proofs.Logic.{is_le}
-use Rattle.af_model.specs.Cycles.{cycle_events}
+use Rattle.af_model.specs.Cycles.{cycle_events, state_of}
 use Rattle.af_model.specs.History.{by_client, by_server}
 use Rattle.af_model.specs.Journals.{EntrySeen, RoundSeen}
 use Rattle.af_model.specs.StateQueue.{slot_of, carries}
