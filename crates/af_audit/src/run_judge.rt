@@ -364,7 +364,8 @@ impl RunJudge {
         ensures same { self.new.normal ≡ self.old.normal }
         ensures noted { OnOk result (let e = turn_of turn.now in self.new ≡ record self.old { fast = record self.old.fast { told = record self.old.fast.told { draft = self.old.normal.plain.kept.draft }; queue = with_steps (turn_steps pushed e.ended e.ack e.push) self.old.fast.queue; pipe = pipe_turned self.old.normal.setup e self.old.fast.pipe }; report = report_turned e self.old.report }) }
     {
-        self.fast.drafted(self.normal.draft());
+        let draft = *self.normal.draft();
+        self.fast.drafted(&draft);
         self.fast.queue.turned(pushed, turn)?;
         if turn.ended {
             return Ok(());

@@ -118,7 +118,7 @@ pub record LeftStep (s : Session) (track slot : ℕ) (item : FastTrack) (x d : F
   pub last : state_of told.states n ≡ Some x
   pub draft : told.normal.draft ≡ d
   pub there : track < length told.tracks
-  pub told : IsTold told track slot item
+  pub reported : IsTold told track slot item
   pub same : listed (told_at told track).stream ≡ listed (told_at run track).stream
   pub unshut : (slot_told run slot).shut ≡ false
   pub generation : (slot_told run slot).generation ≡ item.generation
@@ -169,7 +169,7 @@ module _ (s : Session) (marks : Marks) (track slot : ℕ) (item : FastTrack) (so
         last = ap (λ l. state_of l n) states ∙ step.last;
         draft = cycle_draft s told e ∙ step.draft;
         there = (let a = cycle_length s told e in let b = step.there in omega (arith, a, b));
-        told = found.told;
+        reported = found.told;
         same = ap listed stream ∙ listed_played (cycle_frames s) e slot (told_at told track).stream (told_at run track).stream step.same ∙ ap listed (sym plays.stream);
         unshut = reported.told.shut ∙ open_known next lies.shape quiet;
         generation = reported.told.generation;
@@ -209,10 +209,10 @@ module _ (s : Session) (marks : Marks) (track slot : ℕ) (item : FastTrack) (so
         last = ap (λ l. state_of l n) states ∙ step.last;
         draft = cycle_draft s told e ∙ step.draft;
         there = (let a = cycle_length s told e in let b = step.there in omega (arith, a, b));
-        told = record {
-          generation = ap (λ (r : SlotReport). r.generation) told_slot ∙ step.told.generation;
-          consumed = ap (λ (r : SlotReport). r.consumed) told_slot ∙ step.told.consumed ∙ ap (λ (b : BlockTold). (known_of (listed b)).consumed) (sym stream);
-          shut = ap (λ (r : SlotReport). r.shut) told_slot ∙ step.told.shut ∙ ap (λ (b : BlockTold). (known_of (listed b)).shut) (sym stream);
+        reported = record {
+          generation = ap (λ (r : SlotReport). r.generation) told_slot ∙ step.reported.generation;
+          consumed = ap (λ (r : SlotReport). r.consumed) told_slot ∙ step.reported.consumed ∙ ap (λ (b : BlockTold). (known_of (listed b)).consumed) (sym stream);
+          shut = ap (λ (r : SlotReport). r.shut) told_slot ∙ step.reported.shut ∙ ap (λ (b : BlockTold). (known_of (listed b)).shut) (sym stream);
         };
         same = ap listed stream ∙ step.same ∙ ap (λ (t : TrackTold). listed t.stream) (sym run_still);
         unshut = ap (λ (r : SlotReport). r.shut) run_slot ∙ step.unshut;
@@ -227,7 +227,7 @@ module _ (s : Session) (marks : Marks) (track slot : ℕ) (item : FastTrack) (so
     pub adds : Adds told (with_cycles s es told) (λ r. SaysOpen (report_at r.slots slot) item)
 
   told_unshut : (run told : Run) → (told_at run track).stream.shape ≡ k → LeftStep s track slot item x d n k run told → (slot_told told slot).shut ≡ false
-  told_unshut run told shape step = step.told.shut ∙ ap (λ (l : Listed). (known_of l).shut) step.same ∙ open_known (told_at run track).stream shape step.quiet
+  told_unshut run told shape step = step.reported.shut ∙ ap (λ (l : Listed). (known_of l).shut) step.same ∙ open_known (told_at run track).stream shape step.quiet
 
   pub left_entries : (high : ℕ) (es : List EntrySeen) (run told : Run) → KnowsLeft run → track < length run.tracks → AllUse n high es → high ≤ length run.states → LegalEntries s marks run es → LiesIn k cs all h (told_at (with_cycles s es run) track).stream
       → LeftStep s track slot item x d n k run told → LeftEnd run told es
@@ -249,7 +249,7 @@ module _ (s : Session) (marks : Marks) (track slot : ℕ) (item : FastTrack) (so
         adds = record {
           news = added.report ∷ rest.adds.news;
           whole = rest.adds.whole ∙ ap (λ l. l ++ rest.adds.news) added.whole ∙ append_assoc told.reports (added.report ∷ []) rest.adds.news;
-          each = (subst (λ (r : SlotReport). SaysOpen r item) at (record { unshut = told_unshut next later lies'.shape now; generation = now.told.generation }), rest.adds.each);
+          each = (subst (λ (r : SlotReport). SaysOpen r item) at (record { unshut = told_unshut next later lies'.shape now; generation = now.reported.generation }), rest.adds.each);
         };
       }
     where

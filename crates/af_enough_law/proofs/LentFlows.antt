@@ -129,6 +129,10 @@ module _ (s : Session) (marks : Marks) (scales : All (λ (x : Setting). x.scale 
         lent = turn_leaves s marks run round t i low kept goes away slotted;
       }
 
+  -- the draft has it in its slot
+  draft_now : HasItem slot item run.normal.draft
+  draft_now = draft_item s run i slot item c.stands.order c.stands.items l.lent l.slot_is l.item_is
+
   -- the report that the turn finds goes on, and says that its server is open
   pub found : FoundFor (slot_told run slot) (slot_reported (learnt t.by.outside) g) item
   found =

@@ -1,17 +1,19 @@
-//! A client alone, against servers of its two blocks that the test moves.
+//! A client alone, by its turns, against servers of its two blocks that the test moves.
 ghost use Rattle.std.specs.Prelude.{◌≡◌, ℕ, ◌<◌, ◌≤◌, All, length};
 ghost use Rattle.af_server.specs.Order.{IsServerOf};
-ghost use Rattle.af_party.specs.Asking.{HasBlocks};
+ghost use Rattle.af_normal.specs.Meeting.{AreClientsOf};
 ghost use Rattle.af_party.specs.Works.{CanWork, IsFittingOp, flushes_to_come, frames_to_come};
 
 use af_base::{ClientCall, DISABLED, Frame, INVALID, Items, Memory, Seen, Steps};
 use af_cblk::Block;
 use af_client::Client as Proxy;
 use af_life::{OPEN, REMOVE, START, STOP};
+use af_link::{Links, ReportCell, StreamNames, pipe, report, stream_names};
 use af_party::Party;
 use af_runs::Client;
 use af_script::Op;
 use af_server::Server;
+use af_stateq::{Queue, queue};
 use std::alloc::Global;
 use std::marker::Brand;
 use std::sync::ledger::{Blank, Ledger};
@@ -54,22 +56,20 @@ fn takes<L: Ledger>(block: &Block, server: &mut Server, ask: u32, steps: &mut St
 // A turn; false where too much was sent before it.
 fn turns<L: Ledger>(
     party: &mut Party,
-    stream: &Block,
-    command: &Block,
+    links: &Links<'_>,
     ops: &[Op],
     file: &[Frame],
     steps: &mut Steps<L>,
 ) -> bool
-    requires blocks { HasBlocks stream.now command.now party.old }
+    requires clients { AreClientsOf links.now party.old.track party.old.stream party.old.command }
     requires work { CanWork ops.now (length file.now) party.old }
-    ensures blocks { HasBlocks stream.now command.now party.new }
+    ensures clients { AreClientsOf links.now party.new.track party.new.stream party.new.command }
     ensures work { CanWork ops.now (length file.now) party.new }
 {
     if party.command.released() > 10_000 {
         return false;
     }
-    party.calls.clear();
-    party.call_on(stream, command, ops, file, steps);
+    party.turn(links, ops, file, steps);
     true
 }
 
@@ -77,6 +77,7 @@ fn turns<L: Ledger>(
 fn does<L: Ledger>(
     party: &mut Party,
     servers: &mut (Server, Server),
+    links: &Links<'_>,
     stream: &Block,
     command: &Block,
     ops: &[Op],
@@ -84,19 +85,19 @@ fn does<L: Ledger>(
     step: &Step,
     steps: &mut Steps<L>,
 ) -> bool
-    requires blocks { HasBlocks stream.now command.now party.old }
+    requires clients { AreClientsOf links.now party.old.track party.old.stream party.old.command }
     requires work { CanWork ops.now (length file.now) party.old }
     requires servers { IsServerOf stream.now servers.old.0 × IsServerOf command.now servers.old.1 }
-    ensures blocks { HasBlocks stream.now command.now party.new }
+    ensures clients { AreClientsOf links.now party.new.track party.new.stream party.new.command }
     ensures work { CanWork ops.now (length file.now) party.new }
     ensures servers { IsServerOf stream.now servers.new.0 × IsServerOf command.now servers.new.1 }
 {
     match *step {
         Step::Turn(calls) => {
-            turns(party, stream, command, ops, file, steps) && party.calls.as_slice() == calls
+            turns(party, links, ops, file, steps) && party.calls.as_slice() == calls
         }
         Step::Makes(count) => {
-            turns(party, stream, command, ops, file, steps) && party.calls.as_slice().len() == count
+            turns(party, links, ops, file, steps) && party.calls.as_slice().len() == count
         }
         Step::Flags(bits) => {
             servers.0.set_flags(stream, bits, steps);
@@ -123,6 +124,7 @@ fn does<L: Ledger>(
 fn all_do<L: Ledger>(
     mut party: Party,
     mut servers: (Server, Server),
+    links: &Links<'_>,
     stream: &Block,
     command: &Block,
     ops: &[Op],
@@ -130,7 +132,7 @@ fn all_do<L: Ledger>(
     table: &[Step],
     steps: &mut Steps<L>,
 ) -> bool
-    requires blocks { HasBlocks stream.now command.now party }
+    requires clients { AreClientsOf links.now party.track party.stream party.command }
     requires work { CanWork ops.now (length file.now) party }
     requires servers { IsServerOf stream.now servers.0 × IsServerOf command.now servers.1 }
 {
@@ -138,6 +140,7 @@ fn all_do<L: Ledger>(
         if !does(
             &mut party,
             &mut servers,
+            links,
             stream,
             command,
             ops,
@@ -149,6 +152,26 @@ fn all_do<L: Ledger>(
         }
     }
     true
+}
+
+// What a client's links have besides its blocks.
+#[derive(Drop)]
+struct Joints {
+    queue: Queue<Server, StreamNames>,
+    pipe: Block,
+    report: ReportCell,
+}
+
+// They are there for the mixers, which are none here.
+fn make_joints(alloc: Global, streams: &[Block]) -> Result<Joints, Memory> {
+    let report = report(alloc)?;
+    let pipe = pipe(alloc, 8)?;
+    let queue = queue::<Server, StreamNames>(alloc, 2, stream_names(streams))?;
+    Ok(Joints {
+        queue: queue.0,
+        pipe: pipe.0,
+        report: report.0,
+    })
 }
 
 // The same of a new client on new blocks, with so many frames in the stream's.
@@ -179,8 +202,25 @@ fn plays_in<L: Ledger>(
         Server::with(server, &stream),
         Server::with(obeyer, &command),
     );
+    let (streams, commands) = ([stream], [command]);
+    let joints = make_joints(alloc, &streams)?;
+    let links = Links {
+        queue: &joints.queue,
+        streams: &streams,
+        commands: &commands,
+        pipe: &joints.pipe,
+        report: &joints.report,
+    };
     Ok(all_do(
-        party, servers, &stream, &command, ops, file, table, &mut steps,
+        party,
+        servers,
+        &links,
+        &streams[0],
+        &commands[0],
+        ops,
+        file,
+        table,
+        &mut steps,
     ))
 }
 

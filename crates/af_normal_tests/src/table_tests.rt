@@ -1,5 +1,5 @@
 //! One driver for the tests by calls: a table of steps over new blocks, with what each of them tells.
-ghost use Rattle.std.specs.Prelude.{◌≡◌, ◌+◌, ◌*◌, ◌<◌, ◌≤◌, length, All, IfOk};
+ghost use Rattle.std.specs.Prelude.{◌≡◌, ℕ, ◌+◌, ◌*◌, ◌<◌, ◌≤◌, ◌++◌, ◌∷◌, [], length, All, IfOk};
 ghost use Rattle.af_link.specs.declared.links.Links.{Links as Linked};
 ghost use Rattle.af_normal.specs.Making.{AreNew};
 ghost use Rattle.af_normal_tests.specs.Testing.{AreLines, AreOthers, IsLine, IsWorld};
@@ -99,36 +99,56 @@ struct Lines {
     tracks: Tracks,
 }
 
-fn make_lines(alloc: Global, kinds: &[Kind]) -> Result<Lines, Memory>
-    ensures { IfOk result (λ l. AreLines (length kinds.now) l.streams.items l.commands.items l.clients.items l.senders.items l.tracks) }
+// A block and its client are added behind others; its server is handed on.
+fn put_line(
+    blocks: &mut Vec<Block>,
+    clients: &mut Vec<Client>,
+    line: (Block, Client, Server),
+) -> Result<Server, Memory>
+    ensures block { IfOk result (λ _. blocks.new.items ≡ blocks.old.items ++ line.0 ∷ []) }
+    ensures client { IfOk result (λ _. clients.new.items ≡ clients.old.items ++ line.1 ∷ []) }
+    ensures server { IfOk result (λ server. server ≡ line.2) }
 {
-    let mut streams = Vec::new(alloc);
-    let mut commands = Vec::new(alloc);
-    let mut clients = Vec::new(alloc);
-    let mut senders = Vec::new(alloc);
-    let mut tracks = Tracks::empty(alloc);
-    for kind in kinds {
-        let (block, client, stream) = line(alloc, kind.frames, kind.positional)?;
-        let (control, sender, command) = line(alloc, 128, false)?;
-        streams.push(block)?;
-        commands.push(control)?;
-        clients.push(client)?;
-        senders.push(sender)?;
-        tracks.push(TrackSetup {
+    let (block, client, server) = line;
+    blocks.push(block)?;
+    clients.push(client)?;
+    Ok(server)
+}
+
+impl Lines {
+    // Adds the blocks of a track, with its clients and its servers.
+    fn add(&mut self, alloc: Global, kind: Kind) -> Result<(), Memory>
+        ensures { (count : ℕ) → AreLines count self.old.streams.items self.old.commands.items self.old.clients.items self.old.senders.items self.old.tracks → IfOk result (λ _. AreLines (count + 1) self.new.streams.items self.new.commands.items self.new.clients.items self.new.senders.items self.new.tracks) }
+    {
+        let frames = line(alloc, kind.frames, kind.positional)?;
+        let stream = put_line(&mut self.streams, &mut self.clients, frames)?;
+        let commands = line(alloc, 128, false)?;
+        let command = put_line(&mut self.commands, &mut self.senders, commands)?;
+        self.tracks.push(TrackSetup {
             fast: kind.fast,
             mono: kind.mono,
             scale: 0x1000,
             stream,
             command,
         })?;
+        Ok(())
     }
-    Ok(Lines {
-        streams,
-        commands,
-        clients,
-        senders,
-        tracks,
-    })
+}
+
+fn make_lines(alloc: Global, kinds: &[Kind]) -> Result<Lines, Memory>
+    ensures { IfOk result (λ l. AreLines (length kinds.now) l.streams.items l.commands.items l.clients.items l.senders.items l.tracks) }
+{
+    let mut lines = Lines {
+        streams: Vec::new(alloc),
+        commands: Vec::new(alloc),
+        clients: Vec::new(alloc),
+        senders: Vec::new(alloc),
+        tracks: Tracks::empty(alloc),
+    };
+    for kind in kinds {
+        lines.add(alloc, *kind)?;
+    }
+    Ok(lines)
 }
 
 /// The parts of a mixer of one to 32 tracks, on `frames` frames a fast cycle and `normal` cycles a buffer, with all that it works on.

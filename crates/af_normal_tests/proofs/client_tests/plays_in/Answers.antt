@@ -1,4 +1,4 @@
-use Rattle.std.proofs.Common.{◌≡◌, ◌≤◌, ℕ, length, ap, sym, ◌∙◌, subst}
+use Rattle.std.proofs.Common.{◌≡◌, ◌≤◌, ℕ, length, Some, ap, sym, ◌∙◌, subst}
 use Rattle.af_base.specs.declared.event.ClientCall.{ClientCall}
 use Rattle.af_base.specs.Roomy.{Roomy}
 use Rattle.af_cblk.specs.Shape.{most_flushes}
@@ -6,6 +6,13 @@ use Rattle.af_cblk.specs.Sides.{Made}
 use Rattle.af_party.specs.Works.{flushes_to_come}
 use Rattle.af_party.proofs.CanWorkOn.{work_new}
 use Rattle.af_normal_tests.proofs.client_tests.plays_in.Goals as goal
+
+pub all_do-requires-clause-clients : goal.all_do-requires-clause-clients
+all_do-requires-clause-clients g c = record {
+  stream_is = ap (λ (m : Made). Some m) (sym c.with.ensures.ready.0);
+  command_is = ap (λ (m : Made). Some m) (sym c.with-2.ensures.ready.0);
+  in_order = (c.with.ensures.ready.1, c.with-2.ensures.ready.1);
+}
 
 pub all_do-requires-clause-work : goal.all_do-requires-clause-work
 all_do-requires-clause-work g c =
