@@ -17,7 +17,7 @@ use Rattle.af_session.specs.Met.{Met}
 use Rattle.af_session.specs.Together.{AreTogether, SessionState}
 use Rattle.af_told_law.specs.Sizes.{AreSmall}
 use Rattle.af_told_law.specs.Marked.{IsMarkedRun}
-use Rattle.af_told_law.specs.MixLaws.{entry_told}
+use Rattle.af_told_law.specs.MixLaws.{MixesAreTold, entry_told}
 use Rattle.af_render_law.specs.Laws.{IsBetween, ToldBy}
 use Rattle.af_told_law.specs.Own.{SeesOwn}
 use Rattle.af_render_law.proofs.FastCycle.{cycle_legal, cycle_tame, cycle_told, next_between, next_caught, next_small}

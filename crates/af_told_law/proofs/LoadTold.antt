@@ -49,43 +49,44 @@ track_apart s m r f d i t p h = record { client = h.client; stream = stream_apar
 -- ## The load
 
 -- the reader had this before the load
-module _ (s : Session) (run : Run) {d : Deeds} (y : SessionState) (before : ReaderSide) (e : Turn) where
+module _ (s : Session) (run : Run) (y : SessionState) (before : ReaderSide) (e : Turn) where
   abbrev loads : List (ReaderEvent Report)
   loads = going e (Load e.cycle (report_of run.reports e.cycle) ∷ [])
 
   abbrev unread : NormalState
   unread = record y.normal { reader = before }
 
-  -- the run with the load tells the session with it
-  pub load_told : Tells s run d (record y { normal = unread }) → y.normal.reader.events ≡ before.events ++ loads → Tells s (with_load e run) d y
-  unfolding with_load
-  load_told told grows = record {
-    count = told.count;
-    tracks = (λ i p is. track_apart s unread y.normal.reader y.fast d i (told_at run i) p (told.tracks i p is));
-    shared = record {
-      first = told.shared.first;
-      mutator = told.shared.mutator;
-      observer = told.shared.observer;
-      reader = grows ∙ ap (λ (l : List (ReaderEvent Report)). l ++ loads) told.shared.reader ∙ sym (twos_more run.report loads);
-      writer = told.shared.writer ∙ sym (ones_same run.report loads);
-      puts = record { told = told.shared.puts.told; words = told.shared.puts.words };
-      takes = told.shared.takes;
-      taken = told.shared.taken;
-      size = told.shared.size;
-    };
-    normal = record { setup = told.normal.setup; kept = told.normal.kept; hands = told.normal.hands; states = told.normal.states; number = told.normal.number; last = told.normal.last };
-    fast = record {
-      frames = told.fast.frames;
-      cycles = told.fast.cycles;
-      current = told.fast.current;
-      state = told.fast.state;
-      entries = told.fast.entries;
-      logged = told.fast.logged;
-      exited = told.fast.exited;
-      reports = told.fast.reports;
-      fresh = told.fast.fresh;
-    };
-  }
+  module _ {d : Deeds} where
+    -- the run with the load tells the session with it
+    pub load_told : Tells s run d (record y { normal = unread }) → y.normal.reader.events ≡ before.events ++ loads → Tells s (with_load e run) d y
+    unfolding with_load
+    load_told told grows = record {
+      count = told.count;
+      tracks = (λ i p is. track_apart s unread y.normal.reader y.fast d i (told_at run i) p (told.tracks i p is));
+      shared = record {
+        first = told.shared.first;
+        mutator = told.shared.mutator;
+        observer = told.shared.observer;
+        reader = grows ∙ ap (λ (l : List (ReaderEvent Report)). l ++ loads) told.shared.reader ∙ sym (twos_more run.report loads);
+        writer = told.shared.writer ∙ sym (ones_same run.report loads);
+        puts = record { told = told.shared.puts.told; words = told.shared.puts.words };
+        takes = told.shared.takes;
+        taken = told.shared.taken;
+        size = told.shared.size;
+      };
+      normal = record { setup = told.normal.setup; kept = told.normal.kept; hands = told.normal.hands; states = told.normal.states; number = told.normal.number; last = told.normal.last };
+      fast = record {
+        frames = told.fast.frames;
+        cycles = told.fast.cycles;
+        current = told.fast.current;
+        state = told.fast.state;
+        entries = told.fast.entries;
+        logged = told.fast.logged;
+        exited = told.fast.exited;
+        reports = told.fast.reports;
+        fresh = told.fast.fresh;
+      };
+    }
 
 -- the queue is known as before
 pub known_loaded : (frames : ℕ) (run : Run) (e : Turn) (m : NormalState) → QueueKnown frames run m → QueueKnown frames (with_load e run) m

@@ -32,7 +32,7 @@ use Rattle.af_stateq.specs.Mutates.{at}
 use Rattle.af_rendering.specs.Leads.{LeadAway}
 use Rattle.af_session.specs.Met.{item_at, slot_for}
 use Rattle.af_session.specs.Together.{AreTogether, SessionState}
-use Rattle.af_told_law.specs.MixLaws.{MixIsTold, TookCounted, entry_added}
+use Rattle.af_told_law.specs.MixLaws.{PipeTells, MixIsTold, TookCounted, entry_added}
 use Rattle.af_told_law.specs.Tells.{IsFresh, SawTold, Tells, TellsCommands, TellsServer, TellsTrack}
 use Rattle.af_told_law.proofs.AllMeet.{some_at}
 use Rattle.af_told_law.proofs.MixCounted as counted

@@ -27,6 +27,7 @@ use Rattle.af_runs.specs.Told.{Item, QueueTold, brought_by, is_pushed, items_of,
 use Rattle.af_server.specs.Order.{ServerState}
 use Rattle.af_stateq.specs.Laws.{pushed_states}
 use Rattle.af_session.specs.Together.{SessionState}
+use Rattle.af_told_law.specs.NormalLaws.{ShowsFront}
 use Rattle.af_told_law.specs.QueueTurned.{MutatorGoes, QueueKnown}
 use Rattle.af_told_law.specs.Tells.{Tells, TellsFast, TellsNormal, TellsShared}
 use Rattle.af_told_law.proofs.EditsPush.{all_push}

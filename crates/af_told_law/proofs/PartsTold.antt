@@ -1,5 +1,5 @@
 -- After each turn of the normal mixer, with the meetings behind it known, what a step of the run needs of each track is told: the proxies that came home, the streams and the command proxies.
-use Rattle.std.proofs.Common.{Bool, Some, arith, false, refl, slice_get, true, ℕ, ◌<◌, ◌≡◌}
+use Rattle.std.proofs.Common.{length, Bool, Some, arith, false, refl, slice_get, true, ℕ, ◌<◌, ◌≡◌}
 use Rattle.af_base.specs.Turn.{Turn, turn_of}
 use Rattle.af_life.specs.Kept.{Outside}
 use Rattle.af_link.specs.declared.links.Links.{Links}

@@ -18,15 +18,15 @@ use Rattle.af_told_law.specs.MixLaws.{TookCounted}
 seen_after : (taken : ℕ) (es more : List ServerEvent) → SeesTaken taken (es ++ more) → SeesTaken (taken + frames_taken es) more
 seen_after taken [] more s = subst (λ (n : ℕ). SeesTaken n more) (let z : taken ≡ taken + 0 = omega arith in z) s
 seen_after taken (server.Take count ∷ es) more s = subst (λ (n : ℕ). SeesTaken n more) (let z : (taken + count) + frames_taken es ≡ taken + (count + frames_taken es) = omega arith in z) (seen_after (taken + count) es more s)
-seen_after taken (server.SawFront front ∷ es) more s = seen_after taken es more s.1
-seen_after taken (server.SawRear rear ∷ es) more s = seen_after taken es more s
-seen_after taken (server.SawGain word ∷ es) more s = seen_after taken es more s
-seen_after taken (server.SawFlush flush ∷ es) more s = seen_after taken es more s
-seen_after taken (server.Drop to ∷ es) more s = seen_after taken es more s
-seen_after taken (server.Tally missing ∷ es) more s = seen_after taken es more s
-seen_after taken (server.SetFlags bits ∷ es) more s = seen_after taken es more s
-seen_after taken (server.SetStatus word ∷ es) more s = seen_after taken es more s
-seen_after taken (server.Learn count ∷ es) more s = seen_after taken es more s
+seen_after taken (server.SawFront front ∷ es) more s = subst (λ (n : ℕ). SeesTaken n more) (let z : taken + frames_taken es ≡ taken + (0 + frames_taken es) = omega arith in z) (seen_after taken es more s.1)
+seen_after taken (server.SawRear rear ∷ es) more s = subst (λ (n : ℕ). SeesTaken n more) (let z : taken + frames_taken es ≡ taken + (0 + frames_taken es) = omega arith in z) (seen_after taken es more s)
+seen_after taken (server.SawGain word ∷ es) more s = subst (λ (n : ℕ). SeesTaken n more) (let z : taken + frames_taken es ≡ taken + (0 + frames_taken es) = omega arith in z) (seen_after taken es more s)
+seen_after taken (server.SawFlush flush ∷ es) more s = subst (λ (n : ℕ). SeesTaken n more) (let z : taken + frames_taken es ≡ taken + (0 + frames_taken es) = omega arith in z) (seen_after taken es more s)
+seen_after taken (server.Drop to ∷ es) more s = subst (λ (n : ℕ). SeesTaken n more) (let z : taken + frames_taken es ≡ taken + (0 + frames_taken es) = omega arith in z) (seen_after taken es more s)
+seen_after taken (server.Tally missing ∷ es) more s = subst (λ (n : ℕ). SeesTaken n more) (let z : taken + frames_taken es ≡ taken + (0 + frames_taken es) = omega arith in z) (seen_after taken es more s)
+seen_after taken (server.SetFlags bits ∷ es) more s = subst (λ (n : ℕ). SeesTaken n more) (let z : taken + frames_taken es ≡ taken + (0 + frames_taken es) = omega arith in z) (seen_after taken es more s)
+seen_after taken (server.SetStatus word ∷ es) more s = subst (λ (n : ℕ). SeesTaken n more) (let z : taken + frames_taken es ≡ taken + (0 + frames_taken es) = omega arith in z) (seen_after taken es more s)
+seen_after taken (server.Learn count ∷ es) more s = subst (λ (n : ℕ). SeesTaken n more) (let z : taken + frames_taken es ≡ taken + (0 + frames_taken es) = omega arith in z) (seen_after taken es more s)
 
 -- the look of a mix at the pipe
 pub front_taken : (f g : MixerState) (slot : SlotEntry) → TookCounted f → SeesTaken 0 g.pipe.pass.part.events → (submix : SubmixSlot f.frames f.pipe.pass.part.events g.pipe.pass.part.events slot) → submix.front ≡ wrapped (length f.pipe.pass.part.frames)
@@ -57,4 +57,4 @@ module _ (size : ℕ) where
 
 -- an end whose pipe has a history has as many frames as it took
 pub took_counted : (f : MixerState) (puts : List ClientEvent) (put : List ℕ) → HasPipeHistory f.pipe.pass.part.shape.frames puts put f.pipe.pass.part.events f.pipe.pass.part.frames → TookCounted f
-took_counted f puts put h = let size : ℕ = f.pipe.pass.part.shape.frames in sym h.taken_is ∙ took_after size start h.history.order ∙ ap frames_taken h.history.of_two
+took_counted f puts put h = let size : ℕ = f.pipe.pass.part.shape.frames in sym h.taken_is ∙ took_after size start h.history.order ∙ (let z : start.taken + frames_taken (twos h.history.order) ≡ frames_taken (twos h.history.order) = omega arith in z) ∙ ap frames_taken h.history.of_two
