@@ -37,16 +37,16 @@ promises l p keeps = record { legal = keeps.legal; fates = keeps.fates; unshut =
 pub cut_short : (l : Loaded) (journal : JournalData) (ends : EndsState) → KeepsPlay l.script l.files (Err (fault.CycleLimit journal ends)) → IsLegalJournal false l.script l.files journal
 cut_short l journal ends keeps = (keeps.cut_run, keeps.enough)
 
+-- the text of a run's journal is read as this journal alone
+pub read_alone : (ended : Bool) (l : Loaded) (journal : JournalData) (ends : EndsState) → HandsBackRun ended l.script l.files journal ends → IsTextFor l.script (text_of journal) journal
+read_alone ended l journal ends back = subst (λ (tracks : ℕ). IsOneReading tracks (text_of journal) journal) (ap (λ (j : JournalData). j.tracks) back.journal_is) (read-back journal back.form)
+
 module _ (ended : Bool) (l : Loaded) (journal : JournalData) (ends : EndsState) (back : HandsBackRun ended l.script l.files journal ends) (legal : IsLegalJournal ended l.script l.files journal) where
   abbrev bytes : List ℕ
   bytes = journal_pcm l.script.frames journal
 
-  -- the text of the journal is read as this journal alone
-  read : IsTextFor l.script (text_of journal) journal
-  read = subst (λ (tracks : ℕ). IsOneReading tracks (text_of journal) journal) (ap (λ (j : JournalData). j.tracks) back.journal_is) (read-back journal back.form)
-
-  pub is_play : (line : List ℕ) → line ≡ run_line ended l.script journal ends → IsPlay ended l.script l.files bytes (text_of journal) line
-  is_play line is = record { journal = journal; ends = ends; run = back; legal = legal; bytes_are = refl; text_is = refl; read = read; line_is = is }
+  is_play : (line : List ℕ) → line ≡ run_line ended l.script journal ends → IsPlay ended l.script l.files bytes (text_of journal) line
+  is_play line is = record { journal = journal; ends = ends; run = back; legal = legal; bytes_are = refl; text_is = refl; read = read_alone ended l journal ends back; line_is = is }
 
   module _ (target name : List ℕ) (old mid : Files) (set : SetsFile old target (Some bytes) mid) where
     made : with_file old (record { name = target; bytes = bytes }) ≡ mid

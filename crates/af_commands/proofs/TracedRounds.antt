@@ -29,7 +29,7 @@ use Rattle.af_commands.specs.Sessions.{summary_line}
 use Rattle.af_commands.specs.Told.{Tells, TellsTexts}
 use Rattle.af_commands.specs.Traces.{IsTrace, IsTraced, LeavesLog, LeavesTrace}
 use Rattle.af_commands.proofs.Made.{files_are}
-use Rattle.af_commands.proofs.PlayedRounds.{LeavesRun-stays, cut_short, is_play, line_told, played, promises, text_left}
+use Rattle.af_commands.proofs.PlayedRounds.{LeavesRun-stays, cut_short, line_told, played, promises, read_alone, text_left}
 
 -- what a list that was empty holds behind what was appended
 appended : (held new empty more : List ℕ) → held ≡ new → new ≡ empty ++ more → empty ≡ [] → held ≡ more
@@ -43,7 +43,7 @@ module _ (l : Loaded) (room : ℕ) (journal : JournalData) (ends : EndsState) (b
   told = log_text notes refused
 
   is_trace : (line : List ℕ) → line ≡ run_line true l.script journal ends → IsTrace l.script l.files room bytes (text_of journal) told line
-  is_trace line is = record { play = is_play true l journal ends back legal line is; notes = notes; refused = refused; log_of = log_of; log_is = refl; all_kept = kept }
+  is_trace line is = record { play = record { journal = journal; ends = ends; run = back; legal = legal; bytes_are = refl; text_is = refl; read = read_alone true l journal ends back; line_is = is }; notes = notes; refused = refused; log_of = log_of; log_is = refl; all_kept = kept }
 
   module _ (target name log : List ℕ) (old mid next : Files) (set : SetsFile old target (Some bytes) mid) (text : SetsFile mid name (Some (text_of journal)) next) where
     both : with_files old (record { name = target; bytes = bytes } ∷ record { name = name; bytes = text_of journal } ∷ []) ≡ next
