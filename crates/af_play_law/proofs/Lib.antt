@@ -1,0 +1,12 @@
+pub mod PushesRise
+pub mod PollsAt
+pub mod QueueGoesOn
+pub mod CutBehind
+pub mod RoundQueue
+pub mod RoundPolls
+pub mod TurnGrows
+pub mod RoundTurned
+pub mod RoundPipe
+pub mod RoundLoads
+pub mod ReportsCount
+pub mod CyclesGrow

@@ -1,0 +1,136 @@
+-- A poll of the fast mixer finds the last state that the normal mixer has pushed, where its number is that one's, and leaves a history.
+use Rattle.std.proofs.Common.{◌≡◌, ℕ, ◌+◌, ◌<◌, false, true, List, [], ◌∷◌, ◌++◌, append_assoc, Option, Some, None, refl, sym, ap, subst, ◌∙◌, arith}
+use Rattle.std.proofs.lemmas.Bool.{false_from_ne_true}
+use Rattle.af_base.specs.declared.state.FastState.{FastState}
+use Rattle.af_fast.specs.Mixer.{MixerState, is_over}
+use Rattle.af_fast.specs.Mixing.{Adopts}
+use Rattle.af_link.specs.declared.names.StreamNames.{StreamNames}
+use Rattle.af_model.specs.declared.plain_calls.Poll.{Poll}
+use Rattle.af_model.specs.declared.plain_calls.Poll.TheVariants.{New, Nothing, Same}
+use Rattle.af_model.specs.declared.states.ObserverEvent.TheVariants as observer
+use Rattle.af_model.specs.StateQueue.{HasHistory, mutated, observed}
+use Rattle.af_normal.specs.State.{NormalState}
+use Rattle.af_server.specs.Order.{ServerState}
+use Rattle.af_stateq.specs.Answers.{TakesIt, WasPolled, sees_same}
+use Rattle.af_stateq.specs.Ends.{Polls, Pushes, acknowledged, took}
+use Rattle.af_stateq.specs.Observes.{Observes}
+use Rattle.af_rendering.specs.Leads.{Tells}
+use Rattle.af_told_law.specs.Tells.{FindsLast, items_sent, mutated_by}
+use Rattle.af_told_law.proofs.QueueLooks.{IsSane, history_sane, point_of}
+use Rattle.af_play_law.specs.Polls.{FindsLastOf, Items, Polled, Pushed}
+use Rattle.af_play_law.proofs.QueueGoesOn.{AllOf, all_go_on}
+use Rattle.af_play_law.proofs.RoundQueue.{finds_last_of}
+
+abbrev Watching : Type 0
+Watching = Observes ServerState StreamNames
+
+abbrev Watched : Type 0
+Watched = Polls ServerState StreamNames
+
+-- ## What a poll adds to the observer's list
+
+-- a look at the state of the number that it has then, and perhaps its acknowledgement
+pub record PollAdds (o o' : Watched) : Type 0 where
+  pub state : Option FastState
+  pub items : Items
+  pub more : Polled
+  pub list : o'.events ≡ o.events ++ observer.SawNext o'.number state items ∷ more
+  pub acks : AllOf o'.number more
+
+adds_same : (o o' : Watching) → o' ≡ sees_same o → PollAdds o.past o'.past
+adds_same o o' is = record {
+  state = None;
+  items = [];
+  more = [];
+  list = ap (λ (w : Watching). w.past.events) is ∙ ap (λ (n : ℕ). o.past.events ++ observer.SawNext n None [] ∷ []) (sym (ap (λ (w : Watching). w.past.number) is));
+  acks = tt;
+}
+
+adds_new : (x : FastState) (came back : Items) (o o' : Watched) → o' ≡ acknowledged back (took x came o) → PollAdds o o'
+adds_new x came back o o' is =
+    let number : o'.number ≡ o.number + 1 = ap (λ (w : Watched). w.number) is in
+    record {
+      state = Some x;
+      items = came;
+      more = observer.Ack (o.number + 1) back ∷ [];
+      list = ap (λ (w : Watched). w.events) is ∙ append_assoc o.events (observer.SawNext (o.number + 1) (Some x) came ∷ []) (observer.Ack (o.number + 1) back ∷ [])
+          ∙ ap (λ (n : ℕ). o.events ++ observer.SawNext n (Some x) came ∷ observer.Ack (o.number + 1) back ∷ []) (sym number);
+      acks = (sym number, tt);
+    }
+
+pub poll_adds : (o o' : Watching) (poll : Poll) (s s' : ℕ) → WasPolled o poll o' s s' → PollAdds o.past o'.past
+poll_adds o o' Nothing s s' was = adds_same o o' was.1
+poll_adds o o' Same s s' was = adds_same o o' was.1
+poll_adds o o' (New number) s s' was = let t : TakesIt o was.1.0 o' = was.1.1 in adds_new was.1.0 t.0 t.1 o.past o'.past (ap (λ (w : Watching). w.past) t.2)
+
+-- ## A poll
+
+-- A poll from f to g, and all that both ends of the queue did in the end, of which what the normal mixer m did is a beginning. The events of m and of f have a history, and after the poll the mixer has the number of the last state that m pushed
+module _ (m : NormalState) (f g : MixerState) (adopts : Adopts f g) (on : is_over f ≡ false) (tells : Tells m.mutator.past) (acked : (observed f.observer.past.events).acked ≡ f.observer.past.number)
+    (all later : Pushed) (parts : all ≡ m.mutator.past.events ++ later) (rest : Polled) (whole : HasHistory m.mutator.past.first all (g.observer.past.events ++ rest))
+    (before : HasHistory m.mutator.past.first m.mutator.past.events f.observer.past.events) (number : g.observer.past.number ≡ m.mutator.past.number) where
+  abbrev p : Pushes ServerState StreamNames
+  p = m.mutator.past
+
+  abbrev o : Watched
+  o = f.observer.past
+
+  abbrev o' : Watched
+  o' = g.observer.past
+
+  added : PollAdds o o'
+  added = let q = adopts.polls on in poll_adds f.observer g.observer q.0 q.1 q.2 q.3
+
+  number_is : o'.number ≡ (mutated p.first p.events).pushed
+  number_is = number ∙ sym (tells.pushed p.first)
+
+  -- the history goes on by it
+  pub history_polled : HasHistory p.first p.events o'.events
+  history_polled =
+      let bs : Polled = observer.SawNext o'.number added.state added.items ∷ added.more in
+      let found : AllOf (mutated p.first p.events).pushed bs = (number_is, subst (λ (n : ℕ). AllOf n added.more) number_is added.acks) in
+      let long : HasHistory p.first all (o.events ++ (bs ++ rest)) = subst (HasHistory p.first all) (ap (λ (es : Polled). es ++ rest) added.list ∙ append_assoc o.events bs rest) whole in
+      subst (HasHistory p.first p.events) (sym added.list) (all_go_on p.first all p.events later parts o.events bs rest long found before)
+
+  module _ (x : FastState) (came back : Items) (is : o' ≡ acknowledged back (took x came o)) where
+    one_on_from : o'.number ≡ o.number + 1
+    one_on_from = ap (λ (w : Watched). w.number) is
+
+    number_new : o.number + 1 ≡ (mutated p.first p.events).pushed
+    number_new = sym one_on_from ∙ number_is
+
+    whole_new : HasHistory p.first all (o.events ++ observer.SawNext (o.number + 1) (Some x) came ∷ (observer.Ack (o.number + 1) back ∷ rest))
+    whole_new = subst (HasHistory p.first all)
+        (ap (λ (w : Watched). w.events ++ rest) is
+        ∙ append_assoc (o.events ++ observer.SawNext (o.number + 1) (Some x) came ∷ []) (observer.Ack (o.number + 1) back ∷ []) rest
+        ∙ append_assoc o.events (observer.SawNext (o.number + 1) (Some x) came ∷ []) (observer.Ack (o.number + 1) back ∷ rest))
+        whole
+
+    found : FindsLastOf p.first p.events (o.number + 1) (Some x) came
+    found = finds_last_of p.first all p.events later parts o.events (o.number + 1) (Some x) came (observer.Ack (o.number + 1) back ∷ rest) whole_new number_new
+
+    -- the state that it took is the last one, with the items that went with it, and the mutator hadn't seen it acknowledged
+    new_is_last : (x ≡ p.last) × (came ≡ items_sent m) × ((mutated_by m).clear ≡ false)
+    new_is_last = (
+      found.shows.0 ∙ tells.last (let more = number in let now = one_on_from in omega (arith, more, now)) p.first,
+      found.shows.1,
+      false_from_ne_true (mutated_by m).clear (λ (c : (mutated_by m).clear ≡ true). let sane : IsSane (point_of p.first p.events o.events) = history_sane p.first p.events o.events before in let all_acked = sane.seen c in omega (arith, all_acked, acked, number_new)),
+    )
+
+  pub finds_last : FindsLast m f g
+  finds_last = record { number = number; new = new_is_last }
+
+  -- and where it has as many states as were pushed, it has the last
+  pub same_polled : (0 < p.number → o.number ≡ p.number → o.state ≡ p.last) → 0 < p.number → o'.state ≡ p.last
+  same_polled same some = let q = adopts.polls on in by_poll q.0 q.1 q.2 q.3
+    where
+      by_same : g.observer ≡ sees_same f.observer → o'.state ≡ p.last
+      by_same is = ap (λ (w : Watching). w.past.state) is ∙ same some (sym (ap (λ (w : Watching). w.past.number) is) ∙ number)
+
+      by_poll : (poll : Poll) (s s' : ℕ) → WasPolled f.observer poll g.observer s s' → o'.state ≡ p.last
+      by_poll Nothing s s' was = by_same was.1
+      by_poll Same s s' was = by_same was.1
+      by_poll (New n) s s' was =
+          let t : TakesIt f.observer was.1.0 g.observer = was.1.1 in
+          let is : o' ≡ acknowledged t.1 (took was.1.0 t.0 o) = ap (λ (w : Watching). w.past) t.2 in
+          ap (λ (w : Watched). w.state) is ∙ (new_is_last was.1.0 t.0 t.1 is).0

@@ -1,0 +1,18 @@
+//! What holds of every round in which all parties act at the same time.
+ghost use Rattle.af_play_law.specs.Loads.{LoadsShowTheirNumber};
+ghost use Rattle.af_play_law.specs.Polls.{PollsFindOneOfTwo, PollsStandBeforePush};
+
+/// A poll made while the mutator of a state queue takes its turn finds the last state that was pushed before the round, or the one that this turn pushes, and with it the items that went with it. It never finds a third.
+pub fn a_poll_finds_one_of_two_states()
+    ensures { PollsFindOneOfTwo }
+{}
+
+/// What the observer did in a round before a poll found the state that was pushed in it has a history with all that the mutator did up to that push: it may all be told before the push.
+pub fn what_was_polled_before_a_push_stands_before_it()
+    ensures { PollsStandBeforePush }
+{}
+
+/// The report that is loaded while others are stored is the one of its number among all that are stored in the end. No report that was stored before the last meeting is missing.
+pub fn a_load_shows_the_report_of_its_number()
+    ensures { LoadsShowTheirNumber }
+{}
