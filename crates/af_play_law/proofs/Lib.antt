@@ -7,6 +7,7 @@ pub mod RoundPolls
 pub mod TurnGrows
 pub mod RoundTurned
 pub mod RoundPipe
+pub mod CallsTold
 pub mod RoundLoads
 pub mod ReportsCount
 pub mod CyclesGrow
