@@ -11,3 +11,4 @@ pub mod CallsTold
 pub mod RoundLoads
 pub mod ReportsCount
 pub mod CyclesGrow
+pub mod RoundForm
