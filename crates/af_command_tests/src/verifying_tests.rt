@@ -302,7 +302,7 @@ const DAMAGES: &[Damage<'static>] = &[
     (1297, 6, "P 1 3\n", "round 3 party 1"),
     (48, 2, "", "line 9"),
     (50, 6, "y 0 2\n", "round 0 party 2"),
-    (269, 6, "y 2 0\n", "round 2 party 0"),
+    (269, 6, "y 2 0\n", "round 2 party 1"),
     (1883, 6, "y 3 1\n", "round 5 party 2"),
     (275, 27, "z 0 4096 0 268439552 0 0 f 1\n", "line 40"),
     (383, 27, "z 1 4096 0 268439552 0 4 e\n", "round 2 party 0"),
