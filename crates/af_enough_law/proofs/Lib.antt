@@ -2,6 +2,7 @@ pub mod Standing
 pub mod SeenShared
 pub mod SeenBlocks
 pub mod LongRuns
+pub mod FewerMarks
 pub mod Doing
 pub mod Turning
 pub mod Advancing

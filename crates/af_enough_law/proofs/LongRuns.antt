@@ -1,4 +1,4 @@
--- A cut run has many rounds, and in the first of them the fast mixer makes its whole turns.
+-- Rounds that are cut off are many, and in the first of them the fast mixer makes its whole turns.
 use Rattle.std.proofs.Common.{◌≡◌, ◌⊎◌, inl, inr, ℕ, zero, suc, ◌+◌, ◌*◌, ◌≤◌, ◌==◌, ◌&&◌, Bool, true, false, List, [], ◌∷◌, length, take, refl, sym, ap, ◌∙◌, arith, length-append, true≢false}
 use Rattle.std.specs.Prelude.{MatchBool}
 use Rattle.std.proofs.lemmas.List.{length-take-le}
@@ -7,14 +7,14 @@ use Rattle.af_model.specs.Cycles.{is_mixed}
 use Rattle.af_model.specs.Journals.{EntrySeen, RoundSeen, JournalData}
 use Rattle.af_script.specs.Data.{ScriptData}
 use Rattle.af_runs.specs.Blocks.{Marks}
-use Rattle.af_runs.specs.LegalRuns.{marks_of, session_of, run_from, LegalRounds}
+use Rattle.af_runs.specs.LegalRuns.{marks_of, session_of, run_from, LegalRounds, IsCutRun}
 use Rattle.af_runs.specs.Rounds.{AreMixedBut, IsFastTurn, LegalRound, fills, after_round}
 use Rattle.af_runs.specs.Runs.{Run, new_run, fast_ended, all_ended}
 use Rattle.af_runs.specs.Sessions.{Session}
 use Rattle.af_runs.proofs.RoundEntries.{bare, round-entries}
 use Rattle.af_runs.proofs.RunGrows.{match_bool-map}
-use Rattle.af_enough.specs.Enough.{enough_rounds}
-use Rattle.af_enough_law.specs.Ending.{CutRunsAreLong}
+use Rattle.af_enough.specs.Enough.{enough_rounds, HasEnoughCycles}
+use Rattle.af_enough_law.specs.Ending.{AreCutOff, StillGoes, CutRunsAreLong}
 
 bare-length : (es : List EntrySeen) → length (bare es) ≡ length es
 bare-length [] = refl
@@ -97,19 +97,28 @@ first_goes cut s marks run zero (round ∷ rounds) legal going = legal.0.follows
 first_goes cut s marks run (suc n) [] legal going = going
 first_goes cut s marks run (suc n) (round ∷ rounds) legal going = first_goes cut s marks (after_round s run round) n rounds legal.1 going
 
-pub long : (script : ScriptData) (files : List (List Frame)) (j : JournalData) → CutRunsAreLong script files j
-long script files j enough cut =
+-- ## Rounds that are cut off
+
+-- they are many, and in the first of them the fast mixer made its whole turns
+pub long : (script : ScriptData) (files : List (List Frame)) (marks : Marks) (rounds : List RoundSeen) → HasEnoughCycles script → AreCutOff script files marks rounds → StillGoes script files marks
+long script files marks rounds enough cut =
     let s = session_of script files in
     let r = enough_rounds script in
-    let rounds = cut.rounds.rounds in
-    let all = entries-few true s (marks_of j.rounds) (new_run s) j.rounds rounds in
+    let all = entries-few true s marks (new_run s) rounds cut.legal in
     let low : 16 * r ≤ script.cycles = enough.enough in
-    let full : length (run_from s (new_run s) j.rounds).entries ≡ script.cycles = cut.full in
-    let many : r ≤ length j.rounds = omega arith in
-    let count : length (take r j.rounds) ≡ r = length-take-le r j.rounds many in
+    let full : length (run_from s (new_run s) rounds).entries ≡ script.cycles = cut.full in
+    let many : r ≤ length rounds = omega arith in
+    let count : length (take r rounds) ≡ r = length-take-le r rounds many in
     record {
-      rounds = take r j.rounds;
+      rounds = take r rounds;
       count = count;
-      legal = whole_turns s (marks_of j.rounds) (new_run s) (take r j.rounds) 0 r (omega arith) (omega arith) low (first_legal true s (marks_of j.rounds) (new_run s) r j.rounds rounds);
-      going = first_goes true s (marks_of j.rounds) (new_run s) r j.rounds rounds cut.going;
+      legal = whole_turns s marks (new_run s) (take r rounds) 0 r (omega arith) (omega arith) low (first_legal true s marks (new_run s) r rounds cut.legal);
+      going = first_goes true s marks (new_run s) r rounds cut.legal cut.going;
     }
+
+-- the rounds of a cut run are, by the marks of its journal
+pub cut_off : (script : ScriptData) (files : List (List Frame)) (j : JournalData) → IsCutRun script files j → AreCutOff script files (marks_of j.rounds) j.rounds
+cut_off script files j cut = record { legal = cut.rounds.rounds; full = cut.full; going = cut.going }
+
+pub cut_long : (script : ScriptData) (files : List (List Frame)) (j : JournalData) → CutRunsAreLong script files j
+cut_long script files j enough cut = long script files (marks_of j.rounds) j.rounds enough (cut_off script files j cut)

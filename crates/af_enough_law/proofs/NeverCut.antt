@@ -1,7 +1,7 @@
 -- No journal of an accepted script whose tracks play through, and whose cycles are enough, is that of a run that was cut off.
 use Rattle.std.proofs.Common.{◌≡◌, ℕ, ◌+◌, ◌≤◌, ◌<◌, true, List, length, take, arith}
 use Rattle.af_base.specs.declared.frame.Frame.{Frame}
-use Rattle.af_model.specs.Journals.{JournalData}
+use Rattle.af_model.specs.Journals.{RoundSeen, JournalData}
 use Rattle.af_script.specs.Data.{ScriptData}
 use Rattle.af_script.specs.Form.{IsScript}
 use Rattle.af_runs.specs.Blocks.{Marks}
@@ -9,7 +9,7 @@ use Rattle.af_runs.specs.LegalRuns.{marks_of, session_of, run_from, IsCutRun}
 use Rattle.af_runs.specs.Runs.{new_run}
 use Rattle.af_runs.specs.Sessions.{Session}
 use Rattle.af_enough.specs.Enough.{enough_rounds, HasEnoughCycles}
-use Rattle.af_enough_law.specs.Ending.{StillGoes}
+use Rattle.af_enough_law.specs.Ending.{AreCutOff, StillGoes}
 use Rattle.af_enough_law.specs.Ends.{AllOver}
 use Rattle.af_enough_law.proofs.LongRuns as long_runs
 use Rattle.af_enough_law.proofs.NearSums.{near_costs}
@@ -20,8 +20,8 @@ use Rattle.af_enough_law.proofs.StartDone.{most_of, total_of}
 use Rattle.af_enough_law.proofs.StartFirst.{middle_begins}
 use Rattle.af_enough_law.proofs.StartNever.{start_never}
 
--- no such run still goes after as many rounds as are enough
-never-going : (script : ScriptData) (files : List (List Frame)) (marks : Marks) (is : IsScript script) (enough : HasEnoughCycles script) (lawful : (i : ℕ) → i < length script.tracks → marks.commands i ≡ true) → StillGoes script files marks → ⊥
+-- By marks that call each command block lawful no run still goes after as many rounds as are enough. Of the stream blocks nothing is asked
+pub never-going : (script : ScriptData) (files : List (List Frame)) (marks : Marks) (is : IsScript script) (enough : HasEnoughCycles script) (lawful : (i : ℕ) → i < length script.tracks → marks.commands i ≡ true) → StillGoes script files marks → ⊥
 never-going script files marks is enough lawful goes =
     let s : Session = session_of script files in
     let costs = near_costs script files 0 is.track_count.0 (track_plays script files 0 is enough.form is.track_count.0) in
@@ -30,8 +30,13 @@ never-going script files marks is enough lawful goes =
     start_never script files marks is enough lawful goes.rounds goes.count goes.legal never 7 (omega arith) (most_of s) (total_of s)
     (middle_begins script files marks is enough.form lawful goes.rounds (omega (arith, count, costs)) goes.legal (λ k few. never k (omega (arith, few, costs))))
 
--- No run of such a script is cut off
+-- so by such marks no rounds are cut off
+pub never-cut-off : (script : ScriptData) (files : List (List Frame)) (marks : Marks) (rounds : List RoundSeen) → IsScript script → HasEnoughCycles script → ((i : ℕ) → i < length script.tracks → marks.commands i ≡ true)
+    → AreCutOff script files marks rounds → ⊥
+never-cut-off script files marks rounds is enough lawful cut = never-going script files marks is enough lawful (long_runs.long script files marks rounds enough cut)
+
+-- no run of such a script is cut off
 pub never-cut : (script : ScriptData) (files : List (List Frame)) (j : JournalData) → IsScript script → HasEnoughCycles script → IsCutRun script files j → ⊥
 never-cut script files j is enough cut =
-    let lawful : (i : ℕ) → i < length script.tracks → (marks_of j.rounds).commands i ≡ true = λ i named. run_lawful true true script files (marks_of j.rounds) j.rounds i is enough.form named cut.rounds.rounds in
-    never-going script files (marks_of j.rounds) is enough lawful (long_runs.long script files j enough cut)
+    let off = long_runs.cut_off script files j cut in
+    never-cut-off script files (marks_of j.rounds) j.rounds is enough (λ i named. run_lawful true true script files (marks_of j.rounds) j.rounds i is enough.form named off.legal) off
