@@ -1,7 +1,6 @@
 -- What is known of a session and of the run that tells it between two rounds of a script, by the marks of its lawful blocks.
-use Rattle.std.specs.Prelude.{◌≡◌, ℕ, ◌+◌, ◌≤◌, false, List, length, drop, slice_get, Some}
-use Rattle.af_base.specs.Log.{Logged}
-use Rattle.af_model.specs.Journals.{EntrySeen, RoundNoted, entries_seen}
+use Rattle.std.specs.Prelude.{◌≡◌, ℕ, ◌+◌, ◌≤◌, false, List, length, slice_get, Some}
+use Rattle.af_model.specs.Journals.{EntrySeen, RoundNoted}
 use Rattle.af_party.specs.Parties.{PartyState}
 use Rattle.af_runs.specs.Blocks.{Marks}
 use Rattle.af_runs.specs.Runs.{Run, pipe_cells, with_ends}
@@ -16,13 +15,10 @@ use Rattle.af_told_law.specs.Sizes.{IsSmallRun}
 use Rattle.af_told_law.specs.Marked.{IsMarkedRun}
 use Rattle.af_render_law.specs.Laws.{StepIsTold, ToldBy, round_of}
 use Rattle.af_told_law.specs.QueueTurned.{QueueKnown, ReportMet}
+use Rattle.af_told_law.proofs.LogMore.{entries_grown}
 use Rattle.af_told_law.specs.Tells.{given_of}
 use Rattle.af_render_law.proofs.InvalidKept.{InvalidKept}
 use Rattle.af_render_law.proofs.TameRounds.{TameReady}
-
--- the entries by which a log grew to another one, each with its frames
-abbrev pub entries_grown : Logged → Logged → List EntrySeen
-entries_grown a b = entries_seen (drop (length a.frames) b.frames) (drop (length a.entries) b.entries)
 
 -- each client counts the frames that it released
 abbrev pub AreCounted : SessionState → Type 0

@@ -16,7 +16,8 @@ use Rattle.af_session.proofs.FollowingRounds.{ends_keep}
 use Rattle.af_rendering.proofs.RoundTold.{log_turned}
 use Rattle.af_runs.specs.Blocks.{Marks}
 use Rattle.af_told_law.specs.Between.{StandsBetween}
-use Rattle.af_render_law.proofs.Chain.{FastTurnIsAStep, entries_grown}
+use Rattle.af_told_law.proofs.LogMore.{entries_grown}
+use Rattle.af_render_law.proofs.Chain.{FastTurnIsAStep}
 use Rattle.af_render_law.specs.Laws.{IsBetween}
 use Rattle.af_told_law.specs.Tells.{given_of}
 use Rattle.af_render_law.proofs.FastRound.{fast_between, fast_step}

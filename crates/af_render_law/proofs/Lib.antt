@@ -2,7 +2,6 @@ pub mod ClientRound
 pub mod StillRound
 pub mod StepTurns
 pub mod BetweenRounds
-pub mod EntriesDealt
 pub mod TurnChain
 pub mod RenderTold
 pub mod OwnKept

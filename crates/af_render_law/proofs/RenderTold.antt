@@ -25,13 +25,13 @@ use Rattle.af_turn_law.proofs.RunBegins.{forced_run}
 use Rattle.af_normal.specs.State.{NormalState}
 use Rattle.af_judge.proofs.StatesRuns.{scales_of}
 use Rattle.af_render_law.specs.Aware.{KnowsAway}
-use Rattle.af_render_law.proofs.Chain.{AreCounted, FastTurnIsAStep, Holds, NormalTurnIsAStep, entries_grown}
+use Rattle.af_render_law.proofs.Chain.{AreCounted, FastTurnIsAStep, Holds, NormalTurnIsAStep}
 use Rattle.af_render_law.specs.Laws.{AreSteps, ToldBy}
 use Rattle.af_told_law.specs.Marked.{AreRoundsMarked}
 use Rattle.af_render_law.proofs.BetweenRounds.{stands_first}
 use Rattle.af_render_law.proofs.InvalidKept.{invalid_new}
 use Rattle.af_told_law.proofs.KnownSteps.{known_new}
-use Rattle.af_told_law.proofs.LogMore.{all_asked}
+use Rattle.af_told_law.proofs.LogMore.{all_asked, entries_grown}
 use Rattle.af_told_law.proofs.MarkedRuns.{marks_free, new_marked}
 use Rattle.af_told_law.proofs.NewTold.{new_told, no_deeds}
 use Rattle.af_told_law.proofs.PipeCells.{cells_new}

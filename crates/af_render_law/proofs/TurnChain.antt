@@ -34,7 +34,7 @@ use Rattle.af_rendering.proofs.RoundForms.{round_notes}
 use Rattle.af_client.specs.Order.{ClientState}
 use Rattle.af_render_law.specs.Aware.{KnowsAway}
 use Rattle.af_told_law.specs.Between.{StandsBetween}
-use Rattle.af_render_law.proofs.Chain.{AreCounted, FastTurnIsAStep, Holds, NormalTurnIsAStep, entries_grown}
+use Rattle.af_render_law.proofs.Chain.{AreCounted, FastTurnIsAStep, Holds, NormalTurnIsAStep}
 use Rattle.af_render_law.specs.Laws.{AreSteps, StepIsTold, ToldBy, round_of}
 use Rattle.af_told_law.specs.Marked.{AreRoundsMarked, IsRoundMarked}
 use Rattle.af_told_law.specs.QueueTurned.{QueueKnown}
@@ -44,8 +44,8 @@ use Rattle.af_render_law.proofs.InvalidKept.{invalid_round}
 use Rattle.af_told_law.proofs.KnownSteps.{Quiet, known_same, quiet_calls, quiet_cycles, quiet_ends, quiet_met, quiet_then, report_ends}
 use Rattle.af_render_law.proofs.BetweenRounds.{client_stands, normal_stands, still_stands}
 use Rattle.af_render_law.proofs.ClientRound.{client_step}
-use Rattle.af_render_law.proofs.EntriesDealt.{first_dealt, rest_dealt}
-use Rattle.af_told_law.proofs.LogMore.{GrowsBy, all_asked, asked_by, round_grows, run_grows}
+use Rattle.af_told_law.proofs.EntriesDealt.{first_dealt, rest_dealt}
+use Rattle.af_told_law.proofs.LogMore.{GrowsBy, all_asked, asked_by, entries_grown, round_grows, run_grows}
 use Rattle.af_told_law.proofs.MarkedRuns.{round_marked}
 use Rattle.af_told_law.proofs.SmallRuns.{round_small}
 use Rattle.af_render_law.proofs.StillRound.{fast_still, normal_still}

@@ -23,6 +23,7 @@ pub mod EditsPush
 pub mod LoadTold
 pub mod NormalShared
 pub mod LogMore
+pub mod EntriesDealt
 pub mod FrontLeaves
 pub mod KeptAlike
 pub mod KeptLooks

@@ -1,6 +1,6 @@
 -- A session's log only grows: by entries and frames behind those that it has, in a fast turn by as many entries as it has cycles at most.
 use Rattle.std.proofs.Common.{◌≡◌, ℕ, zero, suc, ◌+◌, ◌≤◌, ◌==◌, ◌||◌, Bool, true, false, MatchBool, List, [], ◌∷◌, ◌++◌, length, refl, sym, ap, subst, ◌∙◌, append-nil, append_assoc, eqb-true, arith}
-use Rattle.std.specs.Prelude.{sum_by}
+use Rattle.std.specs.Prelude.{drop, sum_by}
 use Rattle.std.proofs.lemmas.List.{length-append}
 use Rattle.std.proofs.lemmas.List.Sums.{sum_by-append}
 use Rattle.af_base.specs.declared.frame.Frame.{Frame}
@@ -11,7 +11,7 @@ use Rattle.af_base.specs.Turn.{Turn}
 use Rattle.af_fast.specs.Mixer.{MixerState, is_over}
 use Rattle.af_fast.specs.Mixing.{MixesOnce}
 use Rattle.af_model.specs.Cycles.{is_mixed, taken_before}
-use Rattle.af_model.specs.Journals.{RoundNoted, taken_by}
+use Rattle.af_model.specs.Journals.{EntrySeen, RoundNoted, entries_seen, taken_by}
 use Rattle.af_script.specs.declared.op.TurnSpec.{TurnSpec}
 use Rattle.af_script.specs.declared.op.TurnSpec.TheVariants as spec
 use Rattle.af_session.specs.FastTurns.{IsFastTurn, WritesCycle}
@@ -19,6 +19,10 @@ use Rattle.af_session.specs.Rounds.{Given, IsRound, IsTurnRun, NormalTurned, Tur
 use Rattle.af_session.specs.Together.{SessionState}
 use Rattle.af_session.proofs.FastAdds.{met_keeps, polled_keeps}
 use Rattle.af_rendering.proofs.RoundTold.{log_turned}
+
+-- the entries by which a log grew to another one, each with its frames
+abbrev pub entries_grown : Logged → Logged → List EntrySeen
+entries_grown a b = entries_seen (drop (length a.frames) b.frames) (drop (length a.entries) b.entries)
 
 -- b is a with so many more entries at most, and with the frames that they took
 pub record GrowsBy (few : ℕ) (a b : Logged) : Type 0 where
@@ -48,7 +52,7 @@ unfolding taken_by
 one_taken entry = omega arith
 
 -- a call of mix
-mix_grows : (m m' : MixerState) (out out' : List Frame) (answer : Cycle) → MixesOnce m out answer m' out' → GrowsBy 1 m.log m'.log
+pub mix_grows : (m m' : MixerState) (out out' : List Frame) (answer : Cycle) → MixesOnce m out answer m' out' → GrowsBy 1 m.log m'.log
 mix_grows m m' out out' answer x = by_exit m.exited refl
   where
     by_length : (full : Bool) → m.exited ≡ false → (length m.log.entries == m.cycles) ≡ full → GrowsBy 1 m.log m'.log

@@ -9,8 +9,7 @@ use Rattle.af_base.specs.declared.log.CycleEntry.{CycleEntry}
 use Rattle.af_base.specs.Log.{Logged}
 use Rattle.af_model.specs.Journals.{EntrySeen, entries_seen, taken_by}
 use Rattle.af_rendering.proofs.JournalSound.{same_length}
-use Rattle.af_render_law.proofs.Chain.{entries_grown}
-use Rattle.af_told_law.proofs.LogMore.{GrowsBy}
+use Rattle.af_told_law.proofs.LogMore.{GrowsBy, entries_grown}
 
 sum_first : (e : CycleEntry) (es : List CycleEntry) → sum_by taken_by (e ∷ es) ≡ taken_by e + sum_by taken_by es
 sum_first e es = let parts = sum_by-append taken_by (e ∷ []) es in let one : sum_by taken_by (e ∷ []) ≡ taken_by e = omega arith in omega (arith, parts, one)
