@@ -60,7 +60,7 @@ turn_words calls t = ap (λ (x : Words). x.1) (calls_words calls t)
 
 -- ## A run
 
-abbrev track_words : TrackTold → Words
+abbrev pub track_words : TrackTold → Words
 track_words t = (t.file, t.stream.released)
 
 abbrev pub run_words : Run → List Words
