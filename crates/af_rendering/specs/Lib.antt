@@ -3,3 +3,4 @@ pub mod Hostile
 pub mod Leads
 pub mod FastSpared
 pub mod Stages
+pub mod Alone
