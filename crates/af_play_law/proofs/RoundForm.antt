@@ -112,7 +112,7 @@ module _ (links : Links) where
   }
 
   -- a mixer that hasn't exited goes on so after a mixed entry
-  still_runs : (m next : MixerState) (answer : Cycle) (bytes : List ℕ) (e : CycleEntry) → CyclesOnce links m answer bytes next → has_exit m.log.entries ≡ false → is_mixed e.cycle ≡ true → next.log.entries ≡ m.log.entries ++ e ∷ [] → (next.exited ≡ false) × (has_exit next.log.entries ≡ false)
+  pub still_runs : (m next : MixerState) (answer : Cycle) (bytes : List ℕ) (e : CycleEntry) → CyclesOnce links m answer bytes next → has_exit m.log.entries ≡ false → is_mixed e.cycle ≡ true → next.log.entries ≡ m.log.entries ++ e ∷ [] → (next.exited ≡ false) × (has_exit next.log.entries ≡ false)
   still_runs m next answer bytes e w none mixed one =
       let no : has_exit next.log.entries ≡ false = ap has_exit one ∙ has_exit-push m.log.entries e ∙ (λ j. none j || no_exit e.cycle mixed j) in
       (w.mixed_in.0.keeps.exited_is ∙ no, no)

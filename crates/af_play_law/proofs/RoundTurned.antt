@@ -178,7 +178,7 @@ module _ (x u z : SessionState) (ends : EndsMet u.normal z.normal u.fast z.fast)
       history_turned = subst (λ (l : Pushed). HasHistory m.first l es) (sym is) (cut_behind m.first m.events looks k y sent (met_of (length o.events)) es rest whole_push before (next_behind ls late))
 
     -- where the turn pushed nothing no poll is late
-    none_late : n.events ≡ m.events ++ grows.looks → ls ≡ []
+    pub none_late : n.events ≡ m.events ++ grows.looks → ls ≡ []
     none_late is = by_next ls late whole_cut
       where
         by_next : (ls : Polled) → ComesLate m.number ls → HasHistory m.first pushes (es ++ (ls ++ observer.Learn (length n.events) ∷ [])) → ls ≡ []

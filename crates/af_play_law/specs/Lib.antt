@@ -1,2 +1,6 @@
 pub mod Polls
 pub mod Loads
+pub mod RoundPlayed
+pub mod Rounds
+pub mod PlayRuns
+pub mod AwaySlots
