@@ -1,5 +1,5 @@
 -- The normal mixer's turn in a round of all parties is told behind the early entries, where of the proxies that aren't home it heard what the run foresees; and so are the late entries behind it.
-use Rattle.std.proofs.Common.{◌≡◌, ◌⊎◌, inl, inr, ⊎_elim, ℕ, ◌+◌, ◌*◌, ◌<◌, ◌≤◌, Bool, true, false, if◌then◌else◌, map, List, [], ◌∷◌, ◌++◌, length, Option, Some, None, append_assoc, refl, sym, ap, subst, ◌∙◌, arith}
+use Rattle.std.proofs.Common.{◌≡◌, ⊎_elim, ℕ, ◌*◌, ◌<◌, ◌≤◌, Bool, true, false, if◌then◌else◌, map, List, [], ◌∷◌, ◌++◌, length, Option, Some, None, refl, sym, ap, subst, ◌∙◌, arith}
 use Rattle.std.specs.Bool.{MatchBool}
 use Rattle.std.specs.Prelude.{MatchOption}
 use Rattle.std.proofs.lemmas.List.{length-map}
@@ -7,7 +7,6 @@ use Rattle.std.proofs.Math.Nat.{mul-le-mul_right}
 use Rattle.af_base.specs.declared.event.ClientEvent.{ClientEvent}
 use Rattle.af_base.specs.declared.event.ClientEvent.TheVariants as client
 use Rattle.af_base.specs.declared.frame.Frame.{Frame}
-use Rattle.af_base.specs.declared.state.FastState.{FastState}
 use Rattle.af_base.specs.Sample.{packed_word}
 use Rattle.af_base.specs.Turn.{Turn, turn_of}
 use Rattle.af_cblk.specs.declared.view.ClientPart.{ClientPart}
@@ -17,7 +16,7 @@ use Rattle.af_life.specs.Kept.{NormalKept, Outside, Setup, pipe_size}
 use Rattle.af_life.specs.Plays.{put_by}
 use Rattle.af_link.specs.declared.links.Links.{Links}
 use Rattle.af_model.specs.Journals.{EntrySeen, RoundSeen}
-use Rattle.af_model.specs.PipeHistory.{HasPipeHistory, releases_of}
+use Rattle.af_model.specs.PipeHistory.{HasPipeHistory}
 use Rattle.af_model.specs.StateQueue.{HasHistory}
 use Rattle.af_normal.specs.LegalTurned.{IsLegal}
 use Rattle.af_normal.specs.State.{NormalState, kept_of, setup_of as mixer_setup}
@@ -25,11 +24,11 @@ use Rattle.af_normal.specs.TurnMade.{TurnMade, answer_of}
 use Rattle.af_runs.specs.Blocks.{Marks}
 use Rattle.af_runs.specs.Found.{LegalTurnBy, TurnFound}
 use Rattle.af_runs.specs.Rounds.{LegalNormalTurn, after_turn, before_turn, early_of, found_in, late_of, turned}
-use Rattle.af_runs.specs.Runs.{Run, told_at, with_calls, with_cycles, with_turn}
+use Rattle.af_runs.specs.Runs.{Run, with_calls, with_cycles, with_turn}
 use Rattle.af_runs.specs.Sessions.{Session, cycle_frames, setup_of}
 use Rattle.af_rendering.specs.Leads.{Leads, Tells as TellsPushes}
-use Rattle.af_session.specs.Together.{AreTogether, SessionState}
-use Rattle.af_side_by_side.specs.SideBySide.{TurnPlayed, turn_noted}
+use Rattle.af_session.specs.Together.{SessionState}
+use Rattle.af_side_by_side.specs.SideBySide.{TurnPlayed}
 use Rattle.af_told_law.specs.Deeds.{Deeds, GoOn, SawOwnBy}
 use Rattle.af_told_law.specs.NormalLaws.{ShowsFront, TurnShown}
 use Rattle.af_told_law.specs.Outsides.{FindsBlocks}
@@ -165,7 +164,7 @@ module _ (links : Links) (s : Session) (run : Run) (d : Deeds) (x u z : SessionS
           let is : LegalTurnBy (setup_of s) marks found run.normal e = subst (λ (k : NormalKept). LegalTurnBy (setup_of s) marks found k e) same_kept (left.legal marks saw) in
           let ended : run.normal.ended ≡ false = sym (ap (λ (k : NormalKept). k.ended) stands.told.normal.kept) ∙ lives in
           subst (λ (b : Bool). MatchBool b (round.turn ≡ None) (MatchOption round.turn ⊥ (λ t. LegalTurnBy (setup_of s) marks (found_in s run round t) run.normal t))) (sym ended)
-              (subst (λ (o : Option Turn). MatchOption o ⊥ (λ t. LegalTurnBy (setup_of s) marks (found_in s run round t) run.normal t)) (sym one_turn) is));
+          (subst (λ (o : Option Turn). MatchOption o ⊥ (λ t. LegalTurnBy (setup_of s) marks (found_in s run round t) run.normal t)) (sym one_turn) is));
       known = subst (λ (q : Run). QueueKnown (cycle_frames s) q n) run_turned left.known;
       tells = left.tells;
       leads = left.leads;

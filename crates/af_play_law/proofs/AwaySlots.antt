@@ -1,11 +1,10 @@
 -- What a turn of the normal mixer does to the slot of a track whose proxy is away: it stays in the draft as it was, or leaves it.
-use Rattle.std.proofs.Common.{◌≡◌, ℕ, zero, suc, ◌<◌, ◌≤◌, ◌==◌, ◌&&◌, ◌||◌, not, if◌then◌else◌, is_some, Bool, true, false, true≢false, All, Option, None, Some, List, [], ◌∷◌, length, refl, sym, ap, ◌∙◌, subst, arith}
+use Rattle.std.proofs.Common.{◌≡◌, ℕ, zero, suc, ◌<◌, ◌≤◌, ◌==◌, ◌&&◌, ◌||◌, not, if◌then◌else◌, is_some, Bool, true, false, All, Option, None, Some, List, [], ◌∷◌, length, refl, sym, ap, ◌∙◌, subst, arith}
 use Rattle.std.specs.List.{AllByRecursion, list_any}
 use Rattle.af_base.specs.declared.log.Cycle.TheVariants as cycle
 use Rattle.af_base.specs.declared.state.Command.{Command}
 use Rattle.af_base.specs.declared.state.Command.TheVariants.{Initial, HotIdle, ColdIdle, Idle, Exit, Mix, Write, MixWrite}
 use Rattle.af_base.specs.declared.state.FastState.{FastState}
-use Rattle.af_base.specs.declared.state.FastTrack.{FastTrack}
 use Rattle.af_base.specs.Command.{code_of}
 use Rattle.af_base.specs.Log.{slots}
 use Rattle.af_base.specs.Turn.{Turn}

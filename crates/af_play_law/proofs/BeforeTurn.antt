@@ -1,18 +1,16 @@
 -- What the clients' calls and the early entries of a round leave of a run: the command blocks as the calls left them, and what is known of the queue.
-use Rattle.std.proofs.Common.{◌≡◌, ℕ, zero, suc, ◌+◌, Bool, true, false, List, [], ◌∷◌, ◌++◌, Option, Some, None, refl, sym, ap, ◌∙◌}
+use Rattle.std.proofs.Common.{◌≡◌, ℕ, zero, suc, ◌+◌, List, [], ◌∷◌, Option, Some, None, refl, ap, ◌∙◌}
 use Rattle.std.specs.Prelude.{slice_index_or}
 use Rattle.std.specs.List.{list_any}
 use Rattle.af_base.specs.declared.state.FastState.{FastState}
-use Rattle.af_base.specs.Turn.{Turn}
 use Rattle.af_model.specs.declared.states.MutatorEvent.{MutatorEvent}
 use Rattle.af_model.specs.declared.states.ObserverEvent.{ObserverEvent}
 use Rattle.af_model.specs.Journals.{EntrySeen, RoundSeen}
 use Rattle.af_model.specs.Order.{one, two, ones}
 use Rattle.af_normal.specs.State.{NormalState}
-use Rattle.af_runs.specs.Blocks.{BlockTold}
 use Rattle.af_runs.specs.Runs.{Run, TrackTold, each_from, mixed_track, no_track, played, slot_for, state_for, told_at, with_calls, with_cycle, with_cycles, with_mix, with_poll}
 use Rattle.af_runs.specs.Sessions.{Session, cycle_frames}
-use Rattle.af_runs.specs.Told.{Item, QueueTold, is_look_at, observer_does, was_seen}
+use Rattle.af_runs.specs.Told.{Item, QueueTold, is_look_at, observer_does}
 use Rattle.af_told_law.specs.QueueTurned.{QueueKnown}
 use Rattle.af_told_law.proofs.KnownSteps.{Quiet, known_same, quiet_then}
 

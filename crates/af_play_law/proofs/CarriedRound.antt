@@ -1,12 +1,12 @@
 -- What holds of the slots that the draft and the last state carry is kept by a round, whatever the mixer found.
-use Rattle.std.proofs.Common.{◌≡◌, ℕ, ◌≤◌, All, length, Option, Some, None, sym, ap, ◌∙◌, subst, arith}
+use Rattle.std.proofs.Common.{◌≡◌, ◌≤◌, All, length, Option, Some, None, sym, ap, subst, arith}
 use Rattle.af_base.specs.Turn.{Turn}
 use Rattle.af_life.specs.declared.kept.Setting.{Setting}
 use Rattle.af_life.specs.Heard.{learnt}
 use Rattle.af_life.specs.Kept.{NormalKept}
 use Rattle.af_model.specs.Journals.{RoundSeen}
 use Rattle.af_runs.specs.Found.{TurnFound, outside_of}
-use Rattle.af_runs.specs.Rounds.{after_round, after_turn, before_turn, found_in, turned}
+use Rattle.af_runs.specs.Rounds.{after_round, before_turn, found_in, turned}
 use Rattle.af_runs.specs.Runs.{Run, with_turn}
 use Rattle.af_runs.specs.Sessions.{Session, setup_of}
 use Rattle.af_judge.specs.StatesKept.{Carried}

@@ -1,9 +1,8 @@
 -- The cycles of a turn whose polls all find the last state pushed are told, one after the other.
-use Rattle.std.proofs.Common.{◌≡◌, ℕ, ◌+◌, ◌<◌, ◌≤◌, true, List, [], ◌∷◌, ◌++◌, length, append-nil, append_assoc, Option, Some, refl, sym, ap, subst, ◌∙◌, arith}
+use Rattle.std.proofs.Common.{◌≡◌, ℕ, ◌<◌, ◌≤◌, List, [], ◌∷◌, ◌++◌, length, append-nil, append_assoc, Some, sym, ap, subst, ◌∙◌, arith}
 use Rattle.std.specs.Prelude.{slice_get}
 use Rattle.std.proofs.lemmas.Option.{same_Some}
 use Rattle.af_base.specs.declared.event.ServerEvent.{ServerEvent}
-use Rattle.af_base.specs.declared.state.FastState.{FastState}
 use Rattle.af_cblk.specs.Rule.{StartsWith}
 use Rattle.af_cblk.specs.Sides.{Made, client_made}
 use Rattle.af_fast.specs.Mixer.{MixerState}
@@ -168,9 +167,9 @@ module _ (links : Links) where
           legal = (λ marks saw. (
             first.legal marks (saw_polled marks s e.entry.state run first.deeds
                 (saw_back s marks run (with_cycles s es (with_cycle s run e)) first.deeds rest.deeds
-                    (shapes_same links s run (with_cycles s es (with_cycle s run e)) (shapes_told links s run d y may.told may.together)
-                        (shapes_told links s (with_cycles s es (with_cycle s run e)) rest.deeds (record y { fast = g }) rest.may.told rest.may.together))
-                    rest.goes saw)),
+                (shapes_same links s run (with_cycles s es (with_cycle s run e)) (shapes_told links s run d y may.told may.together)
+                (shapes_told links s (with_cycles s es (with_cycle s run e)) rest.deeds (record y { fast = g }) rest.may.told rest.may.together))
+                rest.goes saw)),
             rest.legal marks saw,
           ));
         }

@@ -1,11 +1,9 @@
 -- What the entries of a state that a turn pushes tell of a track whose proxy is away: the same by the draft before the turn as by that state itself.
-use Rattle.std.proofs.Common.{◌≡◌, ◌⊎◌, inl, inr, ⊎_elim, ℕ, zero, suc, ◌+◌, ◌-◌, ◌<◌, ◌≤◌, ◌==◌, ◌&&◌, ◌||◌, if◌then◌else◌, fold, is_some, map, Bool, true, false, true≢false, Option, None, Some, List, [], ◌∷◌, ◌++◌, length, length-append, refl, sym, ap, ◌∙◌, subst, append-nil, arith}
+use Rattle.std.proofs.Common.{◌≡◌, ◌⊎◌, inl, inr, ℕ, zero, suc, ◌+◌, ◌-◌, ◌<◌, ◌≤◌, ◌==◌, ◌&&◌, ◌||◌, if◌then◌else◌, fold, is_some, map, Bool, true, false, Option, None, Some, List, [], ◌∷◌, ◌++◌, length, length-append, refl, sym, ap, ◌∙◌, arith}
 use Rattle.std.specs.Prelude.{slice_index_or, unwrap_or}
-use Rattle.std.specs.List.{range_with_len}
 use Rattle.std.proofs.lemmas.Bool.{cases_lt}
 use Rattle.std.proofs.lemmas.List.{map-append}
 use Rattle.std.proofs.lemmas.List.FromFn.{get_or-map-range_with_len}
-use Rattle.af_base.specs.declared.event.ServerEvent.{ServerEvent}
 use Rattle.af_base.specs.declared.log.CycleEntry.{CycleEntry}
 use Rattle.af_base.specs.declared.report.Report.{Report}
 use Rattle.af_base.specs.declared.report.SlotReport.{SlotReport}
@@ -15,7 +13,7 @@ use Rattle.af_base.specs.declared.state.FastState.{FastState}
 use Rattle.af_base.specs.declared.state.FastTrack.{FastTrack}
 use Rattle.af_base.specs.Log.{entry_slot, slots}
 use Rattle.af_life.specs.Kept.{NormalKept}
-use Rattle.af_model.specs.Cycles.{IsSeen, Listed, cold_done, cycle_of, is_mixed, last_used, state_of}
+use Rattle.af_model.specs.Cycles.{IsSeen, cold_done, cycle_of, is_mixed, last_used, state_of}
 use Rattle.af_model.specs.Draft.{initial}
 use Rattle.af_model.specs.Journals.{EntrySeen}
 use Rattle.af_model.specs.Reports.{ServerKnown, counted_look, no_report, no_slot, report_at}
@@ -24,7 +22,7 @@ use Rattle.af_model.proofs.UsedStates.{last_used-push, state_of-before, state_of
 use Rattle.af_runs.specs.Blocks.{Marks, listed}
 use Rattle.af_runs.specs.Fronts.{is_shown}
 use Rattle.af_runs.specs.Rounds.{LegalEntries, LegalEntry}
-use Rattle.af_runs.specs.Runs.{Run, TrackTold, known_of, last_report, mixed_track, next_report, next_slot, played, plays, report_of, slot_for, state_for, stream_of, told_at, with_cycle, with_cycles, with_looks, with_mix, with_poll}
+use Rattle.af_runs.specs.Runs.{Run, TrackTold, known_of, last_report, mixed_track, next_report, next_slot, played, report_of, slot_for, state_for, stream_of, told_at, with_cycle, with_cycles, with_looks, with_mix, with_poll}
 use Rattle.af_runs.specs.Sessions.{Session, cycle_frames}
 use Rattle.af_runs.specs.Told.{state_at}
 use Rattle.af_runs.proofs.StatesFor.{polled_known, polled_waits, state_beyond, state_pushed, state_waits}

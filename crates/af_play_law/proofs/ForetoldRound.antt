@@ -1,5 +1,5 @@
 -- The reports of a round by the draft before the turn tell what they tell by the state that the turn pushes, of each track whose proxy isn't home.
-use Rattle.std.proofs.Common.{◌≡◌, ℕ, ◌+◌, ◌<◌, ◌≤◌, if◌then◌else◌, map, Bool, true, false, All, List, [], ◌∷◌, ◌++◌, length, refl, sym, ap, ◌∙◌, subst, append-nil, arith}
+use Rattle.std.proofs.Common.{◌≡◌, ℕ, ◌<◌, ◌≤◌, if◌then◌else◌, map, Bool, true, false, All, List, [], ◌∷◌, ◌++◌, length, refl, sym, ap, ◌∙◌, append-nil, arith}
 use Rattle.std.specs.List.{AllByRecursion}
 use Rattle.af_base.specs.declared.event.ServerEvent.{ServerEvent}
 use Rattle.af_base.specs.declared.report.Report.{Report}
@@ -10,10 +10,10 @@ use Rattle.af_life.specs.declared.kept.Setting.{Setting}
 use Rattle.af_life.specs.declared.kept.TrackKept.{TrackKept}
 use Rattle.af_life.specs.Edits.{after_ack, is_exit}
 use Rattle.af_life.specs.Heard.{learnt}
-use Rattle.af_life.specs.Kept.{Learnt, NormalKept, Outside, Setup, is_home, slot_number, track_at}
+use Rattle.af_life.specs.Kept.{Learnt, Outside, Setup, is_home, slot_number, track_at}
 use Rattle.af_life.specs.Turn.{after_edits}
 use Rattle.af_life.specs.TurnEvents.{hand_list, stream_list, tracks_at}
-use Rattle.af_life.proofs.Lives.{acked_len, not_yet}
+use Rattle.af_life.proofs.Lives.{not_yet}
 use Rattle.af_model.specs.Cycles.{last_used}
 use Rattle.af_model.specs.Journals.{EntrySeen}
 use Rattle.af_model.specs.Reports.{no_slot, report_at}

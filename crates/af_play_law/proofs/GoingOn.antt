@@ -1,5 +1,5 @@
 -- Where some party of a session goes on, some party of the run that tells it does.
-use Rattle.std.proofs.Common.{◌≡◌, ℕ, zero, suc, ◌+◌, ◌<◌, ◌≤◌, ◌==◌, ◌&&◌, nat_lt, Bool, true, false, true≢false, if◌then◌else◌, List, [], ◌∷◌, length, Option, Some, slice_get, refl, sym, ap, subst, ◌∙◌, arith}
+use Rattle.std.proofs.Common.{◌≡◌, ℕ, zero, suc, ◌+◌, ◌<◌, ◌==◌, ◌&&◌, nat_lt, Bool, true, false, true≢false, if◌then◌else◌, List, [], ◌∷◌, Some, slice_get, refl, sym, ap, ◌∙◌, arith}
 use Rattle.std.specs.List.{list_all, range_with_len}
 use Rattle.std.proofs.lemmas.Bool.{and_parts, false_from_ne_true}
 use Rattle.std.proofs.lemmas.Bool.Decides.{nat_tests}
@@ -7,7 +7,7 @@ use Rattle.std.proofs.lemmas.Option.{slice_get_within}
 use Rattle.af_life.specs.Kept.{NormalKept}
 use Rattle.af_party.specs.Parties.{PartyState}
 use Rattle.af_runs.specs.ClientTurns.{Track}
-use Rattle.af_runs.specs.Runs.{Run, all_ended, fast_ended, fast_party, has_ended, normal_party, told_at}
+use Rattle.af_runs.specs.Runs.{Run, all_ended, fast_ended, fast_party, has_ended, told_at}
 use Rattle.af_runs.specs.Sessions.{Session, track_count}
 use Rattle.af_session.specs.Together.{SessionState}
 use Rattle.af_told_law.specs.Deeds.{Deeds}

@@ -1,19 +1,15 @@
 -- A cycle of the fast mixer whose poll finds the last state pushed is told: the run with its entry tells the session, and the entry is legal by marks on whose blocks each front seen is a server's own.
-use Rattle.std.proofs.Common.{◌≡◌, ℕ, ◌+◌, ◌<◌, ◌≤◌, Bool, true, false, true≢false, List, [], ◌∷◌, ◌++◌, length, map, Option, Some, None, refl, sym, ap, subst, ◌∙◌, arith}
+use Rattle.std.proofs.Common.{◌≡◌, ℕ, ◌+◌, ◌<◌, ◌≤◌, true, false, true≢false, List, [], ◌∷◌, ◌++◌, length, Option, Some, None, refl, sym, ap, subst, ◌∙◌, arith}
 use Rattle.std.specs.Prelude.{slice_index_or}
 use Rattle.std.proofs.lemmas.List.{append_cancel_left}
-use Rattle.af_base.specs.declared.event.ServerEvent.{ServerEvent}
-use Rattle.af_base.specs.declared.frame.Frame.{Frame}
-use Rattle.af_base.specs.declared.log.Cycle.{Cycle}
 use Rattle.af_base.specs.declared.log.CycleEntry.{CycleEntry}
 use Rattle.af_base.specs.declared.state.FastState.{FastState}
 use Rattle.af_fast.specs.Mixer.{MixerState, adopted_states, is_over}
-use Rattle.af_fast.specs.Mixing.{AddsCycle, Adopts}
-use Rattle.af_fast.specs.Slots.{found}
+use Rattle.af_fast.specs.Mixing.{Adopts}
 use Rattle.af_link.specs.declared.links.Links.{Links}
 use Rattle.af_link.specs.declared.names.StreamNames.{StreamNames}
-use Rattle.af_link.specs.PipeEnds.{OutSide, SeesTaken}
-use Rattle.af_model.specs.Cycles.{Mixes, cold_done, cycle_of, is_mixed, state_of}
+use Rattle.af_link.specs.PipeEnds.{SeesTaken}
+use Rattle.af_model.specs.Cycles.{cold_done, cycle_of, is_mixed, state_of}
 use Rattle.af_model.specs.declared.plain_calls.Poll.{Poll}
 use Rattle.af_model.specs.declared.plain_calls.Poll.TheVariants.{New, Nothing, Same}
 use Rattle.af_model.specs.Journals.{EntrySeen}
@@ -25,12 +21,12 @@ use Rattle.af_runs.specs.Runs.{Run, with_cycle, with_mix, with_poll}
 use Rattle.af_runs.specs.Sessions.{Session}
 use Rattle.af_server.specs.Order.{ServerState}
 use Rattle.af_stateq.specs.Answers.{TakesIt, WasPolled, sees_same}
-use Rattle.af_stateq.specs.Ends.{Polls, Pushes, acknowledged, took}
+use Rattle.af_stateq.specs.Ends.{Polls, acknowledged, took}
 use Rattle.af_stateq.specs.Observes.{Observes}
 use Rattle.af_rendering.specs.Leads.{LeadAway}
 use Rattle.af_session.specs.Together.{AreTogether, SessionState}
 use Rattle.af_told_law.specs.Deeds.{Deeds, GoOn, SawOwnBy}
-use Rattle.af_told_law.specs.MixLaws.{MixIsTold, TookCounted, entry_told}
+use Rattle.af_told_law.specs.MixLaws.{TookCounted, entry_told}
 use Rattle.af_told_law.specs.Tells.{FindsLast, Leaves, Tells}
 use Rattle.af_told_law.proofs.MixTold.{mix_told}
 use Rattle.af_told_law.proofs.PollNew.{polled_told}

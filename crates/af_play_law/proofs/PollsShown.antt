@@ -1,10 +1,9 @@
 -- In a round of all parties each cycle whose state was pushed before finds the last of those, and each later one finds that which the normal mixer's turn pushed.
-use Rattle.std.proofs.Common.{◌≡◌, ℕ, suc, ◌+◌, ◌<◌, ◌≤◌, nat_le, Bool, true, false, if◌then◌else◌, take, drop, List, [], ◌∷◌, ◌++◌, length, append-nil, append_assoc, Option, Some, None, refl, sym, ap, subst, ◌∙◌, arith}
+use Rattle.std.proofs.Common.{◌≡◌, ℕ, suc, ◌+◌, ◌<◌, ◌≤◌, nat_le, Bool, true, false, if◌then◌else◌, take, drop, List, [], ◌∷◌, ◌++◌, length, append-nil, append_assoc, refl, sym, ap, subst, ◌∙◌, arith}
 use Rattle.std.specs.List.{prefix_len}
 use Rattle.std.proofs.lemmas.Bool.{leb-false, leb-true}
-use Rattle.af_base.specs.declared.event.ServerEvent.{ServerEvent}
 use Rattle.af_base.specs.declared.state.FastState.{FastState}
-use Rattle.af_fast.specs.Mixer.{IsInOrder as IsFastInOrder, MixerState, is_over}
+use Rattle.af_fast.specs.Mixer.{IsInOrder as IsFastInOrder, MixerState}
 use Rattle.af_link.specs.declared.links.Links.{Links}
 use Rattle.af_link.specs.declared.names.StreamNames.{StreamNames}
 use Rattle.af_link.specs.PipeEnds.{SeesTaken}
@@ -12,16 +11,15 @@ use Rattle.af_link.specs.Reports.{ReaderSide}
 use Rattle.af_model.specs.declared.states.ObserverEvent.TheVariants as observer
 use Rattle.af_model.specs.Journals.{EntrySeen}
 use Rattle.af_model.specs.StateQueue.{HasHistory}
-use Rattle.af_normal.specs.State.{NormalState}
 use Rattle.af_server.specs.Order.{ServerState}
-use Rattle.af_stateq.specs.Ends.{Polls, Pushes}
+use Rattle.af_stateq.specs.Ends.{Pushes}
 use Rattle.af_stateq.specs.Observes.{Observes}
 use Rattle.af_rendering.specs.Leads.{Tells}
 use Rattle.af_session.specs.Met.{EndsMet}
 use Rattle.af_session.specs.Together.{SessionState}
 use Rattle.af_told_law.specs.Between.{StandsBetween}
 use Rattle.af_told_law.specs.Tells.{FindsLast}
-use Rattle.af_play_law.specs.Polls.{GrowsByTurn, Polled, Pushed}
+use Rattle.af_play_law.specs.Polls.{GrowsByTurn, Polled}
 use Rattle.af_play_law.proofs.Cycled.{CyclesAre, OneAdded, chain_grows}
 use Rattle.af_play_law.proofs.CyclesGrow.{EndsGrow, grow_both, mix_grows, once_grows}
 use Rattle.af_play_law.proofs.CyclesTold.{AllShown}
@@ -133,8 +131,7 @@ module _ (links : Links) (x u z : SessionState) (ends : EndsMet u.normal z.norma
   early_shown [] f g c order before behind h low = tt
   early_shown (e ∷ es) f g (next, one, c) order before behind h low =
       let rest : EndsGrow next u.fast = grow_both next g u.fast (chain_grows links es next g c) behind in
-      let now = early_found f next e one before rest order h low.0 in
-      (
+      let now = early_found f next e one before rest order h low.0 in (
         record { finds = now.0; history = now.1; sees = saw_here f next e one before rest },
         early_shown es next g c one.once.mixed_in.0 (grow_both x.fast f next before (once_grows links f next one.answer one.bytes one.once)) behind
             (subst (λ (o : Observes ServerState StreamNames). HasHistory m.first m.events o.past.events) (sym one.adds.takes.observer) now.1) low.1,
@@ -146,8 +143,7 @@ module _ (links : Links) (x u z : SessionState) (ends : EndsMet u.normal z.norma
   late_shown r tells [] f g c order before behind h late = tt
   late_shown r tells (e ∷ es) f g (next, one, c) order before behind h late =
       let rest : EndsGrow next u.fast = grow_both next g u.fast (chain_grows links es next g c) behind in
-      let now = late_found f next e one before rest tells order h late.0 in
-      (
+      let now = late_found f next e one before rest tells order h late.0 in (
         record {
           finds = record { number = now.0.number; new = now.0.new };
           history = subst (λ (first : FastState). HasHistory first u.normal.mutator.past.events one.once.polled.observer.past.events) (sym same_first) now.1;
@@ -181,4 +177,3 @@ module _ (links : Links) (n : ℕ) where
         late = (let is = number_is links f e next one in omega (arith, is, late));
         none = (λ is. absurd (let long : length (observer.SawNext p.observer.past.number added.state added.items ∷ (added.more ++ behind.polls)) ≡ 0 = ap (λ (l : Polled). length l) is in omega (arith, long)));
       }
-

@@ -1,26 +1,18 @@
 -- The clients' turns and the early entries of a round of all parties are told, and what the polls of the round show of the normal mixer's turn.
-use Rattle.std.proofs.Common.{◌≡◌, ◌⊎◌, inl, inr, ℕ, suc, ◌+◌, ◌<◌, ◌≤◌, ◌==◌, Bool, true, false, map, drop, List, [], ◌∷◌, ◌++◌, length, Option, Some, None, refl, sym, ap, subst, ◌∙◌, arith}
+use Rattle.std.proofs.Common.{◌≡◌, ◌⊎◌, inl, inr, ℕ, suc, ◌+◌, Bool, true, false, map, drop, List, [], ◌∷◌, ◌++◌, length, refl, sym, ap, subst, ◌∙◌, arith}
 use Rattle.std.specs.Bool.{MatchBool}
 use Rattle.std.specs.List.{AllZip}
-use Rattle.std.specs.Prelude.{slice_get}
 use Rattle.std.proofs.Math.Seq.{drop-append_seam}
-use Rattle.af_base.specs.declared.log.CycleEntry.{CycleEntry}
-use Rattle.af_base.specs.declared.state.FastState.{FastState}
 use Rattle.af_base.specs.Log.{Logged}
 use Rattle.af_fast.specs.Mixer.{IsInOrder as IsFastInOrder, MixerState}
 use Rattle.af_link.specs.declared.links.Links.{Links}
-use Rattle.af_link.specs.declared.names.StreamNames.{StreamNames}
 use Rattle.af_model.specs.declared.states.MutatorEvent.TheVariants as mutator
-use Rattle.af_model.specs.Cycles.{has_exit}
 use Rattle.af_model.specs.Journals.{EntrySeen, RoundSeen, entries_seen}
-use Rattle.af_model.specs.StateQueue.{HasHistory, observed}
+use Rattle.af_model.specs.StateQueue.{HasHistory}
 use Rattle.af_normal.specs.State.{NormalState}
-use Rattle.af_party.specs.Parties.{PartyState}
 use Rattle.af_runs.specs.Rounds.{before_turn, early_count, early_of, late_of}
 use Rattle.af_runs.specs.Runs.{Run, calls_in, with_calls}
 use Rattle.af_runs.specs.Sessions.{Session, cycle_frames}
-use Rattle.af_server.specs.Order.{ServerState}
-use Rattle.af_stateq.specs.Ends.{Pushes}
 use Rattle.af_rendering.proofs.QueueSeen.{SawUpTo}
 use Rattle.af_session.specs.Together.{AreTogether, SessionState}
 use Rattle.af_side_by_side.specs.Alone.{CyclesOn, most_cycles}

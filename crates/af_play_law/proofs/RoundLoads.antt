@@ -11,7 +11,7 @@ use Rattle.af_model.specs.declared.newest.WriterEvent.TheVariants.{Store}
 use Rattle.af_model.specs.declared.newest.WriterEvent.TheVariants as writes
 use Rattle.af_model.specs.NewestValue as newest
 use Rattle.af_model.specs.NewestValue.{HasHistory}
-use Rattle.af_model.specs.Order.{one, ones, two, twos}
+use Rattle.af_model.specs.Order.{ones, twos}
 use Rattle.af_model.specs.Reports.{no_report}
 use Rattle.af_normal.specs.State.{NormalState}
 use Rattle.af_judge.proofs.QueueSteps.{ones_met, twos_met}

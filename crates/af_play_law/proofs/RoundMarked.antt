@@ -1,14 +1,12 @@
 -- A round of all parties that pokes no lawful block leaves the lawful blocks of its run unpoked.
-use Rattle.std.proofs.Common.{◌≡◌, ℕ, ◌+◌, ◌<◌, ◌≤◌, ◌==◌, Bool, true, false, if◌then◌else◌, List, length, Option, Some, slice_get, refl, sym, ap, subst, ◌∙◌, arith}
+use Rattle.std.proofs.Common.{◌≡◌, ℕ, ◌<◌, ◌≤◌, ◌==◌, Bool, true, false, if◌then◌else◌, List, length, Some, slice_get, refl, sym, ap, subst, ◌∙◌, arith}
 use Rattle.std.proofs.lemmas.Bool.{eq-eqb}
-use Rattle.af_link.specs.declared.links.Links.{Links}
 use Rattle.af_model.specs.History.{is_lawful}
 use Rattle.af_model.specs.Journals.{RoundSeen}
 use Rattle.af_party.specs.Parties.{PartyState}
 use Rattle.af_runs.specs.Blocks.{BlockTold, Marks, is_tame}
 use Rattle.af_runs.specs.Clients.{ends}
 use Rattle.af_runs.specs.ClientTurns.{Track}
-use Rattle.af_runs.specs.Rounds.{after_round, all_played}
 use Rattle.af_runs.specs.Runs.{Run, TrackTold, called, calls_in, each_track, met, sides_of, stream_met, takes_part, told_at, with_calls, with_ends}
 use Rattle.af_runs.specs.Sessions.{Session, track_count}
 use Rattle.af_runs.specs.TurnRuns.{calls_alone}

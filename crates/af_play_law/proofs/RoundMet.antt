@@ -1,5 +1,5 @@
 -- The meetings at the end of a round of all parties: each front that a server saw which took part in them is its own, so that the lists have their histories and each turn of the round is legal.
-use Rattle.std.proofs.Common.{◌≡◌, ◌⊎◌, inl, inr, ℕ, zero, suc, ◌+◌, ◌<◌, ◌≤◌, ◌==◌, ◌&&◌, ◌||◌, Bool, true, false, true≢false, if◌then◌else◌, is_some, fold, map, drop, List, [], ◌∷◌, ◌++◌, length, length-append, append-nil, Option, Some, None, slice_get, refl, sym, ap, subst, ◌∙◌, arith}
+use Rattle.std.proofs.Common.{◌≡◌, ℕ, zero, suc, ◌+◌, ◌<◌, ◌≤◌, ◌==◌, ◌&&◌, ◌||◌, Bool, true, false, true≢false, if◌then◌else◌, is_some, fold, map, drop, List, [], ◌∷◌, ◌++◌, length, length-append, append-nil, Option, Some, None, slice_get, refl, sym, ap, subst, ◌∙◌, arith}
 use Rattle.std.specs.Bool.{MatchBool}
 use Rattle.std.specs.List.{AllZip, list_any, range_with_len}
 use Rattle.std.proofs.lemmas.Bool.{eq-eqb}
@@ -10,14 +10,12 @@ use Rattle.af_base.specs.declared.event.ServerEvent.{ServerEvent}
 use Rattle.af_base.specs.declared.event.ServerEvent.TheVariants as server
 use Rattle.af_base.specs.declared.event.ClientCall.{ClientCall}
 use Rattle.af_base.specs.declared.log.CycleEntry.{CycleEntry}
-use Rattle.af_base.specs.declared.state.FastState.{FastState}
 use Rattle.af_base.specs.Log.{slots}
 use Rattle.af_cblk.specs.Rule.{StartsWith}
 use Rattle.af_fast.specs.Mixer.{MixerState}
 use Rattle.af_life.specs.Kept.{NormalKept, is_home, track_at}
 use Rattle.af_link.specs.declared.links.Links.{Links}
 use Rattle.af_model.specs.declared.shape.Shape.{Shape}
-use Rattle.af_model.specs.Cycles.{has_exit}
 use Rattle.af_model.specs.History.{is_lawful}
 use Rattle.af_model.specs.Journals.{EntrySeen, RoundSeen, entries_seen}
 use Rattle.af_model.specs.ServerCalls.{ServerKept, server_begins, server_keeps}
@@ -28,8 +26,8 @@ use Rattle.af_party.specs.Parties.{PartyState, track_of}
 use Rattle.af_runs.specs.Blocks.{BlockTold, Marks, client_list, is_tame}
 use Rattle.af_runs.specs.Clients.{ends}
 use Rattle.af_runs.specs.ClientTurns.{LegalClientTurn, Track}
-use Rattle.af_runs.specs.Rounds.{AreLegalTurns, IsFastTurn, LegalEntries, LegalFastTurn, MayFollow, after_round, after_turn, all_played, before_turn, early_of, fills, late_of, met_after}
-use Rattle.af_runs.specs.Runs.{Run, TrackTold, all_ended, calls_in, each_track, fast_ended, met, sides_of, takes_part, told_at, with_calls, with_cycles, with_ends}
+use Rattle.af_runs.specs.Rounds.{AreLegalTurns, IsFastTurn, LegalEntries, LegalFastTurn, MayFollow, after_round, after_turn, all_played, before_turn, early_of, fills, late_of}
+use Rattle.af_runs.specs.Runs.{Run, TrackTold, all_ended, calls_in, each_track, met, sides_of, takes_part, told_at, with_calls, with_cycles, with_ends}
 use Rattle.af_runs.specs.Sessions.{Session, track_count}
 use Rattle.af_judge.proofs.BlocksMeet.{met_at, met_many}
 use Rattle.af_judge.proofs.EachTrack.{each_long, told_each}
@@ -38,12 +36,12 @@ use Rattle.af_rendering.specs.Leads.{LeadAway}
 use Rattle.af_session.specs.Met.{item_at}
 use Rattle.af_session.specs.Rounds.{file_at, ops_at}
 use Rattle.af_session.specs.Rounds as parties
-use Rattle.af_session.specs.Together.{AreTogether, SessionState}
+use Rattle.af_session.specs.Together.{SessionState}
 use Rattle.af_side_by_side.specs.Alone.{CyclesOn, most_cycles}
 use Rattle.af_side_by_side.specs.SideBySide.{ClientPlayed}
 use Rattle.af_told_law.specs.Deeds.{Deeds, GoOn, MetTold, SawOwnBy, SawOwnOf, deeds_met, done_on, met_deed}
 use Rattle.af_told_law.specs.Own.{SawOwn, SeesOwn}
-use Rattle.af_told_law.specs.Sizes.{AreSmall, IsSmallRun, IsTrackSmall}
+use Rattle.af_told_law.specs.Sizes.{IsSmallRun, IsTrackSmall}
 use Rattle.af_told_law.specs.Tells.{Tells, TellsServer, given_of, held_slot}
 use Rattle.af_told_law.proofs.AllMeet.{met_histories, some_at, tells_met}
 use Rattle.af_told_law.proofs.EndsTold.{ends_told}
@@ -286,7 +284,7 @@ module _ (links : Links) (s : Session) (run : Run) (d : Deeds) (x u z : SessionS
       clients = clients_legal;
       normal = (let told_early = early links s run d x u z bytes round stands w in
           (turn_told links s run d x u z bytes round stands w hears).legal marks (saw_back s marks (before_turn s run round) played (turn_told links s run d x u z bytes round stands w hears).deeds left
-              (shapes_same links s (before_turn s run round) played (shapes_told links s (before_turn s run round) told_early.deeds _ told_early.may.told told_early.may.together) shapes_played) goes_turn saw));
+          (shapes_same links s (before_turn s run round) played (shapes_told links s (before_turn s run round) told_early.deeds _ told_early.may.told told_early.may.together) shapes_played) goes_turn saw));
       fast = fast_legal;
     }
 

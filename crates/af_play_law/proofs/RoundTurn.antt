@@ -1,7 +1,6 @@
 -- The normal mixer's turn in a round of all parties, behind the early entries: the run with it tells the session but for the load of the report, and it is legal by marks on whose blocks each front seen is a server's own.
-use Rattle.std.proofs.Common.{◌≡◌, ℕ, ◌+◌, ◌<◌, ◌≤◌, Bool, true, false, List, [], ◌∷◌, ◌++◌, length, refl, sym, ap, subst, ◌∙◌, arith}
-use Rattle.af_base.specs.declared.state.FastState.{FastState}
-use Rattle.af_base.specs.Turn.{Turn, turn_of}
+use Rattle.std.proofs.Common.{◌≡◌, ◌+◌, ◌<◌, Bool, true, false, [], ◌∷◌, ◌++◌, refl}
+use Rattle.af_base.specs.Turn.{turn_of}
 use Rattle.af_life.specs.Kept.{Outside}
 use Rattle.af_link.specs.declared.links.Links.{Links}
 use Rattle.af_model.specs.declared.states.MutatorEvent.TheVariants as mutator
@@ -15,14 +14,12 @@ use Rattle.af_runs.specs.Runs.{Run, pipe_cells, with_turn}
 use Rattle.af_runs.specs.Sessions.{Session, cycle_frames, setup_of}
 use Rattle.af_rendering.specs.Leads.{Leads, Tells as TellsPushes}
 use Rattle.af_rendering.proofs.NormalSteps.{turn_same, turn_tells, turned_leads}
-use Rattle.af_rendering.proofs.Quiet.{IsQuiet}
 use Rattle.af_rendering.proofs.QueueSeen.{SawUpTo}
 use Rattle.af_session.specs.Together.{AreTogether, SessionState}
 use Rattle.af_told_law.specs.Between.{StandsBefore}
 use Rattle.af_told_law.specs.Deeds.{Deeds, GoOn, SawOwnBy, commands_by, stream_by}
 use Rattle.af_told_law.specs.NormalLaws.{PartsTold, TurnShown, did_by}
 use Rattle.af_told_law.specs.QueueTurned.{QueueKnown}
-use Rattle.af_told_law.specs.Tells.{Tells}
 use Rattle.af_told_law.proofs.NormalGoes.{turn_leaves}
 use Rattle.af_told_law.proofs.NormalRound.{known_now, legal_now, tells_turned}
 use Rattle.af_told_law.proofs.PartsTold.{parts_told}

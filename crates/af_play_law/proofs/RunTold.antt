@@ -1,22 +1,21 @@
 -- The rounds of a play are told one after the other: each is legal up to the last meetings of the streams.
-use Rattle.std.proofs.Common.{◌≡◌, ◌⊎◌, inl, inr, ⊎_elim, ℕ, ◌+◌, ◌<◌, ◌≤◌, ◌&&◌, ◌||◌, Bool, true, false, true≢false, List, [], ◌∷◌, ◌++◌, length, refl, sym, ap, subst, ◌∙◌, arith}
-use Rattle.std.proofs.lemmas.Bool.{and_parts, false_from_ne_true}
+use Rattle.std.proofs.Common.{◌≡◌, ◌⊎◌, inl, inr, ⊎_elim, ℕ, ◌<◌, ◌||◌, Bool, true, false, true≢false, List, [], ◌∷◌, refl, sym, subst, arith}
+use Rattle.std.proofs.lemmas.Bool.{and_parts}
 use Rattle.af_link.specs.declared.links.Links.{Links}
 use Rattle.af_model.specs.declared.shape.Shape.{Shape}
 use Rattle.af_model.specs.Journals.{RoundSeen}
-use Rattle.af_runs.specs.Blocks.{Marks, is_tame}
-use Rattle.af_runs.specs.LegalRuns.{run_from}
-use Rattle.af_runs.specs.Rounds.{LegalRound, after_round, all_played}
-use Rattle.af_runs.specs.Runs.{Run, all_ended, takes_part, told_at}
+use Rattle.af_runs.specs.Blocks.{Marks}
+use Rattle.af_runs.specs.Rounds.{after_round, all_played}
+use Rattle.af_runs.specs.Runs.{Run, takes_part, told_at}
 use Rattle.af_runs.specs.Sessions.{Session, track_count}
 use Rattle.af_session.specs.Rounds.{with_ends}
 use Rattle.af_session.specs.Together.{SessionState}
-use Rattle.af_told_law.specs.Deeds.{Deeds, GoOn, SawOwnBy, SawOwnOf}
+use Rattle.af_told_law.specs.Deeds.{Deeds, SawOwnBy, SawOwnOf}
 use Rattle.af_told_law.specs.Marked.{IsMarkedRun, IsRoundMarked}
 use Rattle.af_told_law.specs.Tells.{Tells}
-use Rattle.af_play_law.specs.PlayRuns.{AlwaysForeseen, PlayHolds, PlaysOn, RunIsTold, RunsAreTold, SureRounds, all_over, meets_from, sure_marks}
-use Rattle.af_play_law.specs.RoundPlayed.{HearsForeseen, PlayStands, RoundPlayed}
-use Rattle.af_play_law.specs.Rounds.{RoundIsTold, RoundStands}
+use Rattle.af_play_law.specs.PlayRuns.{AlwaysForeseen, PlayHolds, PlaysOn, RunIsTold, RunsAreTold, all_over, meets_from, sure_marks}
+use Rattle.af_play_law.specs.RoundPlayed.{HearsForeseen, RoundPlayed}
+use Rattle.af_play_law.specs.Rounds.{RoundStands}
 use Rattle.af_play_law.proofs.AfterTurn.{late_told}
 use Rattle.af_play_law.proofs.CyclesTold.{SameShapes, go_none, go_then, saw_first}
 use Rattle.af_play_law.proofs.GoingOn.{still_going}

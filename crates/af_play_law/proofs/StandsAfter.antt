@@ -1,5 +1,5 @@
 -- What stands between two rounds of a play stands again after a round of all parties.
-use Rattle.std.proofs.Common.{◌≡◌, ℕ, ◌+◌, ◌<◌, ◌≤◌, Bool, true, false, if◌then◌else◌, List, [], ◌∷◌, ◌++◌, length, Option, Some, None, refl, sym, ap, subst, ◌∙◌, arith}
+use Rattle.std.proofs.Common.{◌≡◌, ℕ, ◌<◌, ◌≤◌, Bool, true, false, List, [], ◌∷◌, ◌++◌, length, sym, ap, subst, ◌∙◌, arith}
 use Rattle.std.specs.Bool.{MatchBool}
 use Rattle.af_base.specs.declared.state.FastState.{FastState}
 use Rattle.af_base.specs.Turn.{turn_of}
@@ -16,8 +16,8 @@ use Rattle.af_model.specs.declared.states.ObserverEvent.TheVariants as observer
 use Rattle.af_model.specs.Journals.{RoundSeen}
 use Rattle.af_model.specs.StateQueue.{HasHistory, observed}
 use Rattle.af_normal.specs.State.{NormalState, kept_of, setup_of}
-use Rattle.af_runs.specs.Rounds.{after_round, all_played, late_of, met_after}
-use Rattle.af_runs.specs.Runs.{Run, met, with_ends}
+use Rattle.af_runs.specs.Rounds.{after_round, all_played}
+use Rattle.af_runs.specs.Runs.{Run, met}
 use Rattle.af_runs.specs.Sessions.{Session, cycle_frames}
 use Rattle.af_server.specs.Order.{ServerState}
 use Rattle.af_stateq.specs.Ends.{Polls, Pushes}
@@ -32,13 +32,12 @@ use Rattle.af_side_by_side.specs.SideBySide.{TurnPlayed}
 use Rattle.af_told_law.specs.Between.{StandsBetween}
 use Rattle.af_told_law.specs.Deeds.{Deeds}
 use Rattle.af_told_law.specs.MixLaws.{TookCounted}
-use Rattle.af_told_law.specs.QueueTurned.{QueueKnown, ReportMet}
+use Rattle.af_told_law.specs.QueueTurned.{QueueKnown}
 use Rattle.af_told_law.proofs.KnownSteps.{Quiet, known_same, quiet_ends, quiet_met, quiet_then, report_ends}
 use Rattle.af_play_law.specs.RoundPlayed.{HearsForeseen, PlayStands, RoundPlayed}
 use Rattle.af_play_law.specs.Rounds.{RoundStands, RoundsAreTold}
-use Rattle.af_play_law.proofs.AfterTurn.{late_told, same_end, turn_told}
+use Rattle.af_play_law.proofs.AfterTurn.{same_end, turn_told}
 use Rattle.af_play_law.proofs.ReportsCount.{after_counts}
-use Rattle.af_play_law.proofs.RoundCycles.{cycles}
 use Rattle.af_play_law.proofs.RoundLoaded.{known_all}
 use Rattle.af_play_law.proofs.RoundMet.{lead, round_told, small_after}
 use Rattle.af_play_law.proofs.RoundPipe.{took_met}

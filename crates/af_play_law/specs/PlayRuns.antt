@@ -6,7 +6,7 @@ use Rattle.af_model.specs.Journals.{RoundSeen}
 use Rattle.af_party.specs.Parties.{PartyState}
 use Rattle.af_runs.specs.Blocks.{Marks}
 use Rattle.af_runs.specs.LegalRuns.{run_from}
-use Rattle.af_runs.specs.Rounds.{LegalRound, after_round, all_played, found_in}
+use Rattle.af_runs.specs.Rounds.{LegalRound, after_round, all_played}
 use Rattle.af_runs.specs.Runs.{Run, takes_part, told_at}
 use Rattle.af_runs.specs.Sessions.{Session, track_count}
 use Rattle.af_session.specs.Rounds.{with_ends}
