@@ -31,3 +31,4 @@ pub mod AwaySlots
 pub mod Foretold
 pub mod ForetoldRound
 pub mod CarriedRound
+pub mod Foreseen

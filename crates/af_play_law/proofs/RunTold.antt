@@ -13,11 +13,12 @@ use Rattle.af_session.specs.Together.{SessionState}
 use Rattle.af_told_law.specs.Deeds.{Deeds, SawOwnBy, SawOwnOf}
 use Rattle.af_told_law.specs.Marked.{IsMarkedRun, IsRoundMarked}
 use Rattle.af_told_law.specs.Tells.{Tells}
-use Rattle.af_play_law.specs.PlayRuns.{AlwaysForeseen, PlayHolds, PlaysOn, RunIsTold, RunsAreTold, all_over, meets_from, sure_marks}
+use Rattle.af_play_law.specs.PlayRuns.{PlayHolds, PlaysOn, RunIsTold, RunsAreTold, all_over, meets_from, sure_marks}
 use Rattle.af_play_law.specs.RoundPlayed.{HearsForeseen, RoundPlayed}
 use Rattle.af_play_law.specs.Rounds.{RoundStands}
 use Rattle.af_play_law.proofs.AfterTurn.{late_told}
 use Rattle.af_play_law.proofs.CyclesTold.{SameShapes, go_none, go_then, saw_first}
+use Rattle.af_play_law.proofs.Foreseen.{hears_foreseen}
 use Rattle.af_play_law.proofs.GoingOn.{still_going}
 use Rattle.af_play_law.proofs.RoundCycles.{may_called}
 use Rattle.af_play_law.proofs.RoundLoaded.{told_loaded}
@@ -94,12 +95,12 @@ module _ (s : Session) (marks : Marks) where
             (saw_first (told_at played i).stream.shape (deeds.streams i) (d.streams i) (told.told.left.goes.streams i) (saw_stream i low on meets)));
       }
 
-  run_told : AlwaysForeseen s → (rounds : List RoundSeen) (run : Run) (d : Deeds) (x t : SessionState) → PlayHolds s marks run d x → PlaysOn s marks x rounds t → RunIsTold s marks run d rounds t
-  run_told foreseen [] run d x t holds same = record { deeds = d; goes = go_none d; holds = subst (PlayHolds s marks run d) (sym same) holds; sure = tt; saw = (λ i low on meets. absurd (true≢false (sym meets))) }
-  run_told foreseen (round ∷ rounds) run d x t holds (links, u, z, bytes, goes, free, w, rest) =
-      let hears = foreseen links run d x u z bytes round holds.stands w in
+  run_told : (rounds : List RoundSeen) (run : Run) (d : Deeds) (x t : SessionState) → PlayHolds s marks run d x → PlaysOn s marks x rounds t → RunIsTold s marks run d rounds t
+  run_told [] run d x t holds same = record { deeds = d; goes = go_none d; holds = subst (PlayHolds s marks run d) (sym same) holds; sure = tt; saw = (λ i low on meets. absurd (true≢false (sym meets))) }
+  run_told (round ∷ rounds) run d x t holds (links, u, z, bytes, goes, free, w, rest) =
+      let hears = hears_foreseen links s run d x u z bytes round holds.stands w holds.stands.carried in
       one_and links run d x u z t bytes round rounds holds goes free w hears
-      (run_told foreseen rounds (after_round s run round) _ (with_ends z) t (holds_after links run d x u z t bytes round rounds holds goes free w hears) rest)
+      (run_told rounds (after_round s run round) _ (with_ends z) t (holds_after links run d x u z t bytes round rounds holds goes free w hears) rest)
 
 pub runs_told : (s : Session) → RunsAreTold s
-runs_told s foreseen marks rounds run d x t holds on = run_told s marks foreseen rounds run d x t holds on
+runs_told s marks rounds run d x t holds on = run_told s marks rounds run d x t holds on

@@ -1,12 +1,13 @@
 -- What stands between two rounds of a play stands again after a round of all parties.
-use Rattle.std.proofs.Common.{◌≡◌, ℕ, ◌<◌, ◌≤◌, Bool, true, false, List, [], ◌∷◌, ◌++◌, length, sym, ap, subst, ◌∙◌, arith}
+use Rattle.std.proofs.Common.{◌≡◌, ℕ, ◌<◌, ◌≤◌, Bool, true, false, List, [], ◌∷◌, ◌++◌, length, sym, ap, subst, ◌∙◌, arith, All}
 use Rattle.std.specs.Bool.{MatchBool}
 use Rattle.af_base.specs.declared.state.FastState.{FastState}
 use Rattle.af_base.specs.Turn.{turn_of}
 use Rattle.af_cblk.specs.Sides.{Made}
 use Rattle.af_fast.specs.Mixer.{MixerState}
 use Rattle.af_life.specs.Heard.{learnt}
-use Rattle.af_life.specs.Kept.{NormalKept}
+use Rattle.af_life.specs.declared.kept.Setting.{Setting}
+use Rattle.af_life.specs.Kept.{NormalKept, Setup}
 use Rattle.af_link.specs.declared.links.Links.{Links}
 use Rattle.af_link.specs.declared.names.StreamNames.{StreamNames}
 use Rattle.af_model.specs.declared.states.MutatorEvent.{MutatorEvent}
@@ -18,7 +19,8 @@ use Rattle.af_model.specs.StateQueue.{HasHistory, observed}
 use Rattle.af_normal.specs.State.{NormalState, kept_of, setup_of}
 use Rattle.af_runs.specs.Rounds.{after_round, all_played}
 use Rattle.af_runs.specs.Runs.{Run, met}
-use Rattle.af_runs.specs.Sessions.{Session, cycle_frames}
+use Rattle.af_runs.specs.Sessions.{Session, cycle_frames, setup_of as script_setup_of}
+use Rattle.af_judge.specs.StatesKept.{Carried}
 use Rattle.af_server.specs.Order.{ServerState}
 use Rattle.af_stateq.specs.Ends.{Polls, Pushes}
 use Rattle.af_rendering.specs.Leads.{InStep, Leads, Tells as TellsPushes}
@@ -36,6 +38,8 @@ use Rattle.af_told_law.specs.QueueTurned.{QueueKnown}
 use Rattle.af_told_law.proofs.KnownSteps.{Quiet, known_same, quiet_ends, quiet_met, quiet_then, report_ends}
 use Rattle.af_play_law.specs.RoundPlayed.{HearsForeseen, PlayStands, RoundPlayed}
 use Rattle.af_play_law.specs.Rounds.{RoundStands, RoundsAreTold}
+use Rattle.af_play_law.proofs.CarriedRound.{carried_round}
+use Rattle.af_play_law.proofs.Foreseen.{hears_foreseen}
 use Rattle.af_play_law.proofs.AfterTurn.{same_end, turn_told}
 use Rattle.af_play_law.proofs.ReportsCount.{after_counts}
 use Rattle.af_play_law.proofs.RoundLoaded.{known_all}
@@ -114,6 +118,15 @@ module _ (links : Links) (s : Session) (run : Run) (d : Deeds) (x u z : SessionS
   counted : TookCounted y.fast
   counted = subst TookCounted (sym same_fast) (took_met z.fast.pipe.pass.part.shape.frames z.normal.pipe.pass.part.events z.normal.pipe.pass.part.frames z.fast.pipe.pass.part.events z.fast.pipe.pass.part.frames w.meets.ends.histories.pipe)
 
+  -- what the states carry is kept
+  carried_now : Carried (after_round s run round).normal
+  carried_now =
+      let sizes = w.before.normal.tied.sizes in
+      let scales : All (λ (t : Setting). t.scale ≤ 4096) (script_setup_of s).settings = subst (λ (c : Setup). All (λ (t : Setting). t.scale ≤ 4096) c.settings) stands.told.normal.setup sizes.scales in
+      let few : length run.normal.tracks ≤ length (script_setup_of s).settings =
+      (let a = sizes.settings in let b = ap (λ (c : Setup). length c.settings) stands.told.normal.setup in let c = ap (λ (k : NormalKept). length k.tracks) stands.told.normal.kept in omega (arith, a, b, c)) in
+      carried_round s scales run round few stands.carried
+
   pub stands_after : PlayStands s (after_round s run round) (round_told links s run d x u z bytes round stands w hears).left.deeds y
   stands_after = record {
     told = (round_told links s run d x u z bytes round stands w hears).left.told;
@@ -124,10 +137,11 @@ module _ (links : Links) (s : Session) (run : Run) (d : Deeds) (x u z : SessionS
     cells = ap (λ (n : NormalState). n.pipe.pass.part.shape.cells) same_normal ∙ ap (λ (b : Made). b.shape.cells) (w.met.normal.tied.linked.pipe_is ∙ sym w.before.normal.tied.linked.pipe_is) ∙ stands.cells;
     small = small_after links s run d x u z bytes round stands w hears;
     counts = after_counts s run round stands.counts;
+    carried = carried_now;
   }
 
   pub round_stands : RoundStands s run d round y
   round_stands = record { told = round_told links s run d x u z bytes round stands w hears; stands = stands_after }
 
 pub rounds_told : (s : Session) → RoundsAreTold s
-rounds_told s links run d x u z bytes round stands w hears = round_stands links s run d x u z bytes round stands w hears
+rounds_told s links run d x u z bytes round stands w = round_stands links s run d x u z bytes round stands w (hears_foreseen links s run d x u z bytes round stands w stands.carried)

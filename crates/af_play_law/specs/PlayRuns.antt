@@ -13,7 +13,7 @@ use Rattle.af_session.specs.Rounds.{with_ends}
 use Rattle.af_session.specs.Together.{SessionState}
 use Rattle.af_told_law.specs.Deeds.{Deeds, GoOn, SawOwnOf}
 use Rattle.af_told_law.specs.Marked.{IsMarkedRun, IsRoundMarked}
-use Rattle.af_play_law.specs.RoundPlayed.{HearsForeseen, PlayStands, RoundPlayed}
+use Rattle.af_play_law.specs.RoundPlayed.{PlayStands, RoundPlayed}
 
 -- ## Rounds of a session
 
@@ -25,10 +25,6 @@ all_over x = x.normal.ended && (x.fast.exited && list_all (λ (p : PartyState). 
 abbrev pub PlaysOn : Session → Marks → SessionState → List RoundSeen → SessionState → Type 0
 PlaysOn s marks x [] t = t ≡ x
 PlaysOn s marks x (round ∷ rounds) t = (links : Links) × (u : SessionState) × (z : SessionState) × (bytes : List ℕ) × (all_over x ≡ false) × IsRoundMarked marks round.calls × RoundPlayed links s x u z bytes round × PlaysOn s marks (with_ends z) rounds t
-
--- the normal mixer hears what the run foresees in each round of a session that the run tells
-abbrev pub AlwaysForeseen : Session → Type 0
-AlwaysForeseen s = (links : Links) (run : Run) (d : Deeds) (x u z : SessionState) (bytes : List ℕ) (round : RoundSeen) → PlayStands s run d x → RoundPlayed links s x u z bytes round → HearsForeseen s run x u round
 
 -- ## The blocks of which is known what their servers saw
 
@@ -61,6 +57,6 @@ pub record RunIsTold (s : Session) (marks : Marks) (run : Run) (d : Deeds) (roun
   pub sure : SureRounds s marks run rounds
   pub saw : (i : ℕ) → i < track_count s → marks.streams i ≡ true → meets_from s run rounds i ≡ true → SawOwnOf (told_at run i).stream.shape (d.streams i)
 
--- so they are for each session and each marks, where the normal mixer hears what the run foresees
+-- so they are for each session and each marks
 abbrev pub RunsAreTold : Session → Type 0
-RunsAreTold s = AlwaysForeseen s → (marks : Marks) (rounds : List RoundSeen) (run : Run) (d : Deeds) (x t : SessionState) → PlayHolds s marks run d x → PlaysOn s marks x rounds t → RunIsTold s marks run d rounds t
+RunsAreTold s = (marks : Marks) (rounds : List RoundSeen) (run : Run) (d : Deeds) (x t : SessionState) → PlayHolds s marks run d x → PlaysOn s marks x rounds t → RunIsTold s marks run d rounds t

@@ -1,6 +1,7 @@
 -- A round of all parties of which a run tells what came before.
 use Rattle.std.specs.Prelude.{◌≡◌, ℕ, ◌<◌, List, length, drop, slice_get, Some}
 use Rattle.af_base.specs.Turn.{turn_of}
+use Rattle.af_judge.specs.StatesKept.{Carried}
 use Rattle.af_life.specs.Kept.{Outside}
 use Rattle.af_link.specs.declared.links.Links.{Links}
 use Rattle.af_model.specs.Journals.{RoundSeen, entries_seen}
@@ -32,7 +33,7 @@ pub record ReportsCount (run : Run) : Type 0 where
   pub many : length run.reports ≡ length run.entries
   pub cycles : CountUp 0 run.reports
 
--- what holds between two rounds: the run tells the session, the ends of the queue and of the report met, and what the run tells is counted and small
+-- what holds between two rounds: the run tells the session, the ends of the queue and of the report met, what the run tells is counted and small, and what the draft and the last state carry is away
 pub record PlayStands (s : Session) (run : Run) (d : Deeds) (x : SessionState) : Type 0 where
   pub told : Tells s run d x
   pub stands : StandsBetween x
@@ -42,6 +43,7 @@ pub record PlayStands (s : Session) (run : Run) (d : Deeds) (x : SessionState) :
   pub cells : x.normal.pipe.pass.part.shape.cells ≡ pipe_cells (setup_of s)
   pub small : IsSmallRun run
   pub counts : ReportsCount run
+  pub carried : Carried run.normal
 
 -- the log had room, all parties made their turns, from x to u, and met, by which they were z, and the journal notes the round
 pub record RoundPlayed (links : Links) (s : Session) (x u z : SessionState) (bytes : List ℕ) (round : RoundSeen) : Type 0 where

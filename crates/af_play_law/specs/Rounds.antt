@@ -10,7 +10,7 @@ use Rattle.af_session.specs.Rounds.{with_ends}
 use Rattle.af_session.specs.Together.{SessionState}
 use Rattle.af_told_law.specs.Deeds.{Deeds, SawOwnBy, SawOwnOf}
 use Rattle.af_told_law.specs.Tells.{Leaves}
-use Rattle.af_play_law.specs.RoundPlayed.{HearsForeseen, PlayStands, RoundPlayed}
+use Rattle.af_play_law.specs.RoundPlayed.{PlayStands, RoundPlayed}
 
 -- A round of all parties, from run and the servers' lists d to the session y: the run with it tells y, and where some party went on the round is legal by any marks on whose blocks each front seen is a server's own. Of each server that took part in the meetings each front that it saw is its own, where its client hadn't poked
 pub record RoundIsTold (s : Session) (run : Run) (d : Deeds) (round : RoundSeen) (y : SessionState) : Type 0 where
@@ -24,6 +24,6 @@ pub record RoundStands (s : Session) (run : Run) (d : Deeds) (round : RoundSeen)
   pub told : RoundIsTold s run d round y
   pub stands : PlayStands s (after_round s run round) told.left.deeds y
 
--- so is each round of all parties, where the normal mixer heard what the run foresees
+-- so is each round of all parties
 abbrev pub RoundsAreTold : Session → Type 0
-RoundsAreTold s = (links : Links) (run : Run) (d : Deeds) (x u z : SessionState) (bytes : List ℕ) (round : RoundSeen) → PlayStands s run d x → RoundPlayed links s x u z bytes round → HearsForeseen s run x u round → RoundStands s run d round (with_ends z)
+RoundsAreTold s = (links : Links) (run : Run) (d : Deeds) (x u z : SessionState) (bytes : List ℕ) (round : RoundSeen) → PlayStands s run d x → RoundPlayed links s x u z bytes round → RoundStands s run d round (with_ends z)

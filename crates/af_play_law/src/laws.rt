@@ -20,12 +20,12 @@ pub fn a_load_shows_the_report_of_its_number()
     ensures { LoadsShowTheirNumber }
 {}
 
-/// A round in which all parties act at the same time is told by its journal: the run with it tells the session after it, and where some party went on the round is legal by marks on whose blocks each front seen is a server's own; what stood before it stands again. Asked is that of the proxies on their way the normal mixer heard what the run foresees.
+/// A round in which all parties act at the same time is told by its journal: the run with it tells the session after it, and where some party went on the round is legal by marks on whose blocks each front seen is a server's own; what stood before it stands again.
 pub fn a_round_of_all_parties_is_told()
     ensures { (s : Session) → RoundsAreTold s }
 {}
 
-/// The rounds of a play are told one after the other, and each is legal: of each stream the fronts up to its last meeting are its server's own, and of each command block all are. Asked is that of the proxies on their way the normal mixer always hears what the run foresees.
+/// The rounds of a play are told one after the other, and each is legal: of each stream the fronts up to its last meeting are its server's own, and of each command block all are.
 pub fn the_rounds_of_a_play_are_told()
     ensures { (s : Session) → RunsAreTold s }
 {}
