@@ -1,8 +1,8 @@
 -- Of the proxies that aren't home the report which the normal mixer loads in a round of all parties says what the run foresees by the draft before the turn.
-use Rattle.std.proofs.Common.{◌≡◌, ◌⊎◌, inl, inr, ⊎_elim, ℕ, suc, ◌+◌, ◌<◌, ◌≤◌, ◌||◌, ◌&&◌, Bool, true, false, true≢false, if◌then◌else◌, map, All, List, [], ◌∷◌, ◌++◌, length, length-append, drop, Option, Some, None, refl, sym, ap, subst, ◌∙◌, arith}
+use Rattle.std.proofs.Common.{◌≡◌, ◌⊎◌, ⊎_elim, ℕ, suc, ◌+◌, ◌<◌, ◌≤◌, ◌||◌, ◌&&◌, Bool, true, false, true≢false, if◌then◌else◌, All, List, [], ◌∷◌, ◌++◌, length, length-append, drop, Some, refl, sym, ap, subst, ◌∙◌, arith}
 use Rattle.std.specs.Bool.{MatchBool}
 use Rattle.std.specs.List.{AllByRecursion, prefix_len}
-use Rattle.std.specs.Prelude.{max, min, nat_le}
+use Rattle.std.specs.Prelude.{max, nat_le}
 use Rattle.std.proofs.lemmas.Bool.Decides.{nat_tests}
 use Rattle.std.proofs.lemmas.Grind.{fold-append}
 use Rattle.std.proofs.lemmas.List.{take-append-drop}
@@ -28,22 +28,21 @@ use Rattle.af_normal.specs.State.{NormalState, kept_of, setup_of as mixer_setup}
 use Rattle.af_normal.specs.TurnMade.{TurnMade, answer_of}
 use Rattle.af_runs.specs.Blocks.{Marks}
 use Rattle.af_runs.specs.Found.{LegalTurnBy, TurnFound}
-use Rattle.af_runs.specs.Rounds.{LegalEntries, before_turn, early_count, early_of, found_in, is_early, late_of}
-use Rattle.af_runs.specs.Runs.{Run, load_of, most_cycles as round_cycles, report_of, with_calls, with_cycles, with_turn}
-use Rattle.af_runs.specs.Sessions.{Session, cycle_frames, setup_of, track_count}
+use Rattle.af_runs.specs.Rounds.{before_turn, early_count, early_of, found_in, is_early, late_of}
+use Rattle.af_runs.specs.Runs.{Run, load_of, report_of, with_calls, with_cycles, with_turn}
+use Rattle.af_runs.specs.Sessions.{Session, setup_of}
 use Rattle.af_judge.specs.StatesKept.{Carried}
-use Rattle.af_judge.proofs.EntriesFollow.{cycles_beside}
-use Rattle.af_judge.proofs.StatesRuns.{before_same, calls_same}
+use Rattle.af_judge.proofs.StatesRuns.{before_same}
 use Rattle.af_audit.proofs.DoneTracks.{IsDone}
 use Rattle.af_audit.proofs.LateRuns.{FirstLate}
-use Rattle.af_session.specs.Together.{AreTogether, SessionState}
+use Rattle.af_session.specs.Together.{SessionState}
 use Rattle.af_side_by_side.specs.Alone.{CyclesOn, most_cycles}
 use Rattle.af_side_by_side.specs.SideBySide.{TurnPlayed}
 use Rattle.af_rendering.specs.Leads.{Tells as TellsPushes}
 use Rattle.af_told_law.specs.Deeds.{Deeds, SawOwnBy}
-use Rattle.af_told_law.specs.NormalLaws.{HearsFound, TurnShown}
+use Rattle.af_told_law.specs.NormalLaws.{TurnShown}
 use Rattle.af_told_law.specs.Outsides.{HeardAlike}
-use Rattle.af_told_law.specs.Tells.{Tells, reports_stored}
+use Rattle.af_told_law.specs.Tells.{reports_stored}
 use Rattle.af_play_law.specs.Loads.{LoadsOneOf, MetLast}
 use Rattle.af_play_law.specs.RoundPlayed.{HearsForeseen, PlayStands, ReportsCount, RoundPlayed}
 use Rattle.af_play_law.proofs.AfterTurn.{finds, front_shown}
@@ -51,14 +50,12 @@ use Rattle.af_play_law.proofs.Cycled.{CyclesAre}
 use Rattle.af_play_law.proofs.CyclesGrow.{EndsGrow, turned_grows}
 use Rattle.af_play_law.proofs.CyclesTold.{AllShown, CyclesTold, cycles_told}
 use Rattle.af_play_law.proofs.ForetoldRound.{number_foretold, slot_foretold}
-use Rattle.af_play_law.proofs.OneCycle.{MayCycle}
 use Rattle.af_play_law.proofs.PollsShown.{all_late, late_shown}
 use Rattle.af_play_law.proofs.ReportsCount.{calls_count, cycles_count, turn_counts}
 use Rattle.af_play_law.proofs.RoundCycles.{cycles, early, first_is, grown_end, grown_half, grows_is, half, halfway, known_half, late, late_start, later, order_half, parts, saw_half, stands_half, together_turned}
 use Rattle.af_play_law.proofs.RoundForm.{cycles_added}
 use Rattle.af_play_law.proofs.RoundLoads.{loaded_found, met_before, round_loads}
 use Rattle.af_play_law.proofs.RoundTurn.{TurnLeft, turn_left, unread}
-use Rattle.af_play_law.proofs.TurnApart.{told_marked}
 
 -- no block is called lawful
 abbrev no_marks : Marks

@@ -32,3 +32,5 @@ pub mod Foretold
 pub mod ForetoldRound
 pub mod CarriedRound
 pub mod Foreseen
+pub mod PlayEnds
+pub mod PlayTold

@@ -4,3 +4,4 @@ pub mod RoundPlayed
 pub mod Rounds
 pub mod PlayRuns
 pub mod AwaySlots
+pub mod PlayLaws

@@ -1,5 +1,6 @@
 //! What holds of every round in which all parties act at the same time.
 ghost use Rattle.af_play_law.specs.Loads.{LoadsShowTheirNumber};
+ghost use Rattle.af_play_law.specs.PlayLaws.{PlaysAreToldAlone};
 ghost use Rattle.af_play_law.specs.PlayRuns.{RunsAreTold};
 ghost use Rattle.af_play_law.specs.Polls.{PollsFindOneOfTwo, PollsStandBeforePush};
 ghost use Rattle.af_play_law.specs.Rounds.{RoundsAreTold};
@@ -28,4 +29,9 @@ pub fn a_round_of_all_parties_is_told()
 /// The rounds of a play are told one after the other, and each is legal: of each stream the fronts up to its last meeting are its server's own, and of each command block all are.
 pub fn the_rounds_of_a_play_are_told()
     ensures { (s : Session) → RunsAreTold s }
+{}
+
+/// The rounds of a play that has ended are by themselves those of a run of the script and its files, whatever the threads did.
+pub fn a_play_is_told_by_its_journal()
+    ensures { PlaysAreToldAlone }
 {}
