@@ -35,7 +35,7 @@ pub record EndsGrow (m m' : MixerState) : Type 0 where
   pub taken : m'.pipe.pass.part.events ≡ m.pipe.pass.part.events ++ takes
 
 -- by nothing
-grow_none : (m m' : MixerState) → m'.observer.past.events ≡ m.observer.past.events → m'.writer.events ≡ m.writer.events → m'.pipe.pass.part.events ≡ m.pipe.pass.part.events → EndsGrow m m'
+pub grow_none : (m m' : MixerState) → m'.observer.past.events ≡ m.observer.past.events → m'.writer.events ≡ m.writer.events → m'.pipe.pass.part.events ≡ m.pipe.pass.part.events → EndsGrow m m'
 grow_none m m' polled stored taken = record {
   polls = [];
   polled = polled ∙ sym (append-nil m.observer.past.events);

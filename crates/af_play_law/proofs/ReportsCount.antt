@@ -1,5 +1,5 @@
 -- Each report of a run tells the number of entries that it is of.
-use Rattle.std.proofs.Common.{◌≡◌, ℕ, ◌+◌, Bool, true, false, if◌then◌else◌, List, [], ◌∷◌, ◌++◌, length, length-append, Option, Some, None, refl, subst, arith}
+use Rattle.std.proofs.Common.{◌≡◌, ℕ, Bool, true, false, if◌then◌else◌, List, [], ◌∷◌, length, length-append, Option, Some, None, refl, subst, arith}
 use Rattle.af_base.specs.declared.log.CycleEntry.{CycleEntry}
 use Rattle.af_base.specs.declared.report.Report.{Report}
 use Rattle.af_base.specs.Turn.{Turn}
@@ -9,12 +9,9 @@ use Rattle.af_runs.specs.Rounds.{after_round, after_turn, all_played, before_tur
 use Rattle.af_runs.specs.Clients.{ends}
 use Rattle.af_runs.specs.Runs.{Run, TrackTold, each_track, met, new_run, next_report, with_calls, with_cycle, with_cycles, with_ends, with_load, with_looks, with_mix, with_poll, with_turn}
 use Rattle.af_runs.specs.Sessions.{Session}
-use Rattle.af_play_law.proofs.RoundLoads.{CountUp, count_on}
-
--- there are as many reports as entries, and each tells its number
-pub record ReportsCount (run : Run) : Type 0 where
-  pub many : length run.reports ≡ length run.entries
-  pub cycles : CountUp 0 run.reports
+use Rattle.af_play_law.specs.Loads.{CountUp}
+use Rattle.af_play_law.specs.RoundPlayed.{ReportsCount}
+use Rattle.af_play_law.proofs.RoundLoads.{count_on}
 
 pub new_counts : (s : Session) → ReportsCount (new_run s)
 new_counts s = record { many = refl; cycles = tt }
@@ -37,7 +34,7 @@ pub cycles_count : (s : Session) (es : List EntrySeen) (run : Run) → ReportsCo
 cycles_count s [] run h = h
 cycles_count s (e ∷ es) run h = cycles_count s es (with_cycle s run e) (cycle_counts s run e h)
 
-turn_counts : (s : Session) (found : Turn → TurnFound) (o : Option Turn) (run : Run) → ReportsCount run → ReportsCount (turned s found o run)
+pub turn_counts : (s : Session) (found : Turn → TurnFound) (o : Option Turn) (run : Run) → ReportsCount run → ReportsCount (turned s found o run)
 unfolding with_turn
 turn_counts s found None run h = h
 turn_counts s found (Some e) run h = same_counts run (with_turn s (found e) e run) refl refl h
@@ -55,7 +52,7 @@ ends_count run h = by_end run.normal.ended
     by_end true = same_counts run (each_track (λ (track : ℕ) (t : TrackTold). record t { client = ends t.client }) run) refl refl h
     by_end false = h
 
-calls_count : (round : RoundSeen) (run : Run) → ReportsCount run → ReportsCount (with_calls round run)
+pub calls_count : (round : RoundSeen) (run : Run) → ReportsCount run → ReportsCount (with_calls round run)
 unfolding with_calls
 calls_count round run h = same_counts run (with_calls round run) refl refl h
 

@@ -1,6 +1,5 @@
 -- The entries that a turn of the fast mixer added are those of a turn: each but the last is Mixed, and there are as many as it may make, or the last isn't Mixed, or the log is full.
-use Rattle.std.proofs.Common.{◌≡◌, ◌⊎◌, inl, inr, ⊎_elim, ℕ, zero, suc, ◌+◌, ◌<◌, ◌≤◌, ◌==◌, ◌||◌, Bool, true, false, true≢false, List, [], ◌∷◌, ◌++◌, length, length-append, map, append-nil, append_assoc, refl, sym, ap, subst, ◌∙◌, arith}
-use Rattle.std.specs.Bool.{MatchBool}
+use Rattle.std.proofs.Common.{◌≡◌, ◌⊎◌, inl, inr, ⊎_elim, ℕ, zero, suc, ◌<◌, ◌≤◌, ◌==◌, ◌||◌, Bool, true, false, true≢false, List, [], ◌∷◌, ◌++◌, length, map, append-nil, append_assoc, refl, sym, ap, subst, ◌∙◌, arith}
 use Rattle.std.proofs.lemmas.Bool.{eqb-true}
 use Rattle.std.proofs.lemmas.List.{length-map}
 use Rattle.af_base.specs.declared.log.Cycle.{Cycle}
@@ -12,7 +11,6 @@ use Rattle.af_model.specs.Cycles.{has_exit, is_exit, is_mixed}
 use Rattle.af_model.specs.Journals.{EntrySeen}
 use Rattle.af_model.proofs.UsedStates.{has_exit-push}
 use Rattle.af_runs.specs.Rounds.{AreMixedBut, IsFastTurn}
-use Rattle.af_session.proofs.FastAdds.{polled_keeps}
 use Rattle.af_side_by_side.specs.Alone.{CyclesOn, CyclesOnce}
 
 -- ## Forms
@@ -112,7 +110,7 @@ module _ (links : Links) where
   }
 
   -- a mixer that hasn't exited goes on so after a mixed entry
-  still_runs : (m next : MixerState) (answer : Cycle) (bytes : List ℕ) (e : CycleEntry) → CyclesOnce links m answer bytes next → has_exit m.log.entries ≡ false → is_mixed e.cycle ≡ true → next.log.entries ≡ m.log.entries ++ e ∷ [] → (next.exited ≡ false) × (has_exit next.log.entries ≡ false)
+  pub still_runs : (m next : MixerState) (answer : Cycle) (bytes : List ℕ) (e : CycleEntry) → CyclesOnce links m answer bytes next → has_exit m.log.entries ≡ false → is_mixed e.cycle ≡ true → next.log.entries ≡ m.log.entries ++ e ∷ [] → (next.exited ≡ false) × (has_exit next.log.entries ≡ false)
   still_runs m next answer bytes e w none mixed one =
       let no : has_exit next.log.entries ≡ false = ap has_exit one ∙ has_exit-push m.log.entries e ∙ (λ j. none j || no_exit e.cycle mixed j) in
       (w.mixed_in.0.keeps.exited_is ∙ no, no)

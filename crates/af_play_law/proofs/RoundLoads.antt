@@ -11,7 +11,7 @@ use Rattle.af_model.specs.declared.newest.WriterEvent.TheVariants.{Store}
 use Rattle.af_model.specs.declared.newest.WriterEvent.TheVariants as writes
 use Rattle.af_model.specs.NewestValue as newest
 use Rattle.af_model.specs.NewestValue.{HasHistory}
-use Rattle.af_model.specs.Order.{one, ones, two, twos}
+use Rattle.af_model.specs.Order.{ones, twos}
 use Rattle.af_model.specs.Reports.{no_report}
 use Rattle.af_normal.specs.State.{NormalState}
 use Rattle.af_judge.proofs.QueueSteps.{ones_met, twos_met}
@@ -22,7 +22,7 @@ use Rattle.af_session.specs.Together.{SessionState}
 use Rattle.af_told_law.specs.QueueTurned.{ReportMet}
 use Rattle.af_told_law.specs.Tells.{reports_stored}
 use Rattle.af_told_law.proofs.TurnReport.{LoadsAt, loads_behind, loads_first}
-use Rattle.af_play_law.specs.Loads.{LoadsOneOf, LoadsShowTheirNumber, MetLast}
+use Rattle.af_play_law.specs.Loads.{CountUp, LoadsOneOf, LoadsShowTheirNumber, MetLast}
 use Rattle.af_play_law.proofs.PushesRise.{either_cuts}
 
 abbrev Stored : Type 0
@@ -161,12 +161,7 @@ met_before run met = ⊎_elim (λ (none : run.report ≡ []). inl (ap (λ (r : R
 
 -- ## Cycles
 
--- each report tells its number, from n on
-abbrev pub CountUp : ℕ → List Report → Type 0
-CountUp n [] = Unit {0}
-CountUp n (r ∷ reports) = (r.cycle ≡ n + 1) × CountUp (n + 1) reports
-
--- so does one more
+-- one report more tells its number
 pub count_on : (n : ℕ) (reports : List Report) (r : Report) → CountUp n reports → r.cycle ≡ n + length reports + 1 → CountUp n (reports ++ r ∷ [])
 count_on n [] r count is = (omega (arith, is), tt)
 count_on n (q ∷ reports) r count is = (count.0, count_on (n + 1) reports r count.1 (omega (arith, is)))

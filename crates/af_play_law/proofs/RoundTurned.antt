@@ -1,5 +1,5 @@
 -- The queue in a round of all parties, by its one meeting: what each poll finds, and what stands before the push.
-use Rattle.std.proofs.Common.{◌≡◌, ◌⊎◌, inl, inr, ⊎_elim, ℕ, zero, ◌+◌, ◌<◌, ◌≤◌, false, List, [], ◌∷◌, ◌++◌, length, length-append, append_assoc, append-nil, Option, refl, sym, ap, subst, ◌∙◌, arith}
+use Rattle.std.proofs.Common.{◌≡◌, ◌⊎◌, inl, inr, ⊎_elim, ℕ, ◌+◌, ◌<◌, ◌≤◌, false, [], ◌∷◌, ◌++◌, length, length-append, append_assoc, refl, sym, ap, subst, ◌∙◌, arith}
 use Rattle.std.specs.List.{list_any}
 use Rattle.std.proofs.lemmas.Bool.{cases_lt}
 use Rattle.std.proofs.lemmas.List.Sums.{fold-append}
@@ -7,11 +7,9 @@ use Rattle.af_base.specs.declared.state.FastState.{FastState}
 use Rattle.af_fast.specs.Mixer.{MixerState, is_over}
 use Rattle.af_fast.specs.Mixing.{Adopts}
 use Rattle.af_link.specs.declared.names.StreamNames.{StreamNames}
-use Rattle.af_model.specs.declared.states.ObserverEvent.{ObserverEvent}
 use Rattle.af_model.specs.declared.states.MutatorEvent.TheVariants as mutator
 use Rattle.af_model.specs.declared.states.ObserverEvent.TheVariants.{Ack, SawNext}
 use Rattle.af_model.specs.declared.states.ObserverEvent.TheVariants as observer
-use Rattle.af_model.specs.Order.{one, two}
 use Rattle.af_model.specs.StateQueue.{HasHistory, ObserverPoint, legal, mutated, next, observed, observer_next, observer_start, start}
 use Rattle.af_model.proofs.Orders.{add_one}
 use Rattle.af_normal.specs.State.{NormalState}
@@ -24,10 +22,9 @@ use Rattle.af_session.specs.Together.{SessionState}
 use Rattle.af_rendering.proofs.QueueSeen.{SawUpTo, few_seen}
 use Rattle.af_told_law.specs.Between.{StandsBetween}
 use Rattle.af_told_law.specs.Tells.{FindsLast}
-use Rattle.af_told_law.proofs.QueueLooks.{point_of}
 use Rattle.af_play_law.specs.Polls.{ComesBehind, GrowsByTurn, Items, Polled, Pushed}
 use Rattle.af_play_law.proofs.CutBehind.{cut_behind}
-use Rattle.af_play_law.proofs.PollsAt.{Point, looks_at, point_is}
+use Rattle.af_play_law.proofs.PollsAt.{looks_at}
 use Rattle.af_play_law.proofs.PushesRise.{Numbered, none_more_then, numbered, push_number}
 use Rattle.af_play_law.proofs.QueueGoesOn.{one_on}
 use Rattle.af_play_law.proofs.RoundPolls.{PollAdds, finds_last, history_polled, poll_adds}
@@ -178,7 +175,7 @@ module _ (x u z : SessionState) (ends : EndsMet u.normal z.normal u.fast z.fast)
       history_turned = subst (λ (l : Pushed). HasHistory m.first l es) (sym is) (cut_behind m.first m.events looks k y sent (met_of (length o.events)) es rest whole_push before (next_behind ls late))
 
     -- where the turn pushed nothing no poll is late
-    none_late : n.events ≡ m.events ++ grows.looks → ls ≡ []
+    pub none_late : n.events ≡ m.events ++ grows.looks → ls ≡ []
     none_late is = by_next ls late whole_cut
       where
         by_next : (ls : Polled) → ComesLate m.number ls → HasHistory m.first pushes (es ++ (ls ++ observer.Learn (length n.events) ∷ [])) → ls ≡ []

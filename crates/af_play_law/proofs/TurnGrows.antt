@@ -1,5 +1,5 @@
 -- A turn of the normal mixer looks at the acknowledgement and then perhaps pushes one state.
-use Rattle.std.proofs.Common.{◌≡◌, inl, inr, ℕ, ◌-◌, ◌==◌, Bool, true, false, if◌then◌else◌, List, [], ◌∷◌, ◌++◌, append_assoc, append-nil, refl, sym, subst}
+use Rattle.std.proofs.Common.{inl, inr, ℕ, ◌-◌, ◌==◌, Bool, true, false, if◌then◌else◌, [], ◌∷◌, ◌++◌, append_assoc, append-nil, refl, sym, subst}
 use Rattle.af_base.specs.declared.state.Push.{Push}
 use Rattle.af_base.specs.declared.state.Push.TheVariants as answer
 use Rattle.af_base.specs.Turn.{Turn, turn_of}

@@ -1,2 +1,7 @@
 pub mod Polls
 pub mod Loads
+pub mod RoundPlayed
+pub mod Rounds
+pub mod PlayRuns
+pub mod AwaySlots
+pub mod PlayLaws

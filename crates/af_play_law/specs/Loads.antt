@@ -29,3 +29,8 @@ abbrev pub LoadsShowTheirNumber : Type 0
 LoadsShowTheirNumber = (ws more : List (WriterEvent Report)) (rs behind : List (ReaderEvent Report)) (k : ℕ) (x : Report)
     → ((ws ≡ []) × (rs ≡ [])) ⊎ MetLast ws rs → HasHistory no_report (ws ++ more) (rs ++ reads.Load k x ∷ behind)
     → LoadsOneOf (stores ws) k (reports_stored (ws ++ more)) x
+
+-- each report tells its number, from n on
+abbrev pub CountUp : ℕ → List Report → Type 0
+CountUp n [] = Unit {0}
+CountUp n (r ∷ reports) = (r.cycle ≡ n + 1) × CountUp (n + 1) reports

@@ -1,0 +1,90 @@
+-- Once all parties of a play have ended each stream proxy is home, so it met behind each round: the rounds are legal by all marks.
+use Rattle.std.proofs.Common.{◌≡◌, ℕ, ◌||◌, Bool, true, false, true≢false, if◌then◌else◌, List, [], ◌∷◌, refl, sym, ap, subst, ◌∙◌}
+use Rattle.std.specs.Bool.{MatchBool}
+use Rattle.std.proofs.lemmas.Bool.{and_from}
+use Rattle.af_audit.proofs.MixerEnds.{EndsHome, all_home, turn_ends}
+use Rattle.af_enough_law.proofs.FewerMarks.{legal_for_less}
+use Rattle.af_life.specs.Heard.{learnt}
+use Rattle.af_life.specs.Kept.{NormalKept, is_home, track_at}
+use Rattle.af_model.specs.Journals.{RoundSeen}
+use Rattle.af_normal.specs.State.{NormalState, kept_of, setup_of}
+use Rattle.af_base.specs.Turn.{turn_of}
+use Rattle.af_runs.specs.Blocks.{Marks}
+use Rattle.af_runs.specs.Clients.{ends}
+use Rattle.af_runs.specs.LegalRuns.{LegalRounds, run_from}
+use Rattle.af_runs.specs.Rounds.{after_round, all_played}
+use Rattle.af_runs.specs.Runs.{Run, each_track, holds, met, takes_part, with_ends}
+use Rattle.af_runs.specs.Sessions.{Session}
+use Rattle.af_runs.proofs.RunGrows.{AreFewer}
+use Rattle.af_session.specs.Rounds as parties
+use Rattle.af_session.specs.Together.{SessionState}
+use Rattle.af_session.proofs.FollowingRounds.{ends_keep}
+use Rattle.af_side_by_side.specs.SideBySide.{TurnPlayed}
+use Rattle.af_play_law.specs.PlayRuns.{PlaysOn, SureRounds, meets_from, sure_marks}
+
+-- ## What the normal mixer keeps
+
+turn_by : (x n : NormalState) (b : Bool) → MatchBool b (n ≡ x) (TurnPlayed x n) → EndsHome (kept_of x) → EndsHome (kept_of n)
+turn_by x n true is h = subst (λ (m : NormalState). EndsHome (kept_of m)) (sym is) h
+turn_by x n false (o, legal, made) h = subst EndsHome (sym legal.leaves) (turn_ends (setup_of x) (learnt o) o (kept_of x) (turn_of n.entry) legal.legal h)
+
+-- by the rounds of a play
+pub plays_home : (s : Session) (marks : Marks) (rounds : List RoundSeen) (x t : SessionState) → PlaysOn s marks x rounds t → EndsHome (kept_of x.normal) → EndsHome (kept_of t.normal)
+plays_home s marks [] x t same h = subst (λ (q : SessionState). EndsHome (kept_of q.normal)) (sym same) h
+plays_home s marks (round ∷ rounds) x t (links, u, z, bytes, goes, free, w, rest) h =
+    let now : EndsHome (kept_of u.normal) = turn_by x.normal u.normal x.normal.ended w.plays.normal h in
+    let kept : kept_of (parties.with_ends z).normal ≡ kept_of u.normal = ap kept_of ((ends_keep z).normal ∙ w.meets.ends.normal) in
+    plays_home s marks rounds (parties.with_ends z) t rest (subst EndsHome (sym kept) now)
+
+-- ## The last meetings
+
+met_normal : (s : Session) (run : Run) → (met s run).normal ≡ run.normal
+unfolding met
+met_normal s run = refl
+
+ends_normal : (run : Run) → (with_ends run).normal ≡ run.normal
+unfolding with_ends
+ends_normal run = by_end run.normal.ended
+  where
+    by_end : (b : Bool) → (if b then each_track (λ track t. record t { client = ends t.client }) run else run).normal ≡ run.normal
+    by_end true = refl
+    by_end false = refl
+
+after_normal : (s : Session) (run : Run) (round : RoundSeen) → (after_round s run round).normal ≡ (all_played s run round).normal
+after_normal s run round = ends_normal (met s (all_played s run round)) ∙ met_normal s (all_played s run round)
+
+-- all stream proxies of a mixer are home
+abbrev pub AllHome : NormalKept → Type 0
+AllHome m = (i : ℕ) → is_home (track_at m.tracks i).holder ≡ true
+
+or_left : (a b : Bool) → a ≡ true → (a || b) ≡ true
+or_left true b e = refl
+or_left false b e = absurd (true≢false (sym e))
+
+or_right : (a b : Bool) → b ≡ true → (a || b) ≡ true
+or_right true b e = refl
+or_right false b e = e
+
+module _ (s : Session) where
+  -- each takes part in the meeting behind which it is home
+  last_meets : (run : Run) (round : RoundSeen) → AllHome (after_round s run round).normal → (i : ℕ) → takes_part s (all_played s run round) i ≡ true
+  last_meets run round home i =
+      or_left (is_home (track_at (all_played s run round).normal.tracks i).holder) (holds s (all_played s run round) i)
+      (ap (λ (m : NormalKept). is_home (track_at m.tracks i).holder) (sym (after_normal s run round)) ∙ home i)
+
+  all_meet : (run : Run) (round : RoundSeen) (rounds : List RoundSeen) → AllHome (run_from s run (round ∷ rounds)).normal → (i : ℕ) → meets_from s run (round ∷ rounds) i ≡ true
+  all_meet run round [] home i = or_left (takes_part s (all_played s run round) i) false (last_meets run round home i)
+  all_meet run round (next ∷ rounds) home i = or_right (takes_part s (all_played s run round) i) (meets_from s (after_round s run round) (next ∷ rounds) i) (all_meet (after_round s run round) next rounds home i)
+
+  -- what is legal up to the last meetings is legal
+  pub all_legal : (marks : Marks) (rounds : List RoundSeen) (run : Run) → SureRounds s marks run rounds → AllHome (run_from s run rounds).normal → LegalRounds true s marks run rounds
+  all_legal marks [] run sure home = tt
+  all_legal marks (round ∷ rounds) run sure home =
+      let fewer : AreFewer (sure_marks s marks run (round ∷ rounds)) marks = record {
+        streams = (λ i on. and_from (marks.streams i) (meets_from s run (round ∷ rounds) i) on (all_meet run round rounds home i));
+        commands = (λ i on. on);
+      } in
+      (legal_for_less true s (sure_marks s marks run (round ∷ rounds)) marks run round fewer sure.0, all_legal marks rounds (after_round s run round) sure.1 home)
+
+pub all_at_home : (m : NormalKept) → EndsHome m → m.ended ≡ true → AllHome m
+all_at_home m h ended = all_home m h ended
