@@ -379,7 +379,7 @@ parted place (x ∷ xs) ys are = let p = parted (place + length x.frames) xs ys 
 abbrev parties : RoundSeen → List Written
 parties r = each_from client_lines 0 r.calls ++ turns_lines r.turn
 
-round_fits : (tracks place : ℕ) (r : RoundSeen) → tracks ≤ 2 ^ 32 → IsRound tracks r → AreEntries place r.entries → FitsRound r → AreWritten (round_lines r)
+pub round_fits : (tracks place : ℕ) (r : RoundSeen) → tracks ≤ 2 ^ 32 → IsRound tracks r → AreEntries place r.entries → FitsRound r → AreWritten (round_lines r)
 round_fits tracks place r few is are fits = (
   tt,
   fits-append (parties r) (fast_lines r.entries)

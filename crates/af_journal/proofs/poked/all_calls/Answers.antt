@@ -1,0 +1,1 @@
+use Rattle.af_journal.proofs.poked.all_calls.Goals as goal
