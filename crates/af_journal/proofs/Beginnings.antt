@@ -1,5 +1,5 @@
 -- What is noted of a text begins as its reading.
-use Rattle.std.proofs.Common.{◌≡◌, ℕ, ◌+◌, ◌-◌, ◌<◌, ◌≤◌, ◌^◌, nat_lt, Bool, true, false, List, [], ◌∷◌, ◌++◌, length, map, take, None, refl, ap, ◌∙◌, sym, subst, arith, All, append-nil, length-append}
+use Rattle.std.proofs.Common.{◌≡◌, ℕ, ◌+◌, ◌-◌, ◌<◌, ◌≤◌, ◌^◌, nat_lt, Bool, true, false, List, [], ◌∷◌, ◌++◌, length, take, None, refl, ap, ◌∙◌, sym, subst, arith, All, append-nil, length-append}
 use Rattle.std.specs.List.{AllByRecursion, flat_map, list_any}
 use Rattle.std.proofs.lemmas.List.{take_at}
 use Rattle.std.proofs.lemmas.List.Concat.{flat_map-append}
@@ -12,15 +12,15 @@ use Rattle.af_base.specs.declared.log.CycleEntry.{CycleEntry}
 use Rattle.af_model.specs.Journals.{EntrySeen, JournalData, RoundSeen, RoundsNoted, entries_of, frames_of}
 use Rattle.af_model.specs.JournalForm.{AreEntries, IsRound}
 use Rattle.af_model.specs.Numbers.{FitsEntry}
-use Rattle.af_runs.specs.LegalRuns.{is_lawful_block, is_poke_on, marks_of}
+use Rattle.af_runs.specs.LegalRuns.{is_lawful_block, is_poke_on}
 use Rattle.af_runs.specs.Runs.{calls_in}
-use Rattle.af_journal.specs.Beginnings.{BeginsAs, IsFrontOf, NotesRest, PokesAsAll}
+use Rattle.af_journal.specs.Beginnings.{IsFrontOf, NotesRest}
 use Rattle.af_journal.specs.Lines.{Written}
 use Rattle.af_journal.specs.Pokes.{PokeJust, pokes}
 use Rattle.af_journal.specs.Ranges.{IsWritten}
-use Rattle.af_journal.specs.Readings.{CanBeWritten, IsInOrder, Reads}
-use Rattle.af_journal.specs.Taken.{AddsEntries, AddsRound, AreTaken, Leaves, noted_of}
-use Rattle.af_journal.specs.Texts.{round_lines, text_of, text_of_lines}
+use Rattle.af_journal.specs.Readings.{IsInOrder, Reads}
+use Rattle.af_journal.specs.Taken.{AddsEntries, AddsRound, AreTaken, Leaves}
+use Rattle.af_journal.specs.Texts.{round_lines, text_of_lines}
 use Rattle.af_journal.proofs.EntriesRead.{adds-none, entries-append}
 use Rattle.af_journal.proofs.Fitting.{is_journal, round_fits}
 use Rattle.af_journal.proofs.JournalOf.{order-is-rounds}
@@ -28,7 +28,6 @@ use Rattle.af_journal.proofs.Leaving.{fits-append, leaves-none, leaves-then}
 use Rattle.af_journal.proofs.OneJournal.{one-reading}
 use Rattle.af_journal.proofs.PokeLines.{in-place, none-beyond, one-for_all, past-end, rounds-poke}
 use Rattle.af_journal.proofs.RoundsRead.{taken-more}
-use Rattle.af_journal.proofs.Texts.{text-append}
 
 -- ## The rest of a text
 

@@ -1,5 +1,5 @@
 -- Which blocks the lines of a text poke.
-use Rattle.std.specs.Prelude.{◌≡◌, ℕ, ◌<◌, ◌==◌, ◌&&◌, ◌||◌, Bool, true, false, List, [], ◌∷◌, All, length, slice_index_or}
+use Rattle.std.specs.Prelude.{◌≡◌, ℕ, ◌<◌, ◌==◌, ◌&&◌, ◌||◌, Bool, false, List, [], ◌∷◌, All, length, slice_index_or}
 use Rattle.std.specs.List.{list_any}
 use Rattle.af_base.specs.declared.event.ClientCall.{ClientCall}
 use Rattle.af_model.specs.Numbers.{FitCalls}

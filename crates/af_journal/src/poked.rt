@@ -108,7 +108,11 @@ fn calls_of(alloc: Global, stream: bool, command: bool) -> Result<Vec<ClientCall
 }
 
 // The calls of clients that poke the blocks that are marked.
-fn all_calls(alloc: Global, streams: &[bool], commands: &[bool]) -> Result<Vec<Vec<ClientCall>>, Memory>
+fn all_calls(
+    alloc: Global,
+    streams: &[bool],
+    commands: &[bool],
+) -> Result<Vec<Vec<ClientCall>>, Memory>
     requires { length commands.now ≡ length streams.now }
     ensures { IfOk result (λ clients. PokeJust (length streams.now) (λ block track. slice_index_or (if block then commands.now else streams.now) track false) (map (λ c. c.items) clients.items)) }
 {
@@ -121,11 +125,15 @@ fn all_calls(alloc: Global, streams: &[bool], commands: &[bool]) -> Result<Vec<V
 }
 
 /// The calls of so many clients that poke the blocks that the lines of a text poke, each once.
-pub(crate) fn pokes_in(alloc: Global, bytes: &[u8], tracks: u32) -> Result<Vec<Vec<ClientCall>>, Memory>
+pub(crate) fn pokes_in(
+    alloc: Global,
+    bytes: &[u8],
+    tracks: u32,
+) -> Result<Vec<Vec<ClientCall>>, Memory>
     ensures { IfOk result (λ clients. (ws : List Written) → AllByRecursion IsWritten ws → bytes.now ≡ text_of_lines ws → PokeJust tracks (λ block track. pokes block track 0 ws) (map (λ c. c.items) clients.items)) }
 {
     let mut streams = Vec::from_elem(alloc, false, tracks as usize)?;
     let mut commands = Vec::from_elem(alloc, false, tracks as usize)?;
-    mark_all(bytes, &mut streams, &mut commands);
-    all_calls(alloc, &streams, &commands)
+    mark_all(bytes, streams.as_mut_slice(), commands.as_mut_slice());
+    all_calls(alloc, streams.as_slice(), commands.as_slice())
 }

@@ -1,6 +1,6 @@
-use Rattle.std.proofs.Common.{rules, ◌≡◌, ◌∙◌, ◌<◌, ◌^◌, sym, subst, length}
+use Rattle.std.proofs.Common.{rules, ◌∙◌, ◌<◌, ◌^◌, sym, subst, length}
 use Rattle.af_journal.specs.Beginnings.{IsFrontOf}
-use Rattle.af_journal.proofs.Beginnings.{Begun, begun}
+use Rattle.af_journal.proofs.Beginnings.{begun}
 use Rattle.af_journal.proofs.RoundsRead.{journal-form, journal-is, journal-whole, taken-fit}
 use Rattle.af_journal.proofs.building.build.Goals as goal
 

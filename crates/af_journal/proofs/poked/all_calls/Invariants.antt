@@ -1,4 +1,4 @@
-use Rattle.std.proofs.Common.{length, map, slice_index_or, false, cond}
+use Rattle.std.proofs.Common.{map, slice_index_or, false, cond}
 use Rattle.af_journal.specs.Pokes.{PokeJust}
 use Rattle.af_journal.proofs.poked.all_calls.Given as goal
 

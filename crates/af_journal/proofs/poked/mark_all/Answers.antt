@@ -1,4 +1,4 @@
-use Rattle.std.proofs.Common.{rules, ◌≡◌, Some, None, length, ◌<◌}
+use Rattle.std.proofs.Common.{rules, ◌≡◌, Some, None}
 use Rattle.af_journal.specs.LineReading.{line_at}
 use Rattle.af_journal.specs.Readings.{cut}
 use Rattle.af_journal.proofs.MarkLines.{marks_begin, marks_end, marks_more, noted_as}

@@ -1,10 +1,6 @@
-use Rattle.std.proofs.Common.{rules, ◌≡◌, ℕ, Bool, false, List, cond, replicate, map, length, slice_index_or, subst, sym}
-use Rattle.std.specs.List.{AllByRecursion}
-use Rattle.af_base.specs.declared.event.ClientCall.{ClientCall}
-use Rattle.af_journal.specs.Lines.{Written}
-use Rattle.af_journal.specs.Pokes.{PokeJust, pokes}
-use Rattle.af_journal.specs.Ranges.{IsWritten}
-use Rattle.af_journal.specs.Texts.{text_of_lines}
+use Rattle.std.proofs.Common.{rules, ◌≡◌, ◌∙◌, ap, arith, ℕ, Bool, false, List, cond, replicate, map, length, slice_index_or, subst}
+use Rattle.std.proofs.lemmas.List.{length-replicate, take_at}
+use Rattle.af_journal.specs.Pokes.{PokeJust}
 use Rattle.af_journal.proofs.MarkLines.{marks_just, on_ok}
 use Rattle.af_journal.proofs.poked.pokes_in.Goals as goal
 
@@ -13,10 +9,12 @@ returns c =
     let tracks : ℕ = c.args.tracks in
     let streams : List Bool = c.mark_all.new.streams in
     let commands : List Bool = c.mark_all.new.commands in
-    let first : c.deref_mut.result.now ≡ replicate tracks false = search rules in
-    let second : c.deref_mut-2.result.now ≡ replicate tracks false = search rules in
-    let one : c.deref.result.now ≡ streams = search rules in
-    let two : c.deref-2.result.now ≡ commands = search rules in
+    let first : c.as_mut_slice.result.now ≡ replicate tracks false = search rules in
+    let second : c.as_mut_slice-2.result.now ≡ replicate tracks false = search rules in
+    let long : length streams ≡ c.in_ok-streams.streams.len = omega (arith, c.mark_all.auto.streams, ap length first, length-replicate tracks false, c.in_ok-streams.ensures.len) in
+    let long_too : length commands ≡ c.in_ok-commands.commands.len = omega (arith, c.mark_all.auto.commands, ap length second, length-replicate tracks false, c.in_ok-commands.ensures.len) in
+    let one : c.as_slice.result.now ≡ streams = c.as_slice.ensures.value ∙ take_at streams _ _ long in
+    let two : c.as_slice-2.result.now ≡ commands = c.as_slice-2.ensures.value ∙ take_at commands _ _ long_too in
     on_ok _ _ c.all_calls.result
-    (λ clients h ws fits is. marks_just tracks ws c.deref_mut.result.now c.deref_mut-2.result.now streams commands (map (λ c. c.items) clients.items) first second (c.mark_all.ensures ws fits is)
+    (λ clients h ws fits is. marks_just tracks ws c.as_mut_slice.result.now c.as_mut_slice-2.result.now streams commands (map (λ c. c.items) clients.items) first second (c.mark_all.ensures ws fits is)
     (subst (λ (x : List Bool × List Bool). PokeJust (length x.0) (λ block track. slice_index_or (cond block x.1 x.0) track false) (map (λ c. c.items) clients.items)) (λ i. (one i, two i)) h)) c.all_calls.ensures

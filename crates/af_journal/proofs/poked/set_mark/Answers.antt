@@ -2,7 +2,6 @@ use Rattle.std.proofs.Common.{◌≡◌, ◌⊎◌, inl, inr, ℕ, ◌<◌, ◌�
 use Rattle.std.proofs.lemmas.Bool.{cases_eq, eq-eqb, ne_eqb}
 use Rattle.std.proofs.lemmas.List.{get_or-set_other, get_or-set_same}
 use Rattle.af_journal.proofs.PokeLines.{or_nothing}
-use Rattle.af_journal.proofs.poked.set_mark.Goals as goal
 
 -- the marks after one is set, where it is there
 set-one : (marks : List Bool) (at other : ℕ) → at < length marks → slice_index_or (slice_set marks at true) other false ≡ (slice_index_or marks other false || (at == other))

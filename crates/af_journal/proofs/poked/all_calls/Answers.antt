@@ -1,1 +1,0 @@
-use Rattle.af_journal.proofs.poked.all_calls.Goals as goal
