@@ -20,30 +20,30 @@ use Rattle.af_audit.proofs.FirstFound.{found_at, none_found}
 
 -- ## The slot that plays a track
 
-record PlaysAt (x : FastState) (e : EntrySeen) (n j : ℕ) : Type 0 where
-  low : j < slots
-  carried : carries x j ≡ true
-  shown : is_shown (entry_slot e.entry j).seen ≡ true
-  track : (slot_of x j).track ≡ n
+pub record PlaysAt (x : FastState) (e : EntrySeen) (n j : ℕ) : Type 0 where
+  pub low : j < slots
+  pub carried : carries x j ≡ true
+  pub shown : is_shown (entry_slot e.entry j).seen ≡ true
+  pub track : (slot_of x j).track ≡ n
 
-plays_at : (x : FastState) (e : EntrySeen) (n j : ℕ) → slot_for x e.entry n ≡ Some j → PlaysAt x e n j
+pub plays_at : (x : FastState) (e : EntrySeen) (n j : ℕ) → slot_for x e.entry n ≡ Some j → PlaysAt x e n j
 plays_at x e n j found =
     let at = found_at (plays_track x e.entry n) 0 slots j found in
     let here = both-true (plays x e.entry j) ((slot_of x j).track == n) at.holds in
     let both = both-true (carries x j) (is_shown (entry_slot e.entry j).seen) here.0 in
     record { low = (let h = at.high in omega (arith, h)); carried = both.0; shown = both.1; track = eqb-true (slot_of x j).track n here.1 }
 
-plays_none : (x : FastState) (e : EntrySeen) (n j : ℕ) → slot_for x e.entry n ≡ None → PlaysAt x e n j → ⊥
+pub plays_none : (x : FastState) (e : EntrySeen) (n j : ℕ) → slot_for x e.entry n ≡ None → PlaysAt x e n j → ⊥
 plays_none x e n j none p =
     let same : ((slot_of x j).track == n) ≡ true = eq-eqb (slot_of x j).track n p.track in
     none_found (plays_track x e.entry n) 0 slots j none (omega arith) (let l = p.low in omega (arith, l)) (ap (λ (b : Bool × Bool × Bool). (b.0 && b.1) && b.2) (λ i. (p.carried i, p.shown i, same i)))
 
 -- ## One server
 
-abbrev played_listed : ℕ → EntrySeen → ℕ → Listed → Listed
+abbrev pub played_listed : ℕ → EntrySeen → ℕ → Listed → Listed
 played_listed asked e i l = let slot = entry_slot e.entry i in record { shape = l.shape; events = l.events ++ cycle_events asked l slot (front_of asked l slot) }
 
-listed_played : (asked : ℕ) (e : EntrySeen) (i : ℕ) (b : BlockTold) → listed (played asked e i b) ≡ played_listed asked e i (listed b)
+pub listed_played : (asked : ℕ) (e : EntrySeen) (i : ℕ) (b : BlockTold) → listed (played asked e i b) ≡ played_listed asked e i (listed b)
 listed_played asked e i b = let slot = entry_slot e.entry i in
     ap (λ es. record { shape = b.shape; events = es }) (server-server b.told (cycle_events asked (listed b) slot (front_of asked (listed b) slot)))
 

@@ -30,7 +30,7 @@ FirstLate n (e ∷ es) = n < e.entry.state
 
 module _ (s : Session) (marks : Marks) (b : Run) (e : EntrySeen) (y : FastState) (legal : LegalEntry s marks (with_poll s e.entry.state b) e) (is : state_of b.states e.entry.state ≡ Some y) where
   -- what it shows is carried by its state
-  shown_carried : (j : ℕ) → j < slots → 0 < j → is_shown (entry_slot e.entry j).seen ≡ true → carries y j ≡ true
+  pub shown_carried : (j : ℕ) → j < slots → 0 < j → is_shown (entry_slot e.entry j).seen ≡ true → carries y j ≡ true
   unfolding with_poll
   shown_carried j low some shown = by_mixed (is_mixed e.entry.cycle) refl
     where
@@ -44,7 +44,7 @@ module _ (s : Session) (marks : Marks) (b : Run) (e : EntrySeen) (y : FastState)
           let none : entry_slot e.entry j ≡ absent = ap (λ (z : CycleEntry). entry_slot z j) (legal.cycle.still still) ∙ get_or-replicate slots j absent absent low in
           no (sym (ap (λ (slot : SlotEntry). is_shown slot.seen) none) ∙ shown)
 
-carried_some : (x : FastState) (j : ℕ) → carries x j ≡ true → 0 < j
+pub carried_some : (x : FastState) (j : ℕ) → carries x j ≡ true → 0 < j
 carried_some x zero h = no h
 carried_some x (suc j) h = omega arith
 

@@ -27,7 +27,7 @@ mod MixersTell
 mod VerdictLaws
 mod TurnTells
 pub mod DoneTracks
-mod MixerEnds
+pub mod MixerEnds
 mod MixerTurns
 mod Older
 mod MixerRounds
@@ -55,10 +55,10 @@ mod Measure
 mod Growing
 mod Attached
 mod Bounded
-mod Late
+pub mod Late
 mod Bounds
-mod Quiet
-mod LateRuns
+pub mod Quiet
+pub mod LateRuns
 mod EntryParts
 mod LateRound
 mod Heard
