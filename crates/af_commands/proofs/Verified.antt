@@ -42,6 +42,15 @@ front_judged c false front (verdict.Refused (refused.Round round party)) f tells
     let b = f.begins refl in
     (f.reading, record { reads = f.reads; only = f.only }, begins_fault c.loaded.script c.loaded.files front f.reading (length front.rounds - 1) round party b.first b.marks (omega (arith, tells)) v)
 
+-- the whole tells all that is found of it
+pub tells_whole : (found : Verdict) (whole : Bool) (rounds : ℕ) → whole ≡ true → Tells found whole rounds
+tells_whole found whole rounds is = subst (λ w. Tells found w rounds) (sym is) tt
+
+-- and a front the faults before its last round
+pub tells_round : (round party rounds : ℕ) (whole : Bool) → round < rounds - 1 → Tells (verdict.Refused (refused.Round round party)) whole rounds
+tells_round round party rounds true lt = tt
+tells_round round party rounds false lt = omega (arith, lt)
+
 -- the line of what was found tells it
 pub told : (r : Result (String Global) Stop) (c : asked.Case) (found : Verdict) → FoundTo r found → IsJudgedIn c found → JudgesTo r c
 told (Ok line) c found f j = (f.0, subst (IsJudgedIn c) f.1 j)

@@ -100,7 +100,7 @@ fn tells(found: Verdict, front: &Front) -> bool
     }
     match found {
         Verdict::Refused(Refusal::Round { round, .. }) => {
-            (round as usize) < front.journal.rounds() - 1
+            (round as usize) < front.journal.rounds().saturating_sub(1)
         }
         _ => false,
     }
