@@ -113,13 +113,7 @@ fn judge_front(alloc: Global, case: &Case) -> Result<Option<Verdict>, Stop>
 {
     let script = &case.loaded.script;
     let front = read_front(alloc, &case.text, script)?;
-    let found = af_audit::verify(
-        alloc,
-        script,
-        &case.loaded.files,
-        &front.journal,
-        &case.pcm,
-    )?;
+    let found = af_audit::verify(alloc, script, &case.loaded.files, &front.journal, &case.pcm)?;
     if tells(found, &front) {
         Ok(Some(found))
     } else {
@@ -134,13 +128,7 @@ fn judge_whole(alloc: Global, case: &Case) -> Result<Verdict, Stop>
 {
     let script = &case.loaded.script;
     let journal = read_journal(alloc, &case.text, script)?;
-    Ok(af_audit::verify(
-        alloc,
-        script,
-        &case.loaded.files,
-        &journal,
-        &case.pcm,
-    )?)
+    Ok(af_audit::verify(alloc, script, &case.loaded.files, &journal, &case.pcm)?)
 }
 
 /// Judges a sound and the text of its journal, and answers the line of legal ones. What a text too long for its script begins with is enough.
