@@ -1,7 +1,11 @@
 -- How a sound and the text of its journal are judged by a script and the frames of its tracks' files.
-use Rattle.std.specs.Prelude.{◌≡◌, ℕ, List, length, String, string_bytes, Result, Ok, Err}
+use Rattle.std.specs.Prelude.{◌≡◌, ℕ, ◌+◌, ◌<◌, Bool, true, false, List, length, Option, Some, None, String, string_bytes, Result, Ok, Err}
 use Rattle.std.specs.declared.alloc.Global.{Global}
 use Rattle.af_base.specs.declared.frame.Frame.{Frame}
+use Rattle.af_journal.specs.Beginnings.{IsFrontOf}
+use Rattle.af_journal.specs.declared.building.Front.{Front}
+use Rattle.af_journal.specs.declared.building.JournalFault.{JournalFault}
+use Rattle.af_journal.specs.declared.building.JournalFault.TheVariants as fault
 use Rattle.af_journal.specs.Readings.{HasReading, IsFirstBad, IsOneReading}
 use Rattle.af_audit.specs.Verdicts.{IsVerdict}
 use Rattle.af_audit.specs.declared.verdict.Refusal.TheVariants as refused
@@ -31,12 +35,32 @@ abbrev pub IsJudged : ScriptData → List (List Frame) → List ℕ → List ℕ
 IsJudged script files pcm text (verdict.Refused (refused.Text line)) = IsFirstBad (HasReading (length script.tracks)) text line
 IsJudged script files pcm text found = IsOfJournal script files pcm text found
 
--- a text was read, or refused at its first bad line
+-- how the command ends, where a text wasn't read
+abbrev pub unread : JournalFault → Stop
+unread (fault.Line number) = Over (ending.Judged (refused.Text number))
+unread fault.Memory = Memory
+
+-- a text is refused at its first bad line, or memory ran out
+abbrev pub IsUnread : Stop → ScriptData → List ℕ → Type 0
+IsUnread (Over (ending.Judged (refused.Text line))) script text = IsFirstBad (HasReading (length script.tracks)) text line
+IsUnread Memory script text = Unit {0}
+IsUnread stop script text = ⊥
+
+-- a text was read, or refused
 abbrev pub ReadsTo : Result Journal Stop → ScriptData → List ℕ → Type 0
 ReadsTo (Ok journal) script text = IsTextFor script text journal
-ReadsTo (Err (Over (ending.Judged (refused.Text line)))) script text = IsFirstBad (HasReading (length script.tracks)) text line
-ReadsTo (Err Memory) script text = Unit {0}
-ReadsTo (Err stop) script text = ⊥
+ReadsTo (Err stop) script text = IsUnread stop script text
+
+-- the same of what it begins with
+abbrev pub BeginsTo : Result Front Stop → ScriptData → List ℕ → Type 0
+BeginsTo (Ok front) script text = IsFrontOf (length script.tracks) text front.whole front.journal
+BeginsTo (Err stop) script text = IsUnread stop script text
+
+-- what is found of a journal by which a text begins is found of the text's own: it is the whole, or the fault is in a round before its last one
+abbrev pub Tells : Verdict → Bool → ℕ → Type 0
+Tells found true rounds = Unit {0}
+Tells (verdict.Refused (refused.Round round party)) false rounds = round + 1 < rounds
+Tells found false rounds = ⊥
 
 -- the line of what was found, or its refusal
 abbrev pub FoundTo : Result (String Global) Stop → Verdict → Type 0
@@ -48,6 +72,17 @@ FoundTo (Err stop) found = ⊥
 -- the same of what is judged
 abbrev pub IsJudgedIn : asked.Case → Verdict → Type 0
 IsJudgedIn c found = IsJudged c.loaded.script c.loaded.files c.pcm c.text found
+
+-- something was found of a sound and the text of its journal, or the text refused
+abbrev pub Finds : Result Verdict Stop → asked.Case → Type 0
+Finds (Ok found) c = IsJudgedIn c found
+Finds (Err stop) c = IsUnread stop c.loaded.script c.text
+
+-- the same, where it may be open as well
+abbrev pub FindsFront : Result (Option Verdict) Stop → asked.Case → Type 0
+FindsFront (Ok None) c = Unit {0}
+FindsFront (Ok (Some found)) c = IsJudgedIn c found
+FindsFront (Err stop) c = IsUnread stop c.loaded.script c.text
 
 -- a sound and the text of its journal were judged
 abbrev pub JudgesTo : Result (String Global) Stop → asked.Case → Type 0

@@ -1,5 +1,5 @@
 //! The command `verify`: a sound and its journal are judged by their script.
-ghost use Rattle.std.specs.Prelude.{◌≡◌, IfOk, string_bytes};
+ghost use Rattle.std.specs.Prelude.{◌≡◌, IfOk, true, length, string_bytes};
 ghost use Rattle.af_io.specs.Files.{SameFiles};
 ghost use Rattle.af_commands.specs.Asked.{case_of, verify_asked};
 ghost use Rattle.af_commands.specs.Ends.{Makes};
@@ -7,13 +7,13 @@ ghost use Rattle.af_commands.specs.Line.{legal_text};
 ghost use Rattle.af_commands.specs.Loading.{AreFilesFor};
 ghost use Rattle.af_words.specs.Requests.{Verify};
 ghost use Rattle.af_commands.specs.Status.{HasFault, IsNoUsage, Meets, SuitsRequest};
-ghost use Rattle.af_commands.specs.Verified.{FoundTo, JudgesTo, ReadsTo, case_view};
+ghost use Rattle.af_commands.specs.Verified.{BeginsTo, Finds, FindsFront, FoundTo, JudgesTo, ReadsTo, Tells, case_view, unread};
 
 use crate::load::{Loaded, MOST_FILE, load_file, load_script};
 use crate::status::{Ending, Role, Stop};
 use af_audit::{Refusal, Verdict};
 use af_io::Store;
-use af_journal::JournalFault;
+use af_journal::{Front, JournalFault};
 use af_model::Journal;
 use af_script::Script;
 use std::alloc::Global;
@@ -21,16 +21,35 @@ use std::alloc::Global;
 /// The most bytes of a journal.
 const MOST_JOURNAL: u64 = 1 << 30;
 
+/// How the command ends, where a text wasn't read.
+fn unread(fault: JournalFault) -> Stop
+    ensures { result ≡ unread fault }
+{
+    match fault {
+        JournalFault::Line { number } => {
+            Stop::Over(Ending::Judged(Refusal::Text { line: number }))
+        }
+        JournalFault::Memory => Stop::Memory,
+    }
+}
+
 /// The journal of a text.
 fn read_journal(alloc: Global, text: &[u8], script: &Script) -> Result<Journal, Stop>
     ensures { ReadsTo result script.now text.now }
 {
     match af_journal::read(alloc, text, script) {
         Ok(journal) => Ok(journal),
-        Err(JournalFault::Line { number }) => {
-            Err(Stop::Over(Ending::Judged(Refusal::Text { line: number })))
-        }
-        Err(JournalFault::Memory) => Err(Stop::Memory),
+        Err(fault) => Err(unread(fault)),
+    }
+}
+
+/// What a text begins with.
+fn read_front(alloc: Global, text: &[u8], script: &Script) -> Result<Front, Stop>
+    ensures { BeginsTo result script.now text.now }
+{
+    match af_journal::read_front(alloc, text, script) {
+        Ok(front) => Ok(front),
+        Err(fault) => Err(unread(fault)),
     }
 }
 
@@ -72,14 +91,55 @@ fn verdict_line(alloc: Global, found: Verdict) -> Result<String, Stop>
     }
 }
 
-/// Judges a sound and the text of its journal, and answers the line of legal ones.
+/// Whether what is found of a text's front is found of the whole: the front is the whole, or the fault is in one of its first rounds.
+fn tells(found: Verdict, front: &Front) -> bool
+    ensures { result ≡ true → Tells found front.now.whole (length front.now.journal.rounds) }
+{
+    if front.whole {
+        return true;
+    }
+    match found {
+        Verdict::Refused(Refusal::Round { round, .. }) => {
+            (round as usize) < front.journal.rounds().saturating_sub(1)
+        }
+        _ => false,
+    }
+}
+
+/// What is found of a sound and the text of its journal by what the text begins with, where that tells it.
+fn judge_front(alloc: Global, case: &Case) -> Result<Option<Verdict>, Stop>
+    requires { AreFilesFor case.now.loaded }
+    ensures { FindsFront result (case_view case.now) }
+{
+    let script = &case.loaded.script;
+    let front = read_front(alloc, &case.text, script)?;
+    let found = af_audit::verify(alloc, script, &case.loaded.files, &front.journal, &case.pcm)?;
+    if tells(found, &front) {
+        Ok(Some(found))
+    } else {
+        Ok(None)
+    }
+}
+
+/// What is found of a sound and the text of its journal.
+fn judge_whole(alloc: Global, case: &Case) -> Result<Verdict, Stop>
+    requires { AreFilesFor case.now.loaded }
+    ensures { Finds result (case_view case.now) }
+{
+    let script = &case.loaded.script;
+    let journal = read_journal(alloc, &case.text, script)?;
+    Ok(af_audit::verify(alloc, script, &case.loaded.files, &journal, &case.pcm)?)
+}
+
+/// Judges a sound and the text of its journal, and answers the line of legal ones. What a text too long for its script begins with is enough.
 fn judge(alloc: Global, case: &Case) -> Result<String, Stop>
     requires { AreFilesFor case.now.loaded }
     ensures { JudgesTo result (case_view case.now) }
 {
-    let script = &case.loaded.script;
-    let journal = read_journal(alloc, &case.text, script)?;
-    let found = af_audit::verify(alloc, script, &case.loaded.files, &journal, &case.pcm)?;
+    let found = match judge_front(alloc, case)? {
+        Some(found) => found,
+        None => judge_whole(alloc, case)?,
+    };
     verdict_line(alloc, found)
 }
 

@@ -12,17 +12,17 @@ use Rattle.af_base.specs.declared.log.SlotEntry.{SlotEntry}
 use Rattle.af_base.specs.declared.seen.Seen.{Seen}
 use Rattle.af_base.specs.declared.seen.Seen.TheVariants as seen
 use Rattle.af_base.specs.declared.turn.CommandLook.{CommandLook}
-use Rattle.af_base.specs.Log.{absent, count_seen, entry_slot, kind_of, slots}
+use Rattle.af_base.specs.Log.{count_seen, entry_slot, kind_of, slots}
 use Rattle.af_base.specs.Sample.{packed_word}
 use Rattle.af_base.specs.Turn.{TakeSeen, TrackSeen, Turn, ended_turn}
-use Rattle.af_model.specs.Cycles.{IsSeen, is_mixed, shown}
+use Rattle.af_model.specs.Cycles.{IsSeen, is_mixed}
 use Rattle.af_model.specs.Journals.{EntrySeen, JournalData, RoundSeen, entries_of, slot_frames}
 use Rattle.af_model.specs.JournalForm.{AreEntries, IsAbsent, IsCommandLook, IsEntry, IsJournal, IsMixed, IsRound, IsTake, IsTurn, is_spent}
 use Rattle.af_model.specs.Numbers.{AreWords, FitCalls, FitEntries, FitsCall, FitsEntry, FitsLook, FitsRound, FitsSlot, FitsTake, FitsTrack, FitsTurn, seen_words}
 use Rattle.af_model.proofs.NumbersFit.{absent_fits, still_fits}
 use Rattle.af_runs.specs.Fronts.{is_shown}
 use Rattle.af_journal.specs.declared.line.Line.TheVariants as line
-use Rattle.af_journal.specs.Lines.{Written, numbers, words}
+use Rattle.af_journal.specs.Lines.{Written, numbers}
 use Rattle.af_journal.specs.Ranges.{IsSeenText, IsWritten}
 use Rattle.af_journal.specs.Taken.{open_lines}
 use Rattle.af_journal.specs.Texts.{call_lines, client_lines, command_words, disabled_lines, each_from, entry_lines, fast_lines, lines_of, look_lines, round_lines, slot_lines, slots_lines, status_lines, take_lines, track_lines, turn_lines, turns_lines, words_after}
@@ -379,7 +379,7 @@ parted place (x ∷ xs) ys are = let p = parted (place + length x.frames) xs ys 
 abbrev parties : RoundSeen → List Written
 parties r = each_from client_lines 0 r.calls ++ turns_lines r.turn
 
-round_fits : (tracks place : ℕ) (r : RoundSeen) → tracks ≤ 2 ^ 32 → IsRound tracks r → AreEntries place r.entries → FitsRound r → AreWritten (round_lines r)
+pub round_fits : (tracks place : ℕ) (r : RoundSeen) → tracks ≤ 2 ^ 32 → IsRound tracks r → AreEntries place r.entries → FitsRound r → AreWritten (round_lines r)
 round_fits tracks place r few is are fits = (
   tt,
   fits-append (parties r) (fast_lines r.entries)

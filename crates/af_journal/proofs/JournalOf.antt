@@ -344,10 +344,14 @@ left tracks place at end (words us ∷ ws) fit e may =
     let x = bind_some (after_words at (length us)) (λ next. after_all tracks next ws) end e in
     words_step tracks place ws at us x.0 fit.0 x.1 (left tracks (after_place at place (length us)) x.0 end ws fit.1 x.2 may)
 
--- lines in order are those of a journal
+-- lines in order are those of rounds, wherever their frames stand
+pub order-is-rounds : (tracks place : ℕ) (ws : List Written) → AreInOrder tracks ws → RoundsLeft tracks place ws
+order-is-rounds tracks place ws o = left tracks place stage.Nothing o.last ws o.numbers_fit o.follow o.ends
+
+-- and so of a journal
 pub order-is-journal : (tracks : ℕ) (ws : List Written) → tracks < 2 ^ 32 → AreInOrder tracks ws → (j : JournalData) × CanBeWritten tracks j × (ws ≡ lines_of j)
 order-is-journal tracks ws few o =
-    let r = left tracks 0 stage.Nothing o.last ws o.numbers_fit o.follow o.ends in (
+    let r = order-is-rounds tracks 0 ws o in (
       record { tracks = tracks; rounds = r.rounds },
       record { tracks_are = refl; form = is_journal tracks r.rounds few r.form r.are (subst (AllByRecursion IsWritten) r.lines o.numbers_fit) },
       r.lines,

@@ -27,3 +27,6 @@ mod OneText
 mod OneTurn
 mod OneEntry
 pub mod OneJournal
+mod PokeLines
+mod MarkLines
+mod Beginnings

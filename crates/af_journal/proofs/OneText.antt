@@ -40,10 +40,11 @@ pub others-same : (w v : Written) (ws vs : List Written) → w ∷ ws ≡ v ∷ 
 unfolding others
 others-same w v ws vs e = ap others e
 
--- lines of one text are the same
-cut-line : (w : Written) (ws : List Written) → IsWritten w → cut (text_of_lines (w ∷ ws)) ≡ Some (spelled w, text_of_lines ws)
+-- the first line of a text
+pub cut-line : (w : Written) (ws : List Written) → IsWritten w → cut (text_of_lines (w ∷ ws)) ≡ Some (spelled w, text_of_lines ws)
 cut-line w ws fit = ap cut (append_assoc (spelled w) (10 ∷ []) (text_of_lines ws)) ∙ cut-again (spelled w) (text_of_lines ws) (written_lacks w fit)
 
+-- lines of one text are the same
 pub same-lines : (ws vs : List Written) → AllByRecursion IsWritten ws → AllByRecursion IsWritten vs → text_of_lines ws ≡ text_of_lines vs → ws ≡ vs
 same-lines [] [] f g e = refl
 same-lines [] (v ∷ vs) f g e = absurd (let p = ap cut e ∙ cut-line v vs g.0 in cc)

@@ -99,6 +99,14 @@ taken-few tracks rounds noted entries frames start rest after t l few shorter =
     let n = ap length l.text in let m = length-append (text_of_lines (flat_map round_lines rounds)) rest in let long = rounds-long rounds in
     let count = ap length t.entries_are ∙ length-map (entries_of rounds) (λ (e : EntrySeen). e.entry) in omega arith
 
+-- the entries taken from a text are few enough to be counted
+pub taken-fit : (tracks : ℕ) (rounds : List RoundSeen) (noted : RoundsNoted) (entries : List CycleEntry) (frames : List Frame) (start rest : List ℕ) → AreTaken tracks rounds noted entries frames
+    → Leaves start (flat_map round_lines rounds) rest → length start < 2 ^ 63 → cycles_of noted.rounds < 2 ^ 62
+taken-fit tracks rounds noted entries frames start rest t l few =
+    let n = ap length l.text in let m = length-append (text_of_lines (flat_map round_lines rounds)) rest in let long = rounds-long rounds in
+    let count = taken-counted tracks rounds noted entries frames t in
+    let many = ap length t.entries_are ∙ length-map (entries_of rounds) (λ (e : EntrySeen). e.entry) in omega arith
+
 pub taken-more : (tracks : ℕ) (rounds : List RoundSeen) (r : RoundSeen) (noted next : RoundsNoted) (entries es : List CycleEntry) (frames fs : List Frame) → AreTaken tracks rounds noted entries frames
     → AddsRound tracks noted entries frames r next es fs → AreTaken tracks (rounds ++ r ∷ []) next es fs
 taken-more tracks rounds r noted next entries es frames fs t a =

@@ -8,3 +8,5 @@ pub mod Stages
 pub mod Readings
 pub mod Mixes
 pub mod Taken
+pub mod Pokes
+pub mod Beginnings

@@ -1,7 +1,10 @@
 //! A journal is put together from its text.
-ghost use Rattle.std.specs.Prelude.{◌≡◌, ◌+◌, ◌*◌, ◌<◌, ◌≤◌, ◌^◌, ◌++◌, ◌∷◌, [], List, length, map, flat_map, IfErr, IfOk};
+ghost use Rattle.std.specs.Prelude.{◌≡◌, ℕ, ◌+◌, ◌*◌, ◌<◌, ◌≤◌, ◌^◌, ◌++◌, ◌∷◌, [], List, length, map, flat_map, true, IfErr, IfOk, IfSome};
 ghost use Rattle.af_base.specs.Log.{slots};
 ghost use Rattle.af_model.specs.Journals.{JournalData, RoundSeen, cycles_of};
+ghost use Rattle.af_journal.specs.Beginnings.{IsFrontOf, NotesRest};
+ghost use Rattle.af_journal.specs.declared.line.Line.TheVariants as line;
+ghost use Rattle.af_journal.specs.Lines.{numbers};
 ghost use Rattle.af_journal.specs.Readings.{IsFaultOf, Reads};
 ghost use Rattle.af_journal.specs.Taken.{AddsRound, AreTaken, Leaves, body_lines};
 ghost use Rattle.af_journal.specs.Texts.{call_lines, client_lines, each_from, round_lines, text_of, text_of_lines};
@@ -9,15 +12,16 @@ ghost use Rattle.af_journal.specs.Texts.{call_lines, client_lines, each_from, ro
 use crate::fast_reading::{Taken, read_fast};
 use crate::left::{Left, Stop, next_line};
 use crate::line::Line;
-use crate::reading::first_bad_line;
+use crate::poked::pokes_in;
+use crate::reading::{first_bad_line, first_refused};
 use crate::turn_reading::read_turn;
 use af_base::{ClientCall, FastLog, Memory, SLOTS};
 use af_model::{Journal, Rounds};
 use af_script::Script;
 use std::alloc::Global;
 
-// The most rounds that are kept: more than any run has.
-const MOST_ROUNDS: usize = 131_072;
+// So many rounds without entries are read, where a text is read no further than it matters: the first one without entries is a fault, unless the mixer has ended, and then the second one comes behind the end of all parties.
+const MOST_STILL: usize = 2;
 
 /// Why a text was not read.
 #[derive(Clone, Copy, Debug, PartialEq, Eq)]
@@ -26,6 +30,15 @@ pub enum JournalFault {
     Line { number: u64 },
     /// Memory was wanting.
     Memory,
+}
+
+/// What a text begins with.
+#[derive(Drop)]
+pub struct Front {
+    /// The text's journal, where it is whole. Else all of its rounds but the last are the first ones of that journal, and the last one only pokes what the rest of the text pokes.
+    pub journal: Journal,
+    /// The text was read to its end.
+    pub whole: bool,
 }
 
 // The calls that follow.
@@ -94,27 +107,70 @@ fn read_round(
     Ok(())
 }
 
-// All rounds of a text are noted.
+// Whether the rounds behind one matter no more, where the script allows so many cycles: it begins with a full log or leaves more entries, or so many rounds had none. Each is a fault of that round or of one before it.
+fn is_enough(cycles: usize, before: usize, now: usize, still: usize) -> bool {
+    before >= cycles || now > cycles || still >= MOST_STILL
+}
+
+// Whether rounds are to be read on. Where no number of cycles is given all are.
+fn goes_on(most: Option<usize>, before: usize, now: usize, still: usize) -> bool {
+    match most {
+        None => true,
+        Some(cycles) => !is_enough(cycles, before, now, still),
+    }
+}
+
+// What follows the line of a round, where rounds are read on and there is one.
+fn next_round(bytes: &[u8], on: bool) -> Option<&[u8]>
+    ensures line { IfSome result (λ after. Leaves bytes.now (numbers line.Round ∷ []) after.now) }
+    ensures shorter { IfSome result (λ after. length after.now < length bytes.now) }
+{
+    match next_line(bytes) {
+        Some((Line::Round, after)) if on => Some(after),
+        _ => None,
+    }
+}
+
+// The rounds of a text are noted, all or as many as matter where the script allows so many cycles.
 fn read_rounds(
     alloc: Global,
     left: &mut Left<'_>,
     tracks: u32,
+    most: Option<usize>,
     noted: &mut Rounds,
     taken: &mut Taken,
 ) -> Result<(), Stop>
     requires none { AreTaken tracks [] noted.old taken.old.entries.items taken.old.frames.items }
     requires few { length left.old.rest.now < 2 ^ 63 }
-    ensures { IfOk result (λ _. (rounds : List RoundSeen) × AreTaken tracks rounds noted.new taken.new.entries.items taken.new.frames.items × Leaves left.old.rest.now (flat_map round_lines rounds) []) }
+    ensures { IfOk result (λ _. (rounds : List RoundSeen) × AreTaken tracks rounds noted.new taken.new.entries.items taken.new.frames.items × Leaves left.old.rest.now (flat_map round_lines rounds) left.new.rest.now) }
 {
-    'rounds: while let Some((Line::Round, after)) = next_line(left.rest) {
+    let mut on = true;
+    let mut still = 0usize;
+    'rounds: while let Some(after) = next_round(left.rest, on) {
         left.rest = after;
+        let before = taken.entries.len();
         read_round(alloc, left, tracks, noted, taken)?;
+        let now = taken.entries.len();
+        still = still.saturating_add(usize::from(now == before));
+        on = goes_on(most, before, now, still);
     }
-    if left.rest.is_empty() {
-        Ok(())
-    } else {
-        Err(Stop::Order)
+    Ok(())
+}
+
+// Answers whether nothing is left of a text behind its first rounds. Else a round is noted that pokes what the rest pokes.
+fn note_rest(alloc: Global, rest: &[u8], tracks: u32, noted: &mut Rounds) -> Result<bool, Stop>
+    requires { cycles_of noted.old.rounds < 2 ^ 62 }
+    ensures { IfOk result (λ whole. (place : ℕ) → NotesRest tracks place rest.now whole noted.old noted.new) }
+{
+    if rest.is_empty() {
+        return Ok(true);
     }
+    if first_refused(rest, tracks).is_some() {
+        return Err(Stop::Order);
+    }
+    let clients = pokes_in(alloc, rest, tracks)?;
+    noted.push(clients, None, 0)?;
+    Ok(false)
 }
 
 // How many frames of each slot and entry are enough for so many frames.
@@ -154,9 +210,14 @@ fn log_of(alloc: Global, taken: &Taken) -> Result<FastLog, Memory>
     Ok(log)
 }
 
-// The journal of a text of so many tracks.
-pub(crate) fn build(alloc: Global, bytes: &[u8], tracks: u32) -> Result<Journal, Stop>
-    ensures { IfOk result (Reads tracks bytes.now) }
+// What a text of so many tracks begins with: all of it, or what matters of it where the script allows so many cycles.
+pub(crate) fn build(
+    alloc: Global,
+    bytes: &[u8],
+    tracks: u32,
+    most: Option<usize>,
+) -> Result<Front, Stop>
+    ensures { IfOk result (λ front. IsFrontOf tracks bytes.now front.whole front.journal) }
 {
     let _size = bytes.len();
     let mut left = Left { rest: bytes };
@@ -165,25 +226,18 @@ pub(crate) fn build(alloc: Global, bytes: &[u8], tracks: u32) -> Result<Journal,
         entries: Vec::new(alloc),
         frames: Vec::new(alloc),
     };
-    read_rounds(alloc, &mut left, tracks, &mut noted, &mut taken)?;
+    read_rounds(alloc, &mut left, tracks, most, &mut noted, &mut taken)?;
+    let whole = note_rest(alloc, left.rest, tracks, &mut noted)?;
     let log = log_of(alloc, &taken)?;
-    Ok(Journal::new(noted, log))
-}
-
-// Whether a text has no more rounds than are kept: no other line has an R. A round takes some hundred bytes and more, and its line two.
-fn has_few_rounds(bytes: &[u8]) -> bool {
-    let mut rounds = 0_usize;
-    for byte in bytes {
-        if *byte == b'R' {
-            rounds = rounds.saturating_add(1);
-        }
-    }
-    rounds <= MOST_ROUNDS
+    Ok(Front {
+        journal: Journal::new(noted, log),
+        whole,
+    })
 }
 
 /// Reads a journal's text, for as many tracks as the script has: the journal whose text it is.
 ///
-/// A text that has no reading is answered by the number of its first bad line, as `first_bad_line` gives it, and is known before any memory is taken. Memory comes only for a text that has one; so does a text of more entries or frames than a log can hold (100,000 entries, and 2 ^ 21 of entries times frames of a slot), or of more than 131,072 rounds.
+/// A text that has no reading is answered by the number of its first bad line, as `first_bad_line` gives it, and is known before any memory is taken. Memory comes only for a text that has one; so does a text of more entries or frames than a log can hold (100,000 entries, and 2 ^ 21 of entries times frames of a slot).
 pub fn read(alloc: Global, bytes: &[u8], script: &Script) -> Result<Journal, JournalFault>
     ensures journal { IfOk result (Reads (length script.now.tracks) bytes.now) }
     ensures only { IfOk result (λ journal. (other : JournalData) → Reads (length script.now.tracks) bytes.now other → other ≡ journal) }
@@ -192,11 +246,30 @@ pub fn read(alloc: Global, bytes: &[u8], script: &Script) -> Result<Journal, Jou
     if let Some(number) = first_bad_line(bytes, script) {
         return Err(JournalFault::Line { number });
     }
-    if !has_few_rounds(bytes) {
+    let tracks = script.tracks().len() as u32;
+    let Ok(front) = build(alloc, bytes, tracks, None) else {
         return Err(JournalFault::Memory);
+    };
+    if front.whole {
+        Ok(front.journal)
+    } else {
+        Err(JournalFault::Memory)
     }
-    match build(alloc, bytes, script.tracks().len() as u32) {
-        Ok(journal) => Ok(journal),
+}
+
+/// Reads a journal's text, for as many tracks as the script has, no further than it matters by the script's cycles: what the text begins with. A round behind more entries than the script allows is never at fault by itself, since one before it is.
+///
+/// A text that has no reading is answered as `read` answers it.
+pub fn read_front(alloc: Global, bytes: &[u8], script: &Script) -> Result<Front, JournalFault>
+    ensures front { IfOk result (λ front. IsFrontOf (length script.now.tracks) bytes.now front.whole front.journal) }
+    ensures fault { IfErr result (IsFaultOf (length script.now.tracks) bytes.now) }
+{
+    if let Some(number) = first_bad_line(bytes, script) {
+        return Err(JournalFault::Line { number });
+    }
+    let tracks = script.tracks().len() as u32;
+    match build(alloc, bytes, tracks, Some(script.cycles() as usize)) {
+        Ok(front) => Ok(front),
         Err(_) => Err(JournalFault::Memory),
     }
 }

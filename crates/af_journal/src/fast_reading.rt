@@ -16,6 +16,9 @@ use crate::stage::is_submix;
 use af_base::{Cycle, CycleEntry, Frame, SLOTS, Seen, SlotEntry};
 use std::alloc::Global;
 
+// The most entries that a log has room for.
+const MOST_ENTRIES: usize = 100_000;
+
 /// The entries read so far, with the frames that they took.
 #[derive(Drop)]
 pub(crate) struct Taken {
@@ -185,12 +188,15 @@ fn read_entry(
     }
 }
 
-// Entries, one after the other; how many there were.
+// Entries, one after the other; how many there were. More than a log has room for are want of memory at once.
 fn read_entries(alloc: Global, left: &mut Left<'_>, taken: &mut Taken) -> Result<usize, Stop>
     ensures { IfOk result (λ count. (seen : List EntrySeen) × (count ≡ length seen) × AddsEntries taken.old.entries.items taken.old.frames.items seen taken.new.entries.items taken.new.frames.items × Leaves left.old.rest.now (flat_map entry_lines seen) left.new.rest.now) }
 {
     let before = taken.entries.len();
     'entries: while let Some((Line::Entry { state, kind }, after)) = next_line(left.rest) {
+        if taken.entries.len() >= MOST_ENTRIES {
+            return Err(Stop::Memory);
+        }
         left.rest = after;
         let entry = read_entry(alloc, left, &mut taken.frames, state, kind)?;
         taken.entries.push(entry)?;

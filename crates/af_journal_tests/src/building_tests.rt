@@ -1,7 +1,7 @@
 //! Texts that are read and written again, what a journal says that was read, and texts that aren't read.
 use crate::reading_tests::{script, text_with};
 use af_base::{Cycle, Frame, Memory, Seen};
-use af_journal::{JournalFault, read, write};
+use af_journal::{JournalFault, read, read_front, write};
 use af_model::Journal;
 use std::alloc::Global;
 use std::mem::drop;
@@ -20,6 +20,17 @@ const TEXTS: [(&str, usize, u64); 8] = [
     ("R\nN 8 1 0\nP 0\nm 0 268439552 0 4 f 1\n", 0, 5),
     ("R\nN 8 1 0\nP 0\nm 0 268439552 0 4 f 1\nR\n", 0, 5),
     ("R\nF\ny 1 0\nR\n", 0, 4),
+];
+
+// Texts, with whether all of them is kept, and the number of rounds kept, of which the last one is made up where it isn't.
+const FRONTS: [(&str, bool, usize); 7] = [
+    ("", true, 0),
+    ("R\nR\n", true, 2),
+    ("R\nR\nR\n", false, 3),
+    ("R\nR\nR\nR\nR\n", false, 3),
+    ("R\nR\nR\nC 1\no 1 0 7\n", false, 3),
+    ("R\nF\ny 0 1\ny 0 1\ny 0 1\ny 0 1\ny 0 1\nR\n", false, 2),
+    ("R\nF\ny 0 1\ny 0 1\ny 0 1\ny 0 1\nR\nR\n", false, 3),
 ];
 
 // Whether a text is read for two tracks, and written as it was.
@@ -49,6 +60,22 @@ fn outcome(alloc: Global, text: &str) -> Result<(usize, u64), Memory> {
         Err(JournalFault::Line { number }) => Ok((0, number)),
         Err(JournalFault::Memory) => Err(Memory),
     }
+}
+
+// Whether all of a text is kept, and how many rounds are.
+fn kept(alloc: Global, text: &str) -> Result<(bool, usize), Memory> {
+    match read_front(alloc, text.as_bytes(), &script(alloc)?) {
+        Ok(front) => Ok((front.whole, front.journal.rounds())),
+        Err(_) => Err(Memory),
+    }
+}
+
+#[test]
+fn a_text_is_kept_up_to_a_round_of_no_run(rt: HostRuntime) -> Result<(), Fail> {
+    for (text, whole, rounds) in FRONTS {
+        assert_eq!(rt; kept(rt.alloc(), text)?, (whole, rounds));
+    }
+    Ok(())
 }
 
 #[test]

@@ -1,10 +1,24 @@
-use Rattle.std.proofs.Common.{rules, length}
+use Rattle.std.proofs.Common.{◌≡◌, ◌∙◌, refl, ap, sym, subst, true, ℕ, List, length}
+use Rattle.af_model.specs.Journals.{JournalData}
+use Rattle.af_journal.specs.Beginnings.{IsFrontOf}
 use Rattle.af_journal.specs.Readings.{Reads}
-use Rattle.af_journal.proofs.OneJournal.{one-reading}
 use Rattle.af_journal.proofs.building.read.Goals as goal
 
-pub returns-in-Ok-clause-only : goal.returns-in-Ok-clause-only
-returns-in-Ok-clause-only c =
-    let tracks = length c.args.script.now.tracks in
-    let is : Reads tracks c.args.bytes.now c.in-Ok.journal = search rules in
-    λ other r. one-reading tracks c.args.bytes.now other c.in-Ok.journal r is
+-- the front that is the whole text is its one reading
+whole_reads : (tracks given : ℕ) (text : List ℕ) (front : JournalData) → tracks ≡ given → IsFrontOf tracks text true front → Reads given text front
+whole_reads tracks given text front is f = subst (λ n. Reads n text front) is (subst (Reads tracks text) (sym (f.same refl)) f.reads)
+
+whole_only : (tracks given : ℕ) (text : List ℕ) (front : JournalData) → tracks ≡ given → IsFrontOf tracks text true front → (other : JournalData) → Reads given text other → other ≡ front
+whole_only tracks given text front is f other r = f.only other (subst (λ n. Reads n text other) (sym is) r) ∙ sym (f.same refl)
+
+pub returns-then-front-clause-journal : goal.returns-then-front-clause-journal
+returns-then-front-clause-journal c =
+    let front = c.in-Ok.front in
+    let f = subst (λ whole. IsFrontOf (length c.tracks.result.now) c.args.bytes.now whole front.journal) c.if-front.true (c.in-Ok.ensures {u = tt}) in
+    whole_reads _ _ c.args.bytes.now front.journal (ap length c.tracks.ensures.value) f
+
+pub returns-then-front-clause-only : goal.returns-then-front-clause-only
+returns-then-front-clause-only c =
+    let front = c.in-Ok.front in
+    let f = subst (λ whole. IsFrontOf (length c.tracks.result.now) c.args.bytes.now whole front.journal) c.if-front.true (c.in-Ok.ensures {u = tt}) in
+    whole_only _ _ c.args.bytes.now front.journal (ap length c.tracks.ensures.value) f

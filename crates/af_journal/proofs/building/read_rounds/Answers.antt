@@ -14,8 +14,8 @@ read_round-requires-clause-counted c =
 pub read_round-requires-clause-few : goal.read_round-requires-clause-few
 read_round-requires-clause-few c =
     let inv = c.rounds.invariant in
-    let shorter : length c.in-Some-Round-default.after.now < length c.rounds.left.rest.now = search rules in
-    taken-few c.args.tracks inv.0 c.rounds.noted c.rounds.taken.entries.items c.rounds.taken.frames.items c.args.left.now.rest.now c.rounds.left.rest.now c.in-Some-Round-default.after.now inv.1 inv.2 c.requires.few shorter
+    let shorter : length c.in-Some.after.now < length c.rounds.left.rest.now = search rules in
+    taken-few c.args.tracks inv.0 c.rounds.noted c.rounds.taken.entries.items c.rounds.taken.frames.items c.args.left.now.rest.now c.rounds.left.rest.now c.in-Some.after.now inv.1 inv.2 c.requires.few shorter
 
 pub rounds-preserved : goal.rounds-preserved
 rounds-preserved c =
@@ -23,7 +23,7 @@ rounds-preserved c =
     let made = c.in_ok-read_round.ensures in
     let first = c.args.left.now.rest.now in
     let before = c.rounds.left.rest.now in
-    let mid = c.in-Some-Round-default.after.now in
+    let mid = c.in-Some.after.now in
     let after = c.read_round.new.left.rest.now in
     let one : Leaves before (numbers line.Round ∷ []) mid = search rules in (
       inv.0 ++ made.0 ∷ [],
