@@ -25,8 +25,9 @@ use Rattle.af_rendering.specs.declared.rendering.Played.{Played}
 use Rattle.af_rendering.specs.declared.staging.Stage.{Stage}
 use Rattle.af_session.specs.Ends.{EndsState, ends_from}
 use Rattle.af_playing.specs.PlayKept.{Answers, KeepsFiles, KeepsPlay, spares_by}
-use Rattle.af_playing.specs.PlayedRuns.{HandedBack, HandsBackRun, HasStoreCause, LeavesRun, all_ended, is_limit}
-use Rattle.af_playing.specs.Spelled.{CallsStandOnce, PushesStandOnce}
+use Rattle.af_playing.specs.PlayedRuns.{AtLimit, HandedBack, HandsBackRun, HasStoreCause, LeavesRun, all_ended, is_limit}
+use Rattle.af_playing.specs.PlayedAlone.{IsToldAlone}
+use Rattle.af_playing.specs.Spelled.{CallsStandOnce, PushesStandOnce, ReleasedAsTold}
 use Rattle.af_playing.specs.PlayedStages.{HasPlayed}
 use Rattle.af_session.specs.Together.{SessionState}
 use Rattle.af_tally.specs.Sound.{pcm_of}
@@ -35,7 +36,9 @@ use Rattle.af_playing.proofs.NeverOlder.{none_older}
 use Rattle.af_playing.proofs.PlayCauses.{cause_behind}
 use Rattle.af_playing.proofs.PlayAnswers.{at_fault, cause_cut, cut_by, cut_off, handed, hands_back, if_ok_always, if_ok_one, if_ok_three, leaves, never_limited, off_limit, older_by}
 use Rattle.af_playing.proofs.RunPushed.{pushes_stand_once}
+use Rattle.af_playing.proofs.RunReleased.{released_as_told}
 use Rattle.af_playing.proofs.RunSpelled.{calls_stand_once}
+use Rattle.af_playing.proofs.ToldAlone.{alone_kept}
 use Rattle.af_rendering.proofs.Spared.{spares_told}
 
 -- ## Where nothing is handed back
@@ -58,7 +61,9 @@ module _ (script : ScriptData) (files : List (List Frame)) where
         cut_run = off_limit {T = Played} (Err x) (cut_by script files) never;
         enough = (λ enough. off_limit {T = Played} (Err x) (λ (j : JournalData) (e : EndsState). ⊥) never);
         summary = tt;
+        alone = off_limit {T = Played} (Err x) (IsToldAlone script files) never;
         calls = off_limit {T = Played} (Err x) CallsStandOnce never;
+        released = off_limit {T = Played} (Err x) ReleasedAsTold never;
         pushes = off_limit {T = Played} (Err x) PushesStandOnce never;
         never_older = off_limit {T = Played} (Err x) older_by never;
         spared = off_limit {T = Played} (Err x) (spares_by script.frames) never;
@@ -100,11 +105,17 @@ module _ (script : ScriptData) (files : List (List Frame)) (s : Stage) (r : Resu
   lawful : (P : Played → Type 0) → ((p : Played) → IsLegalRun script files p.journal → P p) → IfOk r P
   lawful P f = if_ok_one (λ (p : Played). IsLegalRun script files p.journal) P r f a.legal
 
+  played_on : IfOk r (λ (p : Played). HandsBackRun true script files p.journal p.ends)
+  played_on = if_ok_three (λ (p : Played). all_ended t ≡ true) (λ (p : Played). p.journal ≡ j) (λ (p : Played). p.ends ≡ ends_from t) (λ (p : Played). HandsBackRun true script files p.journal p.ends) r
+      (λ p ended journal ends. run true ended p.journal p.ends journal ends) a.ended a.journal a.ends
+
+  limited : IfErr r (AtLimit (HandsBackRun false script files))
+  limited = cut_off (HandsBackRun false script files) r (all_ended t ≡ false) j (ends_from t) (λ ended. run false ended j (ends_from t) refl refl) a.cut
+
   pub keeps : IsScript script → ((journal : JournalData) → IsLegalRun script files journal → EachDrainedTrackReachedItsStop script files journal) → KeepsPlay script files r
   keeps is law = record {
-    played = if_ok_three (λ (p : Played). all_ended t ≡ true) (λ (p : Played). p.journal ≡ j) (λ (p : Played). p.ends ≡ ends_from t) (λ (p : Played). HandsBackRun true script files p.journal p.ends) r
-        (λ p ended journal ends. run true ended p.journal p.ends journal ends) a.ended a.journal a.ends;
-    limit = cut_off (HandsBackRun false script files) r (all_ended t ≡ false) j (ends_from t) (λ ended. run false ended j (ends_from t) refl refl) a.cut;
+    played = played_on;
+    limit = limited;
     legal = a.legal;
     fates = lawful (λ (p : Played). EachFrameHasOneFate script files p.journal) (λ p legal. frames-have-fates script files p.journal legal);
     unshut = lawful (λ (p : Played). EachLawfulBlockIsSpared script files p.journal) (λ p legal. lawful-blocks-are-spared script files p.journal is legal);
@@ -114,7 +125,9 @@ module _ (script : ScriptData) (files : List (List Frame)) (s : Stage) (r : Resu
     cut_run = a.cut_run;
     enough = (λ enough. never_limited r (cut_by script files) (λ journal e cut. never-cut script files journal is enough cut) a.cut_run);
     summary = a.summary;
+    alone = alone_kept script files r played_on limited a.legal a.cut_run;
     calls = handed_on CallsStandOnce (calls_stand_once (all_ended t) script files j (ends_from t) back);
+    released = handed_on ReleasedAsTold (released_as_told (all_ended t) script files j (ends_from t) back);
     pushes = handed_on PushesStandOnce (pushes_stand_once (all_ended t) script files j (ends_from t) back);
     never_older = handed_on older_by (none_older script files noted t have.all have.noted.whole);
     spared = handed_on (spares_by script.frames) (spares_told script.frames noted t.fast.log t.normal.mutator.past.events j (ends_from t) have.noted.whole refl refl have.noted.spared);

@@ -13,5 +13,8 @@ pub mod KeptPlays
 pub mod ClientsSpelled
 pub mod RunSpelled
 pub mod RunPushed
+pub mod RunReleased
+pub mod RunFollows
+pub mod ToldAlone
 pub mod NeverOlder
 pub mod SparedOfAll

@@ -36,7 +36,7 @@ pub record PushedRuns (count : ℕ) (last : FastState) (states : List FastState)
   pub some : 0 < count → EndsWith count last states
 
 module _ {P : Type 0} where
-  pushed_append : (xs ys : List (MutatorEvent P)) → pushed_states (xs ++ ys) ≡ pushed_states xs ++ pushed_states ys
+  pub pushed_append : (xs ys : List (MutatorEvent P)) → pushed_states (xs ++ ys) ≡ pushed_states xs ++ pushed_states ys
   pushed_append [] ys = refl
   pushed_append (mutator.Push k x items ∷ xs) ys = ap (λ (l : List FastState). x ∷ l) (pushed_append xs ys)
   pushed_append (mutator.SawAck a items ∷ xs) ys = pushed_append xs ys

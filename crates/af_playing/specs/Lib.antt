@@ -1,4 +1,5 @@
 pub mod PlayedRuns
 pub mod Spelled
+pub mod PlayedAlone
 pub mod PlayedStages
 pub mod PlayKept

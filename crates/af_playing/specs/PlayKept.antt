@@ -20,7 +20,8 @@ use Rattle.af_session.specs.Ends.{EndsState, ends_from}
 use Rattle.af_rendering.specs.Hostile.{PokesSpareOthers}
 use Rattle.af_playing.specs.PlayedRuns.{AtFault, AtLimit, HandedBack, HandsBackRun, LeavesRun, all_ended}
 use Rattle.af_session.specs.Shown.{shown_by, summary_told}
-use Rattle.af_playing.specs.Spelled.{CallsStandOnce, NoneOlder, PushesStandOnce}
+use Rattle.af_playing.specs.PlayedAlone.{IsToldAlone}
+use Rattle.af_playing.specs.Spelled.{CallsStandOnce, NoneOlder, PushesStandOnce, ReleasedAsTold}
 
 -- The journal and the ends of a stage are handed back: where all have ended with the summary, and else as cut off at the limit. The journal is legal by itself. Memory may stand in place of either
 pub record Answers (script : ScriptData) (files : List (List Frame)) (s : Stage) (result : Result Played PlayFault) : Type 0 where
@@ -49,7 +50,9 @@ pub record KeepsPlay (script : ScriptData) (files : List (List Frame)) (result :
   pub cut_run : IfErr result (AtLimit (λ journal _. IsCutRun script files journal))
   pub enough : HasEnoughCycles script → IfErr result (AtLimit (λ journal ends. ⊥))
   pub summary : IfOk result (λ p. p.summary ≡ summary_told script.frames p.journal p.ends)
+  pub alone : HandedBack (IsToldAlone script files) result
   pub calls : HandedBack CallsStandOnce result
+  pub released : HandedBack ReleasedAsTold result
   pub pushes : HandedBack PushesStandOnce result
   pub never_older : HandedBack (λ journal _. NoneOlder journal) result
   pub spared : HandedBack (spares_by script.frames) result

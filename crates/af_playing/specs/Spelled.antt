@@ -1,7 +1,8 @@
 -- What a journal tells of the lists of the parties that made it.
-use Rattle.std.specs.Prelude.{◌≡◌, ℕ, ◌+◌, ◌≤◌, List, [], ◌∷◌, length, map, flat_map, slice_get, slice_index_or, Option, Some, None}
+use Rattle.std.specs.Prelude.{◌≡◌, ℕ, ◌+◌, ◌≤◌, List, [], ◌∷◌, length, map, flat_map, sum_by, slice_get, slice_index_or, Option, Some, None}
 use Rattle.std.specs.List.{range_with_len}
 use Rattle.af_base.specs.declared.event.ClientCall.{ClientCall}
+use Rattle.af_base.specs.declared.event.ClientCall.TheVariants as call
 use Rattle.af_base.specs.declared.event.ClientEvent.{ClientEvent}
 use Rattle.af_base.specs.declared.log.CycleEntry.{CycleEntry}
 use Rattle.af_base.specs.declared.state.Push.{Push}
@@ -12,6 +13,7 @@ use Rattle.af_model.specs.Journals.{EntrySeen, JournalData, RoundSeen, entries_o
 use Rattle.af_model.specs.Spelled.{Kind, stream, commands, ClientStep, called, met_server, client_spelled}
 use Rattle.af_stateq.specs.Laws.{pushed_states}
 use Rattle.af_session.specs.Ends.{EndsState}
+use Rattle.af_session.specs.Shown.{released_by}
 use Rattle.af_party.specs.Parties.{PartyState}
 
 -- ## The clients' calls
@@ -43,6 +45,21 @@ BothSpell calls p = Spells stream calls p.stream × Spells commands calls p.comm
 -- the two lists of each client that a run hands back are spelled by just the calls that the journal tells
 abbrev pub CallsStandOnce : JournalData → EndsState → Type 0
 CallsStandOnce j ends = (i : ℕ) (p : PartyState) → slice_get ends.clients i ≡ Some p → BothSpell (calls_told j i) p
+
+-- ## The frames released
+
+-- how many frames a call put
+abbrev pub frames_put : ClientCall → ℕ
+frames_put (call.Put front count) = count
+frames_put _ = 0
+
+-- how many frames the client of each track has released, by the calls that a journal tells
+abbrev pub released_told : JournalData → List ℕ
+released_told j = map (λ (i : ℕ). sum_by frames_put (calls_told j i)) (range_with_len 0 j.tracks)
+
+-- so many have the clients released that a run hands back
+abbrev pub ReleasedAsTold : JournalData → EndsState → Type 0
+ReleasedAsTold j ends = released_by ends.clients ≡ released_told j
 
 -- ## The states pushed
 

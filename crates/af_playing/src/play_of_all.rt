@@ -23,7 +23,8 @@ ghost use Rattle.af_rendering.specs.Stages.{IsNewStage};
 ghost use Rattle.af_playing.specs.PlayedStages.{HasPlayed};
 ghost use Rattle.af_tally.specs.Sound.{pcm_of};
 ghost use Rattle.af_runs.specs.Pcm.{journal_pcm};
-ghost use Rattle.af_playing.specs.Spelled.{CallsStandOnce, NoneOlder, PushesStandOnce};
+ghost use Rattle.af_playing.specs.PlayedAlone.{IsToldAlone};
+ghost use Rattle.af_playing.specs.Spelled.{CallsStandOnce, NoneOlder, PushesStandOnce, ReleasedAsTold};
 
 use crate::answering::{PlayFault, answer};
 use crate::playing_of_all::play_to_end;
@@ -147,7 +148,7 @@ fn play_with<R: Threads + Sync, S: Store, G: Gate>(
 
 /// Plays a script in rounds. In each every party that has not ended makes one turn, on a thread of its own where one can be made: each client, the normal mixer, and the fast mixer, which makes sixteen cycles, or fewer after one that isn't mixed. Then all parties meet. A party's turn begins at the gate, by its number: the clients' are those of their tracks, and the mixers' come behind. The sound goes to the file of this name, round by round. All blocks, logs and mixers are made before the file is; the rounds are noted as they are played. It makes at most as many rounds as the script has cycles.
 ///
-/// Whatever the threads did, what was played is a run of the script and its files, of rounds of all parties, whose journal is handed back: in it each client's calls and each state pushed stand once, in their order, and no cycle uses a state older than one before it. Where the store tells it the file is the sound of the journal. Whatever clients stored in their words, each track on whose blocks nothing was poked is spared: no call of its client was answered Corrupt, and no look of the normal mixer at its blocks was Shut. Ok says that all parties have ended, CycleLimit that the log is full and some party has not; so after each round but the last some party goes on and the log has room. After a fault no file has changed, or the file holds a front of the sound of some first rounds.
+/// Whatever the threads did, what was played is a run of the script and its files, of rounds of all parties, whose journal is handed back: in it each client's calls and each state pushed stand once, in their order, each client has released as many frames as its calls put there, and no cycle uses a state older than one before it. The summary is that of the journal alone. Where the store tells it the file is the sound of the journal. Whatever clients stored in their words, each track on whose blocks nothing was poked is spared: no call of its client was answered Corrupt, and no look of the normal mixer at its blocks was Shut. Ok says that all parties have ended, CycleLimit that the log is full and some party has not; so after each round but the last some party goes on and the log has room. After a fault no file has changed, or the file holds a front of the sound of some first rounds.
 ///
 /// By itself, whoever made it, the journal of Ok is that of a legal run of the script and its files (`legal`). In it each frame that a client without a poke released was mixed once, in its place, was discarded by one flush that was noticed, or is still queued (`fates`); nothing of such a track was found shut or corrupt (`unshut`); a track that is reported drained has reached the count of its last stop, at which its client had released so much (`drained`); and what a client releases after it saw a START settled is discarded by a later flush alone (`settled`). All that the normal mixer put into the pipe was taken from it and mixed (`emptied`). The journal after CycleLimit is that of a cut run (`cut_run`), and CycleLimit never comes to a script whose tracks play through and whose cycles are enough by the rule (`enough`). The journal is judged before it is handed back: Memory may also stand for one that was judged not to be legal, or that is longer than the judge counts (131,072 turns of the normal mixer). No play has come to either.
 pub fn play<R: Threads + Sync, S: Store, G: Gate>(
@@ -171,7 +172,9 @@ pub fn play<R: Threads + Sync, S: Store, G: Gate>(
     ensures cut_run { IfErr result (AtLimit (λ journal _. IsCutRun script.now files.now journal)) }
     ensures enough { HasEnoughCycles script.now → IfErr result (AtLimit (λ journal ends. ⊥)) }
     ensures summary { IfOk result (λ p. p.summary ≡ summary_told script.now.frames p.journal p.ends) }
+    ensures alone { HandedBack (IsToldAlone script.now files.now) result }
     ensures calls { HandedBack CallsStandOnce result }
+    ensures released { HandedBack ReleasedAsTold result }
     ensures pushes { HandedBack PushesStandOnce result }
     ensures never_older { HandedBack (λ journal _. NoneOlder journal) result }
     ensures spared { HandedBack (λ journal ends. PokesSpareOthers (shown_by script.now.frames journal ends.normal.mutator.past.events)) result }
@@ -246,7 +249,9 @@ pub fn play_logged<R: Threads + Sync, S: Store, G: Gate>(
     ensures cut_run { IfErr result (AtLimit (λ journal _. IsCutRun script.now files.now journal)) }
     ensures enough { HasEnoughCycles script.now → IfErr result (AtLimit (λ journal ends. ⊥)) }
     ensures summary { IfOk result (λ p. p.summary ≡ summary_told script.now.frames p.journal p.ends) }
+    ensures alone { HandedBack (IsToldAlone script.now files.now) result }
     ensures calls { HandedBack CallsStandOnce result }
+    ensures released { HandedBack ReleasedAsTold result }
     ensures pushes { HandedBack PushesStandOnce result }
     ensures never_older { HandedBack (λ journal _. NoneOlder journal) result }
     ensures spared { HandedBack (λ journal ends. PokesSpareOthers (shown_by script.now.frames journal ends.normal.mutator.past.events)) result }

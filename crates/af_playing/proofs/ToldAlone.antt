@@ -1,0 +1,77 @@
+-- The summary of a play is that of its journal alone, where that is legal or cut.
+use Rattle.std.proofs.Common.{◌≡◌, ℕ, suc, Bool, true, false, List, [], ◌∷◌, length, map, option_map, slice_get, Option, Some, Result, Ok, Err, IfErr, IfOk, refl, sym, ap, subst, ◌∙◌, arith}
+use Rattle.std.proofs.lemmas.List.{length-map}
+use Rattle.std.proofs.lemmas.Option.{same_Some, slice_get-map}
+use Rattle.af_base.specs.declared.frame.Frame.{Frame}
+use Rattle.af_base.specs.declared.state.FastState.{FastState}
+use Rattle.af_client.specs.Order.{IsInOrder as IsClientInOrder}
+use Rattle.af_entry_law.proofs.ClientRuns.{Words, track_words}
+use Rattle.af_model.specs.Journals.{JournalData, entries_of, frames_of}
+use Rattle.af_party.specs.Parties.{PartyState}
+use Rattle.af_runs.specs.LegalRuns.{HasLegalRounds, IsCutRun, IsLegalRun, LegalRounds, marks_of, run_from, run_of, session_of}
+use Rattle.af_runs.specs.Runs.{Run, TrackTold, new_run}
+use Rattle.af_runs.specs.Sessions.{Session}
+use Rattle.af_script.specs.Data.{ScriptData}
+use Rattle.af_session.specs.Ends.{EndsState}
+use Rattle.af_session.specs.Rounds.{Given}
+use Rattle.af_session.specs.Shown.{released_by, shows, summary_told}
+use Rattle.af_stateq.specs.Laws.{pushed_states}
+use Rattle.af_tally.specs.Summaries.{summary_of}
+use Rattle.af_rendering.specs.declared.rendering.Played.{Played}
+use Rattle.af_playing.specs.declared.answering.PlayFault.{PlayFault}
+use Rattle.af_playing.specs.declared.answering.PlayFault.TheVariants as fault
+use Rattle.af_playing.specs.PlayedAlone.{IsToldAlone, summary_of_play}
+use Rattle.af_playing.specs.PlayedRuns.{AtLimit, HandedBack, HandsBackRun}
+use Rattle.af_playing.proofs.RunFollows.{Follows, client_words, new_follows, run_follows}
+use Rattle.af_playing.proofs.RunReleased.{AreInOrder, new_order, run_order}
+
+-- two lists give the same where each place does
+same_maps : (ps : List PartyState) (ts : List TrackTold) → length ps ≡ length ts → ((i : ℕ) (p : PartyState) (t : TrackTold) → slice_get ps i ≡ Some p → slice_get ts i ≡ Some t → p.stream.released ≡ length t.stream.released)
+    → released_by ps ≡ map (λ (t : TrackTold). length t.stream.released) ts
+same_maps [] [] long each = refl
+same_maps [] (t ∷ ts) long each = absurd (omega (arith, long))
+same_maps (p ∷ ps) [] long each = absurd (omega (arith, long))
+same_maps (p ∷ ps) (t ∷ ts) long each = λ j. each 0 p t refl refl j ∷ same_maps ps ts (omega (arith, long)) (λ i q u is at. each (suc i) q u is at) j
+
+module _ (ended : Bool) (script : ScriptData) (files : List (List Frame)) (j : JournalData) (e : EndsState) (h : HandsBackRun ended script files j e) (cut : Bool) (legal : HasLegalRounds cut script files j) where
+  abbrev s : Session
+  s = session_of script files
+
+  abbrev g : Given
+  g = record { tracks = script.tracks; files = files }
+
+  abbrev run : Run
+  run = run_of script files j
+
+  follows : Follows script files h.parties run
+  follows =
+      let played = h.played in
+      let rounds : LegalRounds cut s (marks_of j.rounds) (new_run s) _ = subst (λ (x : JournalData). LegalRounds cut s (marks_of j.rounds) (new_run s) x.rounds) h.journal_is legal.rounds in
+      subst (λ (x : JournalData). Follows script files h.parties (run_from s (new_run s) x.rounds)) (sym h.journal_is)
+      (run_follows script files cut (marks_of j.rounds) played.start h.rounds played.bytes h.parties played.run _ (new_run s) (new_follows script files played.shared played.start played.new) rounds)
+
+  order : AreInOrder h.parties
+  order = run_order g h.played.start h.rounds h.played.bytes h.parties h.played.run (new_order script h.played.shared h.played.start h.played.new)
+
+  one_released : (i : ℕ) (p : PartyState) (t : TrackTold) → slice_get e.clients i ≡ Some p → slice_get run.tracks i ≡ Some t → p.stream.released ≡ length t.stream.released
+  one_released i p t is at =
+      let here : slice_get h.parties.clients i ≡ Some p = ap (λ (x : EndsState). slice_get x.clients i) (sym h.ends_are) ∙ is in
+      let same : track_words t ≡ client_words script files i p = same_Some (track_words t) (client_words script files i p) (sym (slice_get-map track_words run.tracks i ∙ ap (option_map track_words) at) ∙ follows.clients i p here) in
+      (order i p here).released_is ∙ ap (λ (y : Words). length y.1) (sym same)
+
+  all_released : released_by e.clients ≡ map (λ (t : TrackTold). length t.stream.released) run.tracks
+  all_released = same_maps e.clients run.tracks (h.count ∙ sym follows.long ∙ length-map run.tracks track_words) one_released
+
+  pub told_alone : IsToldAlone script files j e
+  told_alone =
+      let seen = entries_of j.rounds in
+      let states : pushed_states e.normal.mutator.past.events ≡ run.states = ap (λ (x : EndsState). pushed_states x.normal.mutator.past.events) h.ends_are ∙ follows.normal.pushed in
+      λ k. summary_of (shows (states k) script.frames j.tracks (map (λ r. r.calls) j.rounds) (map (λ r. r.turn) j.rounds) (frames_of seen) (map (λ x. x.entry) seen)) (all_released k)
+
+-- so is what a play hands back
+pub alone_kept : (script : ScriptData) (files : List (List Frame)) (r : Result Played PlayFault) → IfOk r (λ (p : Played). HandsBackRun true script files p.journal p.ends) → IfErr r (AtLimit (HandsBackRun false script files))
+    → IfOk r (λ (p : Played). IsLegalRun script files p.journal) → IfErr r (AtLimit (λ (j : JournalData) (e : EndsState). IsCutRun script files j)) → HandedBack (IsToldAlone script files) r
+alone_kept script files (Ok p) back none legal none' = told_alone true script files p.journal p.ends back false legal.rounds
+alone_kept script files (Err (fault.CycleLimit j e)) none back none' cut = told_alone false script files j e back true cut.rounds
+alone_kept script files (Err fault.Store) none back none' cut = tt
+alone_kept script files (Err fault.Memory) none back none' cut = tt
