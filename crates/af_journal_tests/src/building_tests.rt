@@ -44,8 +44,8 @@ fn comes_back(alloc: Global, text: &[u8]) -> Result<bool, Memory> {
 }
 
 fn all_come_back(alloc: Global) -> Result<bool, Memory> {
-    for count in WHOLE {
-        let text = text_with(alloc, count, 30, "")?;
+    for count in &WHOLE {
+        let text = text_with(alloc, *count, 30, "")?;
         if !comes_back(alloc, text.as_bytes())? {
             return Ok(false);
         }
@@ -86,8 +86,9 @@ fn each_kind_of_line_comes_back(rt: HostRuntime) -> Result<(), Fail> {
 
 #[test]
 fn texts_have_rounds_or_a_bad_line(rt: HostRuntime) -> Result<(), Fail> {
-    for (text, rounds, number) in TEXTS {
-        assert_eq!(rt; outcome(rt.alloc(), text)?, (rounds, number));
+    for (text, rounds, number) in &TEXTS {
+        let found = outcome(rt.alloc(), text)?;
+        assert!(rt; found == (*rounds, *number), "{text}");
     }
     Ok(())
 }

@@ -98,6 +98,12 @@ fn reads(alloc: Global, line: Line, text: &str) -> Result<bool, Memory> {
     Ok(format!(in alloc; "{line}")?.as_str() == text)
 }
 
+// Whether a line has this text, and then what a look showed.
+fn shows(alloc: Global, line: Line, front: &str, shown: &str) -> Result<bool, Memory> {
+    let text = format!(in alloc; "{front} {shown}")?;
+    reads(alloc, line, text.as_str())
+}
+
 // The lines that end in what a look showed.
 fn looks_read(alloc: Global, seen: Seen, shown: &str) -> Result<bool, Memory> {
     let look = Line::Look {
@@ -123,23 +129,15 @@ fn looks_read(alloc: Global, seen: Seen, shown: &str) -> Result<bool, Memory> {
         seen,
     };
     Ok(
-        reads(alloc, look, format!(in alloc; "q 1 2 3 {shown}")?.as_str())?
-            && reads(
-                alloc,
-                take,
-                format!(in alloc; "m 1 4 2 3 {shown}")?.as_str(),
-            )?
-            && reads(
-                alloc,
-                slot,
-                format!(in alloc; "z 5 4096 1 4 2 3 {shown}")?.as_str(),
-            )?,
+        shows(alloc, look, "q 1 2 3", shown)?
+            && shows(alloc, take, "m 1 4 2 3", shown)?
+            && shows(alloc, slot, "z 5 4096 1 4 2 3", shown)?,
     )
 }
 
 fn all_read(alloc: Global) -> Result<bool, Memory> {
-    for (line, text) in OTHERS {
-        if !reads(alloc, line, text)? {
+    for (line, text) in &OTHERS {
+        if !reads(alloc, *line, text)? {
             return Ok(false);
         }
     }
@@ -147,8 +145,8 @@ fn all_read(alloc: Global) -> Result<bool, Memory> {
 }
 
 fn all_calls_read(alloc: Global) -> Result<bool, Memory> {
-    for (call, text) in CALLS {
-        if !reads(alloc, Line::Call { call }, text)? {
+    for (call, text) in &CALLS {
+        if !reads(alloc, Line::Call { call: *call }, text)? {
             return Ok(false);
         }
     }
@@ -156,8 +154,8 @@ fn all_calls_read(alloc: Global) -> Result<bool, Memory> {
 }
 
 fn all_looks_read(alloc: Global) -> Result<bool, Memory> {
-    for (seen, shown) in LOOKS {
-        if !looks_read(alloc, seen, shown)? {
+    for (seen, shown) in &LOOKS {
+        if !looks_read(alloc, *seen, shown)? {
             return Ok(false);
         }
     }
@@ -192,16 +190,23 @@ fn each_kind_of_line_has_its_text(rt: HostRuntime) -> Result<(), Fail> {
     Ok(())
 }
 
+// Whether a journal has two rounds of two tracks, with those calls, the turn and the cycle.
+fn has_two_rounds(journal: &Journal) -> bool {
+    if journal.rounds() != 2 || journal.tracks() != 2 {
+        return false;
+    }
+    journal.client(0, 0).len() == 2
+        && journal.client(1, 0).is_empty()
+        && journal.turn(0).is_none()
+        && journal.turn(1).is_some()
+        && journal.cycles(1) == (0, 1)
+        && journal.log().len() == 1
+}
+
 #[test]
 fn a_small_journal_is_read_and_written(rt: HostRuntime) -> Result<(), Fail> {
     let journal = small_journal(rt.alloc())?;
-    assert_eq!(rt; (journal.rounds(), journal.tracks()), (2, 2));
-    assert_eq!(rt; journal.client(0, 0).len(), 2);
-    assert_eq!(rt; journal.client(1, 0).len(), 0);
-    assert!(rt; journal.turn(0).is_none());
-    assert!(rt; journal.turn(1).is_some());
-    assert_eq!(rt; journal.cycles(1), (0, 1));
-    assert_eq!(rt; journal.log().len(), 1);
+    assert!(rt; has_two_rounds(&journal));
     let mut text = Vec::new(rt.alloc());
     write(rt.alloc(), &journal, &mut text)?;
     let told = "R\nC 0\ns 0 1 0\nu 0\nR\nE\nF\ny 0 1\n";

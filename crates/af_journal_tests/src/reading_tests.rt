@@ -144,9 +144,9 @@ pub(crate) fn text_with(
 
 fn all_damages_found(alloc: Global) -> Result<bool, Memory> {
     let script = script(alloc)?;
-    for (place, line, number) in DAMAGES {
-        let text = text_with(alloc, 30, place, line)?;
-        if first_bad_line(text.as_bytes(), &script) != Some(number) {
+    for (place, line, number) in &DAMAGES {
+        let text = text_with(alloc, 30, *place, line)?;
+        if first_bad_line(text.as_bytes(), &script) != Some(*number) {
             return Ok(false);
         }
     }
@@ -155,9 +155,9 @@ fn all_damages_found(alloc: Global) -> Result<bool, Memory> {
 
 fn all_fronts_read(alloc: Global) -> Result<bool, Memory> {
     let script = script(alloc)?;
-    for (count, number) in FRONTS {
-        let text = text_with(alloc, count, 30, "")?;
-        if first_bad_line(text.as_bytes(), &script) != number {
+    for (count, number) in &FRONTS {
+        let text = text_with(alloc, *count, 30, "")?;
+        if first_bad_line(text.as_bytes(), &script) != *number {
             return Ok(false);
         }
     }
@@ -179,8 +179,8 @@ fn each_front_is_read(rt: HostRuntime) -> Result<(), Fail> {
 #[test]
 fn ends_and_other_bytes_are_refused(rt: HostRuntime) -> Result<(), Fail> {
     let script = script(rt.alloc())?;
-    for (text, number) in OTHERS {
-        assert_eq!(rt; first_bad_line(text, &script), Some(number));
+    for (text, number) in &OTHERS {
+        assert!(rt; first_bad_line(text, &script) == Some(*number));
     }
     Ok(())
 }

@@ -37,7 +37,7 @@ struct Step {
 }
 
 // What it leaves of a track.
-#[derive(Clone, Copy, Debug, PartialEq, Eq)]
+#[derive(Clone, Copy, PartialEq, Eq)]
 struct Want {
     state: LifeState,
     holder: Holder,
@@ -311,8 +311,8 @@ fn commands_of_one_turn(rt: HostRuntime) {
             left(Idle, Home, Some(1), 50, 2, 513),
         ),
     ];
-    for (first, wanted) in rows {
-        let steps = [alone(true, Clean, reported(0, 0, 0), first, wanted)];
+    for (first, wanted) in &rows {
+        let steps = [alone(true, Clean, reported(0, 0, 0), *first, *wanted)];
         assert!(rt; plays(rt.alloc(), &steps) == Ok(true));
     }
 }

@@ -46,13 +46,13 @@ fn life_in(state: LifeState, member: bool, ended: bool) -> Life {
 }
 
 // Each state becomes the one that stands in its place, and an ended life stays as it is.
-fn walk(rt: &impl Abort, code: u32, member: bool, wants: [LifeState; 10]) {
+fn walk(rt: &impl Abort, code: u32, member: bool, wants: &[LifeState; 10]) {
     for (state, want) in STATES.iter().zip(wants.iter()) {
         let after = life_in(*state, member, false).on_command(code, 100);
-        assert_eq!(rt; after.state, *want);
-        assert_eq!(rt; after.ended, code == 6);
+        assert!(rt; after.state == *want);
+        assert!(rt; after.ended == (code == 6));
         let ended = life_in(*state, member, true);
-        assert_eq!(rt; ended.on_command(code, 100), ended);
+        assert!(rt; ended.on_command(code, 100) == ended);
     }
 }
 
@@ -68,8 +68,8 @@ fn walk_codes(rt: &impl Abort, member: bool, stop: [LifeState; 10]) {
         (6, STATES),
         (7, STATES),
     ];
-    for (code, wants) in rows {
-        walk(rt, code, member, wants);
+    for (code, wants) in &rows {
+        walk(rt, *code, member, wants);
     }
 }
 
@@ -93,23 +93,20 @@ fn play(member: bool, drained: bool, retries: u32, stop_at: u64, state: LifeStat
 #[test]
 fn a_life_in_order(rt: HostRuntime) {
     let opened = fresh().on_command(1, 0);
-    assert_eq!(rt; opened, play(false, false, 50, 0, Idle));
+    assert!(rt; opened == play(false, false, 50, 0, Idle));
     let started = opened.on_command(2, 3);
-    assert_eq!(rt; started, play(true, false, 50, 0, Active));
+    assert!(rt; started == play(true, false, 50, 0, Active));
     let stopping = started.on_command(4, 1000);
-    assert_eq!(rt; stopping, play(true, false, 50, 1000, Stopping1));
+    assert!(rt; stopping == play(true, false, 50, 1000, Stopping1));
     let (waiting, _) = stopping.on_report(looks(999, 0, 0, 1));
-    assert_eq!(rt; waiting, stopping);
+    assert!(rt; waiting == stopping);
     let (drained, _) = waiting.on_report(looks(1000, 0, 0, 0));
-    assert_eq!(rt; drained, play(true, true, 50, 1000, Stopping2));
+    assert!(rt; drained == play(true, true, 50, 1000, Stopping2));
     let (stopped, told) = drained.on_report(looks(1000, 0, 0, 0));
-    assert_eq!(rt;
-        (stopped, told),
-        (play(false, true, 50, 1000, Stopped), false)
-    );
+    assert!(rt; (stopped, told) == (play(false, true, 50, 1000, Stopped), false));
     let again = stopped.on_command(2, 0);
-    assert_eq!(rt; again, play(true, false, 50, 1000, Active));
-    assert_eq!(rt; again.state.code(), 2);
+    assert!(rt; again == play(true, false, 50, 1000, Active));
+    assert!(rt; again.state.code() == 2);
 }
 
 fn looks(consumed: u64, fulls: u32, partials: u32, empties: u32) -> Known {
@@ -140,10 +137,10 @@ fn each_row_of_a_report(rt: HostRuntime) {
         (Flushed, true, idle, Flushed, false),
         (Absent, true, idle, Absent, true),
     ];
-    for (state, member, known, want, stays) in rows {
-        let (after, told) = life_in(state, member, false).on_report(known);
-        assert_eq!(rt; (after.state, after.member, told), (want, stays, false));
-        assert!(rt; !after.ended);
+    for (state, member, known, want, stays) in &rows {
+        let (after, told) = life_in(*state, *member, false).on_report(*known);
+        assert!(rt; after.state == *want && after.member == *stays);
+        assert!(rt; !told && !after.ended);
     }
 }
 
@@ -154,10 +151,10 @@ fn shut_and_ended_lives_leave(rt: HostRuntime) {
         shut: true,
         ..empty
     };
-    for state in STATES {
-        let gone = life_in(state, false, true);
-        assert_eq!(rt; life_in(state, true, false).on_report(shut), (gone, false));
-        assert_eq!(rt; life_in(state, true, true).on_report(empty), (gone, false));
+    for state in &STATES {
+        let gone = life_in(*state, false, true);
+        assert!(rt; life_in(*state, true, false).on_report(shut) == (gone, false));
+        assert!(rt; life_in(*state, true, true).on_report(empty) == (gone, false));
     }
 }
 
@@ -173,11 +170,9 @@ fn retries_of_a_playing_member(rt: HostRuntime) {
         (0, looks(0, 0, 0, 1), 0, false, true),
         (0, looks(0, 0, 0, 0), 0, true, false),
     ];
-    for (before, known, retries, member, told) in rows {
-        let after = play(member, false, retries, 0, Active);
-        assert_eq!(rt;
-            play(true, false, before, 0, Active).on_report(known),
-            (after, told)
-        );
+    for (before, known, retries, member, told) in &rows {
+        let after = play(*member, false, *retries, 0, Active);
+        let found = play(true, false, *before, 0, Active).on_report(*known);
+        assert!(rt; found == (after, *told));
     }
 }

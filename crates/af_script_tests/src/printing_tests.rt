@@ -28,13 +28,18 @@ fn printed(alloc: Global, script: &Script) -> Result<String, Fail> {
     Ok(String::from_utf8(bytes).ok().ok_or("no text")?)
 }
 
+/// The text of the script that a text is.
+fn printed_again(alloc: Global, text: &str) -> Result<String, Fail> {
+    printed(alloc, &script_of(alloc, text)?)
+}
+
 #[test]
 fn the_text_of_a_script(rt: HostRuntime) -> Result<(), Fail> {
     let alloc = rt.alloc();
-    let text = printed(alloc, &script_of(alloc, FULL)?)?;
-    assert_eq!(rt; text.as_str(), PRINTED);
-    let again = printed(alloc, &script_of(alloc, PRINTED)?)?;
-    assert_eq!(rt; again.as_str(), PRINTED);
+    for text in &[FULL, PRINTED] {
+        let told = printed_again(alloc, text)?;
+        assert!(rt; told.as_str() == PRINTED, "{text}");
+    }
     Ok(())
 }
 
@@ -51,39 +56,54 @@ fn long_track(alloc: Global, waits: usize, end: &str) -> Result<Script, Fail> {
     script_of(alloc, text.as_str())
 }
 
+/// Tracks with so many ops that wait, what stands behind them, the number of ops, and how the printed text ends.
+const LONG: [(usize, &str, usize, &str); 3] = [
+    (4095, "]", 4097, "\"yield\"]\nscale = 4096\n"),
+    (4094, "]", 4096, "\"remove\"]\nscale = 4096\n"),
+    (4094, ", 'remove']", 4096, "\"remove\"]\nscale = 4096\n"),
+];
+
+/// Whether the first track of a script has so many ops, of which the last is a `remove`.
+fn has_ops(script: &Script, count: usize) -> bool {
+    let Some(track) = script.tracks().first() else {
+        return false;
+    };
+    track.ops.as_slice().len() == count && track.ops.as_slice().last() == Some(&Op::Remove)
+}
+
+/// Whether a long track is printed with that end, and read again with so many ops and the same text.
+fn is_long(alloc: Global, waits: usize, end: &str, count: usize, ends: &str) -> Result<bool, Fail> {
+    let text = printed(alloc, &long_track(alloc, waits, end)?)?;
+    let again = script_of(alloc, text.as_str())?;
+    let right = text.as_str().ends_with(ends) && has_ops(&again, count);
+    Ok(right && printed(alloc, &again)?.as_str() == text.as_str())
+}
+
 #[test]
 fn the_limit_of_ops(rt: HostRuntime) -> Result<(), Fail> {
-    let alloc = rt.alloc();
-    for (waits, end, count, ends) in [
-        (4095, "]", 4097, "\"yield\"]\nscale = 4096\n"),
-        (4094, "]", 4096, "\"remove\"]\nscale = 4096\n"),
-        (4094, ", 'remove']", 4096, "\"remove\"]\nscale = 4096\n"),
-    ] {
-        let script = long_track(alloc, waits, end)?;
-        let text = printed(alloc, &script)?;
-        assert!(rt; text.as_str().ends_with(ends), "{waits} {end}");
-        let again = script_of(alloc, text.as_str())?;
-        let track = again.tracks().first().ok_or("no track")?;
-        assert_eq!(rt; track.ops.as_slice().len(), count);
-        assert_eq!(rt; track.ops.as_slice().last(), Some(&Op::Remove));
-        assert_eq!(rt; printed(alloc, &again)?.as_str(), text.as_str());
+    for (waits, end, count, ends) in &LONG {
+        let is_right = is_long(rt.alloc(), *waits, end, *count, ends)?;
+        assert!(rt; is_right, "{waits} {end}");
     }
     Ok(())
+}
+
+/// Whether a script has the turns and tracks of the generated one.
+fn is_generated(script: &Script) -> bool {
+    let turns = script.turns();
+    turns.len() == 4200
+        && turns.first() == Some(&TurnSpec::Client { track: 0 })
+        && turns.last() == Some(&TurnSpec::Fast { cycles: 4 })
+        && script.tracks().len() == 8
 }
 
 #[test]
 fn the_generated_script(rt: HostRuntime) -> Result<(), Fail> {
     let alloc = rt.alloc();
     let script = generated_script(alloc).ok().ok_or("no script")?;
-    assert_eq!(rt; script.turns().len(), 4200);
-    assert_eq!(rt;
-        script.turns().first(),
-        Some(&TurnSpec::Client { track: 0 })
-    );
-    assert_eq!(rt; script.turns().last(), Some(&TurnSpec::Fast { cycles: 4 }));
-    assert_eq!(rt; script.tracks().len(), 8);
+    assert!(rt; is_generated(&script));
     let text = printed(alloc, &script)?;
-    let again = printed(alloc, &script_of(alloc, text.as_str())?)?;
-    assert_eq!(rt; again.as_str(), text.as_str());
+    let again = printed_again(alloc, text.as_str())?;
+    assert!(rt; again.as_str() == text.as_str());
     Ok(())
 }

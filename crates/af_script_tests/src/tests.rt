@@ -131,6 +131,13 @@ const PAIRS: [(&str, &str, &str, &str, &str); 13] = [
     ("'n'", "'f 5'", "'f 1'", "'f 0'", "turn 2"),
 ];
 
+/// What stands in the place of the tracks, and what is read then.
+const NO_TABLES: [(&str, &str); 3] = [
+    ("", "key 0 track"),
+    ("track = []", "range 0 track 0"),
+    ("track = [1]", "key 0 track"),
+];
+
 /// What the bytes of a script are read as, in words.
 fn told(alloc: Global, text: &str) -> Result<String, Fail> {
     match read(alloc, text.as_bytes()) {
@@ -166,22 +173,37 @@ fn repeated(alloc: Global, part: &str, times: usize) -> Result<String, Fail> {
     Ok(text)
 }
 
+/// What a text with one part changed is read as.
+fn told_changed(alloc: Global, text: &str, from: &str, to: &str) -> Result<String, Fail> {
+    let text = changed(alloc, text, from, to)?;
+    told(alloc, text.as_str())
+}
+
 /// What the script with one part changed is read as.
 fn told_with(alloc: Global, from: &str, to: &str) -> Result<String, Fail> {
     let script = format!(in alloc; "{HEAD}{TRACK}")?;
-    let text = changed(alloc, script.as_str(), from, to)?;
-    told(alloc, text.as_str())
+    told_changed(alloc, script.as_str(), from, to)
+}
+
+/// What the script is read as with a part so many times, and an end, in the place of another.
+fn told_with_many(
+    alloc: Global,
+    from: &str,
+    part: &str,
+    times: usize,
+    end: &str,
+) -> Result<String, Fail> {
+    let mut text = repeated(alloc, part, times)?;
+    text.push_str(end)?;
+    told_with(alloc, from, text.as_str())
 }
 
 #[test]
 fn each_fault(rt: HostRuntime) -> Result<(), Fail> {
     let alloc = rt.alloc();
-    for (from, to, line) in CHANGES {
-        assert_eq!(rt;
-            told_with(alloc, from, to)?.as_str(),
-            line,
-            "{from} to {to}"
-        );
+    for (from, to, line) in &CHANGES {
+        let told = told_with(alloc, from, to)?;
+        assert!(rt; told.as_str() == *line, "{from} to {to}");
     }
     Ok(())
 }
@@ -189,13 +211,10 @@ fn each_fault(rt: HostRuntime) -> Result<(), Fail> {
 #[test]
 fn tracks_that_are_no_tables(rt: HostRuntime) -> Result<(), Fail> {
     let alloc = rt.alloc();
-    for (track, line) in [
-        ("", "key 0 track"),
-        ("track = []", "range 0 track 0"),
-        ("track = [1]", "key 0 track"),
-    ] {
+    for (track, line) in &NO_TABLES {
         let text = format!(in alloc; "{HEAD}{track}")?;
-        assert_eq!(rt; told(alloc, text.as_str())?.as_str(), line, "{track}");
+        let told = told(alloc, text.as_str())?;
+        assert!(rt; told.as_str() == *line, "{track}");
     }
     Ok(())
 }
@@ -204,14 +223,10 @@ fn tracks_that_are_no_tables(rt: HostRuntime) -> Result<(), Fail> {
 fn the_first_of_two_faults(rt: HostRuntime) -> Result<(), Fail> {
     let alloc = rt.alloc();
     let script = format!(in alloc; "{HEAD}{TRACK}")?;
-    for (from, to, other, other_to, line) in PAIRS {
+    for (from, to, other, other_to, line) in &PAIRS {
         let once = changed(alloc, script.as_str(), from, to)?;
-        let twice = changed(alloc, once.as_str(), other, other_to)?;
-        assert_eq!(rt;
-            told(alloc, twice.as_str())?.as_str(),
-            line,
-            "{to} and {other_to}"
-        );
+        let told = told_changed(alloc, once.as_str(), other, other_to)?;
+        assert!(rt; told.as_str() == *line, "{to} and {other_to}");
     }
     Ok(())
 }
@@ -219,14 +234,42 @@ fn the_first_of_two_faults(rt: HostRuntime) -> Result<(), Fail> {
 #[test]
 fn the_limits_of_lists(rt: HostRuntime) -> Result<(), Fail> {
     let alloc = rt.alloc();
-    let ops = repeated(alloc, "'yield', ", 4094)?;
-    let list = format!(in alloc; "{ops}'remove'")?;
-    let found = told_with(alloc, "'write 2'", list.as_str())?;
-    assert_eq!(rt; found.as_str(), "limit ops 4097");
-    let turns = repeated(alloc, "'n', ", 99999)?;
-    let found = told_with(alloc, "'n', ", turns.as_str())?;
-    assert_eq!(rt; found.as_str(), "limit turns 100001");
+    let ops = told_with_many(alloc, "'write 2'", "'yield', ", 4094, "'remove'")?;
+    assert!(rt; ops.as_str() == "limit ops 4097");
+    let turns = told_with_many(alloc, "'n', ", "'n', ", 99999, "")?;
+    assert!(rt; turns.as_str() == "limit turns 100001");
     Ok(())
+}
+
+const TURNS: [TurnSpec; 3] = [
+    TurnSpec::Client { track: 0 },
+    TurnSpec::Normal,
+    TurnSpec::Fast { cycles: 1 },
+];
+
+const OPS: [Op; 4] = [Op::OpenTrack, Op::Start, Op::Write { count: 2 }, Op::Remove];
+
+/// Whether the script has its sizes and its turns.
+fn has_sizes_and_turns(script: &Script) -> bool {
+    script.version() == 1
+        && script.frames() == 2
+        && script.normal() == 1
+        && script.cycles() == 4
+        && script.turns() == TURNS.as_slice()
+}
+
+/// Whether its first track is as it stands there.
+fn has_track(script: &Script) -> bool {
+    let Some(track) = script.tracks().first() else {
+        return false;
+    };
+    track.fast
+        && track.frames == 8
+        && !track.mono
+        && track.base == 0
+        && track.scale == 4096
+        && track.file.as_str() == "tone.pcm"
+        && track.ops.as_slice() == OPS.as_slice()
 }
 
 #[test]
@@ -234,34 +277,7 @@ fn the_parts_of_a_script(rt: HostRuntime) -> Result<(), Fail> {
     let alloc = rt.alloc();
     let text = format!(in alloc; "{HEAD}{TRACK}")?;
     let script = read(alloc, text.as_bytes()).ok().ok_or("not read")?;
-    assert_eq!(rt;
-        (
-            script.version(),
-            script.frames(),
-            script.normal(),
-            script.cycles()
-        ),
-        (1, 2, 1, 4)
-    );
-    let turns = [
-        TurnSpec::Client { track: 0 },
-        TurnSpec::Normal,
-        TurnSpec::Fast { cycles: 1 },
-    ];
-    assert_eq!(rt; script.turns(), turns.as_slice());
-    let track = script.tracks().first().ok_or("no track")?;
-    assert_eq!(rt;
-        (
-            track.fast,
-            track.frames,
-            track.mono,
-            track.base,
-            track.scale
-        ),
-        (true, 8, false, 0, 4096)
-    );
-    assert_eq!(rt; track.file.as_str(), "tone.pcm");
-    let ops = [Op::OpenTrack, Op::Start, Op::Write { count: 2 }, Op::Remove];
-    assert_eq!(rt; track.ops.as_slice(), ops.as_slice());
+    assert!(rt; has_sizes_and_turns(&script));
+    assert!(rt; has_track(&script));
     Ok(())
 }

@@ -167,16 +167,16 @@ fn both_play<L: Ledger>(
 
 fn all_play(alloc: Global, first: Numbers) -> Result<bool, Memory> {
     let mut right = true;
-    for second in SETTINGS {
-        right = both_play::<Brand>(alloc, Blank::new(1), first, second)? && right;
+    for second in &SETTINGS {
+        right = both_play::<Brand>(alloc, Blank::new(1), first, *second)? && right;
     }
     Ok(right)
 }
 
 #[test]
 fn each_setting_after_each_plays_as_the_model(rt: HostRuntime) -> Result<(), Fail> {
-    for first in SETTINGS {
-        assert!(rt; all_play(rt.alloc(), first)?, "after {first:?}");
+    for first in &SETTINGS {
+        assert!(rt; all_play(rt.alloc(), *first)?, "after {first:?}");
     }
     Ok(())
 }
@@ -223,30 +223,34 @@ fn five_of(alloc: Global, setting: Numbers) -> Result<([[i16; 8]; 5], [Unrolled;
     five_calls::<Brand>(alloc, Blank::new(1), setting)
 }
 
+// The samples of a loop that is played twice, and of the rest behind it.
+const LOOPED: [[i16; 8]; 5] = [
+    [3, 4, 5, 6, 7, 8, 9, 10],
+    [11, 12, 13, 14, 15, 16, 17, 18],
+    [3, 4, 5, 6, 7, 8, 9, 10],
+    [11, 12, 13, 14, 15, 16, 17, 18],
+    [19, 20, 0, 0, 0, 0, 0, 0],
+];
+
+// What the last two calls answer.
+const ANSWERS: [Unrolled; 2] = [
+    Unrolled {
+        number: 1,
+        filled: 8,
+        shut: None,
+    },
+    Unrolled {
+        number: 1,
+        filled: 2,
+        shut: None,
+    },
+];
+
 #[test]
 fn a_loop_is_played_twice_and_then_the_rest(rt: HostRuntime) -> Result<(), Fail> {
     let (samples, answers) = five_of(rt.alloc(), (2, 18, 1))?;
-    assert_eq!(rt; samples[0], [3, 4, 5, 6, 7, 8, 9, 10]);
-    assert_eq!(rt; samples[1], [11, 12, 13, 14, 15, 16, 17, 18]);
-    assert_eq!(rt; samples[2], samples[0]);
-    assert_eq!(rt; samples[3], samples[1]);
-    assert_eq!(rt; samples[4], [19, 20, 0, 0, 0, 0, 0, 0]);
-    assert_eq!(rt;
-        answers[3],
-        Unrolled {
-            number: 1,
-            filled: 8,
-            shut: None
-        }
-    );
-    assert_eq!(rt;
-        answers[4],
-        Unrolled {
-            number: 1,
-            filled: 2,
-            shut: None
-        }
-    );
+    assert!(rt; samples == LOOPED);
+    assert!(rt; [answers[3], answers[4]] == ANSWERS);
     Ok(())
 }
 
@@ -258,8 +262,8 @@ fn a_loop_of_fifteen_frames_shuts_the_player(rt: HostRuntime) -> Result<(), Fail
         filled: 0,
         shut: Some((2, 17, 1)),
     };
-    assert_eq!(rt; samples, [[0; 8]; 5]);
-    assert_eq!(rt; answers, [shut; 5]);
+    assert!(rt; samples == [[0; 8]; 5]);
+    assert!(rt; answers == [shut; 5]);
     Ok(())
 }
 
@@ -273,11 +277,11 @@ fn both_ends_in_one_hand(rt: HostRuntime) -> Result<(), Fail> {
     let mut hand = InHand::make(rt.alloc(), &frames)?;
     let mut out = [SILENCE; 2];
     let first = hand.play(Gains::clamped(0x1000_1000), &mut out);
-    assert_eq!(rt; out, [frames[0], frames[1]]);
-    assert_eq!(rt; hand.set(1, 0, 0), 1);
+    assert!(rt; out == [frames[0], frames[1]]);
+    assert!(rt; hand.set(1, 0, 0) == 1);
     let second = hand.play(Gains::clamped(0x1000_1000), &mut out);
-    assert_eq!(rt; out, [frames[1], frames[2]]);
-    assert_eq!(rt; (first.number, first.filled, first.shut), (0, 2, None));
-    assert_eq!(rt; (second.number, second.filled, second.shut), (1, 2, None));
+    assert!(rt; out == [frames[1], frames[2]]);
+    assert!(rt; first.number == 0 && first.filled == 2 && first.shut == None);
+    assert!(rt; second.number == 1 && second.filled == 2 && second.shut == None);
     Ok(())
 }
