@@ -2,7 +2,7 @@ pub mod Booleans
 mod FirstFound
 pub mod JudgedExactly
 mod JournalJudged
-mod RunEnds
+pub mod RunEnds
 mod RunMayEnd
 pub mod OneVerdict
 mod RoundParts
