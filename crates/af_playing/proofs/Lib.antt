@@ -18,3 +18,5 @@ pub mod RunFollows
 pub mod ToldAlone
 pub mod NeverOlder
 pub mod SparedOfAll
+pub mod PlayedOn
+pub mod PlayLegal

@@ -4,7 +4,7 @@ ghost use Rattle.af_runs.specs.LegalRuns.{IsCutRun, IsLegalRun};
 ghost use Rattle.af_model.specs.Journals.{journal_of};
 ghost use Rattle.af_playing.specs.declared.answering.PlayFault.TheVariants.{CycleLimit, Memory as MemoryFault};
 ghost use Rattle.af_session.specs.Ends.{ends_from};
-ghost use Rattle.af_playing.specs.PlayedRuns.{AtLimit};
+ghost use Rattle.af_playing.specs.PlayedRuns.{AtLimit, all_ended};
 ghost use Rattle.af_playing.specs.PlayKept.{Answers};
 ghost use Rattle.af_rendering.specs.Rendered.{HaveFiles};
 ghost use Rattle.af_session.specs.Shown.{summary_told};
@@ -15,6 +15,7 @@ use af_audit::judge;
 use af_base::Memory;
 use af_io::{Pcm, StoreError};
 use af_model::Journal;
+use af_play_law::a_play_is_told_by_its_journal;
 use af_rendering::{Ends, Played, Stage, hand_over};
 use af_script::Script;
 use std::alloc::Global;
@@ -56,43 +57,29 @@ impl From<Memory> for PlayFault {
     }
 }
 
-// Judges a journal by itself, as anyone may: Memory says that there was none, that the journal isn't legal, or that it is longer than the judge counts. No play has come to the last two.
-fn judged(
-    alloc: Global,
-    script: &Script,
-    files: &[Pcm],
-    journal: &Journal,
-    cut: bool,
-) -> Result<(), Memory>
+// What is handed back where all parties have ended. Its journal is legal by the law on plays, whatever the threads did.
+fn whole(stage: Stage, script: &Script, files: &[Pcm]) -> Played
+    requires played { HasPlayed script.now files.now stage }
+    requires ended { all_ended stage.parties ≡ true }
+    ensures journal { result.journal ≡ journal_of stage.rounds stage.parties.fast.log }
+    ensures ends { result.ends ≡ ends_from stage.parties }
+    ensures summary { result.summary ≡ summary_told script.now.frames result.journal result.ends }
+    ensures legal { IsLegalRun script.now files.now result.journal }
+{
+    a_play_is_told_by_its_journal();
+    stage.finish()
+}
+
+// Judges the journal of a play that was cut off by itself, as anyone may: Memory says that there was none, that it isn't that of a cut run, or that it is longer than the judge counts. No play has come to the last two.
+fn judged(alloc: Global, script: &Script, files: &[Pcm], journal: &Journal) -> Result<(), Memory>
     requires tracks { journal.now.tracks ≡ length script.now.tracks }
     requires files { length files.now ≡ length script.now.tracks }
-    ensures legal { cut ≡ false → OnOk result (IsLegalRun script.now files.now journal.now) }
-    ensures cut { cut ≡ true → OnOk result (IsCutRun script.now files.now journal.now) }
+    ensures { OnOk result (IsCutRun script.now files.now journal.now) }
 {
-    if judge(alloc, script, files, journal, cut)? {
+    if judge(alloc, script, files, journal, true)? {
         return Ok(());
     }
     Err(Memory)
-}
-
-// What is handed back where all parties have ended, once the journal was judged.
-fn whole(stage: Stage, alloc: Global, script: &Script, files: &[Pcm]) -> Result<Played, PlayFault>
-    requires played { HasPlayed script.now files.now stage }
-    requires files { HaveFiles (record { tracks = script.now.tracks; files = files.now }) }
-    ensures journal { IfOk result (λ p. p.journal ≡ journal_of stage.rounds stage.parties.fast.log) }
-    ensures ends { IfOk result (λ p. p.ends ≡ ends_from stage.parties) }
-    ensures summary { IfOk result (λ p. p.summary ≡ summary_told script.now.frames p.journal p.ends) }
-    ensures legal { IfOk result (λ p. IsLegalRun script.now files.now p.journal) }
-    ensures memory { IfErr result (λ f. f ≡ MemoryFault) }
-{
-    let played = stage.finish();
-    match judged(alloc, script, files, &played.journal, false) {
-        Ok(()) => Ok(played),
-        Err(_) => {
-            drop(played);
-            Err(PlayFault::Memory)
-        }
-    }
 }
 
 // What is handed back where the log is full first, once the journal was judged.
@@ -104,7 +91,7 @@ fn cut_off(stage: Stage, alloc: Global, script: &Script, files: &[Pcm]) -> Resul
     ensures cut_run { IfErr result (AtLimit (λ journal _. IsCutRun script.now files.now journal)) }
 {
     let (journal, ends) = hand_over(stage.parties, stage.rounds);
-    match judged(alloc, script, files, &journal, true) {
+    match judged(alloc, script, files, &journal) {
         Ok(()) => Err(PlayFault::CycleLimit { journal, ends }),
         Err(_) => {
             drop(journal);
@@ -114,7 +101,7 @@ fn cut_off(stage: Stage, alloc: Global, script: &Script, files: &[Pcm]) -> Resul
     }
 }
 
-/// What a play answers of a stage that was played to its end, or to that of the log, once its journal was judged.
+/// What a play answers of a stage that was played to its end, or to that of the log. Where all have ended it is Ok, and no memory is taken; what was cut off is judged before it is handed back.
 pub fn answer(
     stage: Stage,
     alloc: Global,
@@ -126,7 +113,7 @@ pub fn answer(
     ensures { Answers script.now files.now stage result }
 {
     if have_ended(&stage.parties) {
-        return whole(stage, alloc, script, files);
+        return Ok(whole(stage, script, files));
     }
     cut_off(stage, alloc, script, files)
 }
