@@ -1,5 +1,5 @@
 -- The two files of a play in which all parties have ended are found legal.
-use Rattle.std.proofs.Common.{◌≡◌, ◌∙◌, ℕ, ◌<◌, true, List, length, ap, refl, subst, sym}
+use Rattle.std.proofs.Common.{◌≡◌, ℕ, ◌<◌, true, List, length, refl, subst}
 use Rattle.af_audit.specs.Verdicts.{IsVerdict}
 use Rattle.af_audit.specs.declared.verdict.Refusal.TheVariants as refused
 use Rattle.af_audit.specs.declared.verdict.Verdict.{Verdict}
@@ -9,8 +9,6 @@ use Rattle.af_audit.proofs.OneVerdict.{one_verdict}
 use Rattle.af_base.specs.declared.frame.Frame.{Frame}
 use Rattle.af_model.specs.Journals.{JournalData}
 use Rattle.af_script.specs.Data.{ScriptData}
-use Rattle.af_playing.specs.PlayedRuns.{HandsBackRun}
-use Rattle.af_session.specs.Ends.{EndsState}
 use Rattle.af_commands.specs.Plays.{IsPlay}
 use Rattle.af_commands.specs.PlaysJudged.{IsFoundLegal, PlayIsFoundLegal}
 use Rattle.af_commands.specs.Verified.{IsJudged, IsOfJournal}

@@ -1,12 +1,11 @@
 -- What is found of a text's front is found of the text.
-use Rattle.std.proofs.Common.{◌≡◌, ℕ, ◌+◌, ◌-◌, ◌<◌, Bool, true, false, List, length, String, Result, Ok, Err, refl, arith, subst, sym}
+use Rattle.std.proofs.Common.{◌≡◌, ℕ, ◌-◌, ◌<◌, Bool, true, false, List, length, String, Result, Ok, Err, refl, arith, subst, sym}
 use Rattle.std.specs.declared.alloc.Global.{Global}
 use Rattle.af_audit.specs.Verdicts.{IsVerdict}
 use Rattle.af_audit.specs.declared.verdict.Refusal.TheVariants as refused
 use Rattle.af_audit.specs.declared.verdict.Verdict.{Verdict}
 use Rattle.af_audit.specs.declared.verdict.Verdict.TheVariants as verdict
 use Rattle.af_commands.proofs.FrontFault.{begins_fault}
-use Rattle.af_base.specs.declared.frame.Frame.{Frame}
 use Rattle.af_journal.specs.Beginnings.{IsFrontOf}
 use Rattle.af_journal.specs.declared.building.JournalFault.{JournalFault}
 use Rattle.af_journal.specs.declared.building.JournalFault.TheVariants as fault

@@ -1,4 +1,4 @@
-use Rattle.std.proofs.Common.{rules, ◌≡◌, List, length, subst}
+use Rattle.std.proofs.Common.{rules, length}
 use Rattle.af_audit.specs.Verdicts.{IsVerdict}
 use Rattle.af_journal.specs.Beginnings.{IsFrontOf}
 use Rattle.af_commands.specs.Asked as asked
