@@ -16,8 +16,6 @@ mod plain_tests;
 #[cfg(test)]
 mod playing_tests;
 #[cfg(test)]
-mod printed_tests;
-#[cfg(test)]
 mod session_tests;
 #[cfg(test)]
 mod tracing_tests;
