@@ -14,7 +14,7 @@ use Rattle.af_rendering.specs.declared.rendering.Played.{Played}
 use Rattle.af_session.specs.Ends.{EndsState}
 use Rattle.af_playing.specs.PlayedRuns.{AtFault, AtLimit, HandsBackRun, IsLegalJournal, LeavesRun}
 use Rattle.af_playing.specs.PlayKept.{KeepsPlay}
-use Rattle.af_session.specs.Shown.{summary_told}
+use Rattle.af_playing.specs.PlayedAlone.{summary_of_play}
 use Rattle.af_runs.specs.Pcm.{journal_pcm}
 use Rattle.af_commands.specs.declared.status.Stop.{Stop}
 use Rattle.af_commands.specs.declared.status.Stop.TheVariants.{Refused, Over, Store, Memory}
@@ -45,7 +45,7 @@ module _ (ended : Bool) (l : Loaded) (journal : JournalData) (ends : EndsState) 
   abbrev bytes : List ℕ
   bytes = journal_pcm l.script.frames journal
 
-  is_play : (line : List ℕ) → line ≡ run_line ended l.script journal ends → IsPlay ended l.script l.files bytes (text_of journal) line
+  is_play : (line : List ℕ) → line ≡ run_line ended l.script l.files journal → IsPlay ended l.script l.files bytes (text_of journal) line
   is_play line is = record { journal = journal; ends = ends; run = back; legal = legal; bytes_are = refl; text_is = refl; read = read_alone ended l journal ends back; line_is = is }
 
   module _ (target name : List ℕ) (old mid : Files) (set : SetsFile old target (Some bytes) mid) where
@@ -53,7 +53,7 @@ module _ (ended : Bool) (l : Loaded) (journal : JournalData) (ends : EndsState) 
     made = files_are mid (with_file old (record { name = target; bytes = bytes })) (λ other. sym (set other))
 
     -- both files are whole
-    pub played : (line : List ℕ) (new : Files) → line ≡ run_line ended l.script journal ends → SetsFile mid name (Some (text_of journal)) new → IsPlayed ended l.script l.files target name line old new
+    pub played : (line : List ℕ) (new : Files) → line ≡ run_line ended l.script l.files journal → SetsFile mid name (Some (text_of journal)) new → IsPlayed ended l.script l.files target name line old new
     played line new is text =
         (bytes, text_of journal, is_play line is, subst (λ (files : Files). SetsFile files name (Some (text_of journal)) new) (sym made) text)
 
@@ -63,15 +63,15 @@ module _ (ended : Bool) (l : Loaded) (journal : JournalData) (ends : EndsState) 
       ended,
       bytes,
       text_of journal,
-      run_line ended l.script journal ends,
-      is_play (run_line ended l.script journal ends) refl,
+      run_line ended l.script l.files journal,
+      is_play (run_line ended l.script l.files journal) refl,
       subst (λ (files : Files). LeavesFront files name (text_of journal) new) (sym made) left,
     )
 
 -- ## A run in which all parties have ended
 
-module _ (l : Loaded) (journal : JournalData) (ends : EndsState) (back : HandsBackRun true l.script l.files journal ends) (legal : IsLegalJournal true l.script l.files journal) (summary : Summary) (summary_is : summary ≡ summary_told l.script.frames journal ends) where
-  pub line_told : (line : List ℕ) → line ≡ summary_line summary → line ≡ run_line true l.script journal ends
+module _ (l : Loaded) (journal : JournalData) (ends : EndsState) (back : HandsBackRun true l.script l.files journal ends) (legal : IsLegalJournal true l.script l.files journal) (summary : Summary) (summary_is : summary ≡ summary_of_play l.script l.files journal) where
+  pub line_told : (line : List ℕ) → line ≡ summary_line summary → line ≡ run_line true l.script l.files journal
   line_told line is = is ∙ ap summary_line summary_is
 
   pub some_play_line : (line : List ℕ) → line ≡ summary_line summary → IsSomePlayLine line
@@ -97,7 +97,7 @@ LeavesRun-stays l target old mid new left same = subst (λ (files : Files). Leav
 
 module _ (l : Loaded) (cycles : ℕ) where
   pub some_play_told : (played : Result Played PlayFault) (result : Result (String Global) Stop) → KeepsPlay l.script l.files played → Tells cycles played result → IfOk result (λ line. IsSomePlayLine (string_bytes line))
-  some_play_told (Ok p) (Ok line) keeps told = some_play_line l p.journal p.ends keeps.played (promises l p keeps) p.summary keeps.summary (string_bytes line) told
+  some_play_told (Ok p) (Ok line) keeps told = some_play_line l p.journal p.ends keeps.played (promises l p keeps) p.summary (keeps.summary ∙ keeps.alone) (string_bytes line) told
   some_play_told (Err (fault.CycleLimit journal ends)) (Ok line) keeps none = absurd none
   some_play_told (Err fault.Store) (Ok line) keeps clash = let none : ⊥ = cc in absurd none
   some_play_told (Err fault.Memory) (Ok line) keeps clash = let none : ⊥ = cc in absurd none
@@ -109,7 +109,7 @@ module _ (l : Loaded) (cycles : ℕ) where
         → IfErr played (AtLimit (λ journal _. SetsFile old target (Some (journal_pcm l.script.frames journal)) mid))
         → IfErr played (AtFault (LeavesRun l.script l.files target old mid))
         → Tells cycles played result → TellsText name played result mid new → Makes result (Ok (play_job target name l)) old new
-    Makes-told (Ok p) (Ok line) keeps set cut left told text = Makes-rounds l p.journal p.ends keeps.played (promises l p keeps) p.summary keeps.summary target name old mid new set text line told
+    Makes-told (Ok p) (Ok line) keeps set cut left told text = Makes-rounds l p.journal p.ends keeps.played (promises l p keeps) p.summary (keeps.summary ∙ keeps.alone) target name old mid new set text line told
     Makes-told (Ok p) (Err (Refused refusal)) keeps set cut left none text = absurd none
     Makes-told (Ok p) (Err (Over over)) keeps set cut left none text = absurd none
     Makes-told (Ok p) (Err Store) keeps set cut left told text = inl (inr (inr (text_left true l p.journal p.ends keeps.played (promises l p keeps) target name old mid set new text)))

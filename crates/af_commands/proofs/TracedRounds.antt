@@ -16,7 +16,7 @@ use Rattle.af_session.specs.Ends.{EndsState}
 use Rattle.af_side_by_side.specs.Logging.{IsLogOf}
 use Rattle.af_playing.specs.PlayedRuns.{AtFault, AtLimit, HandsBackRun, IsLegalJournal, LeavesRun}
 use Rattle.af_playing.specs.PlayKept.{KeepsPlay}
-use Rattle.af_session.specs.Shown.{summary_told}
+use Rattle.af_playing.specs.PlayedAlone.{summary_of_play}
 use Rattle.af_commands.specs.declared.status.Stop.{Stop}
 use Rattle.af_commands.specs.declared.status.Stop.TheVariants.{Refused, Over, Store, Memory}
 use Rattle.af_commands.specs.declared.status.Ending.{Ending}
@@ -42,7 +42,7 @@ module _ (l : Loaded) (room : ℕ) (journal : JournalData) (ends : EndsState) (b
   abbrev told : List ℕ
   told = log_text notes refused
 
-  is_trace : (line : List ℕ) → line ≡ run_line true l.script journal ends → IsTrace l.script l.files room bytes (text_of journal) told line
+  is_trace : (line : List ℕ) → line ≡ run_line true l.script l.files journal → IsTrace l.script l.files room bytes (text_of journal) told line
   is_trace line is = record { play = record { journal = journal; ends = ends; run = back; legal = legal; bytes_are = refl; text_is = refl; read = read_alone true l journal ends back; line_is = is }; notes = notes; refused = refused; log_of = log_of; log_is = refl; all_kept = kept }
 
   module _ (target name log : List ℕ) (old mid next : Files) (set : SetsFile old target (Some bytes) mid) (text : SetsFile mid name (Some (text_of journal)) next) where
@@ -52,7 +52,7 @@ module _ (l : Loaded) (room : ℕ) (journal : JournalData) (ends : EndsState) (b
         ∙ files_are next (with_file mid (record { name = name; bytes = text_of journal })) (λ other. sym (text other))
 
     -- all three files are whole
-    traced : (line : List ℕ) (new : Files) → line ≡ run_line true l.script journal ends → SetsFile next log (Some told) new → IsTraced l.script l.files room target name log line old new
+    traced : (line : List ℕ) (new : Files) → line ≡ run_line true l.script l.files journal → SetsFile next log (Some told) new → IsTraced l.script l.files room target name log line old new
     traced line new is wrote = (bytes, text_of journal, told, is_trace line is, subst (λ (files : Files). SetsFile files log (Some told) new) (sym both) wrote)
 
     -- the log is not whole
@@ -61,12 +61,12 @@ module _ (l : Loaded) (room : ℕ) (journal : JournalData) (ends : EndsState) (b
       bytes,
       text_of journal,
       told,
-      run_line true l.script journal ends,
-      is_trace (run_line true l.script journal ends) refl,
+      run_line true l.script l.files journal,
+      is_trace (run_line true l.script l.files journal) refl,
       subst (λ (files : Files). LeavesFront files log told new) (sym both) left,
     )
 
-    pub Makes-traced : (summary : Summary) → summary ≡ summary_told l.script.frames journal ends → (new : Files) → SetsFile next log (Some told) new → (line : String Global) → string_bytes line ≡ summary_line summary → Makes (Ok line) (Ok (trace_job target name log room l)) old new
+    pub Makes-traced : (summary : Summary) → summary ≡ summary_of_play l.script l.files journal → (new : Files) → SetsFile next log (Some told) new → (line : String Global) → string_bytes line ≡ summary_line summary → Makes (Ok line) (Ok (trace_job target name log room l)) old new
     Makes-traced summary summary_is new wrote line is = traced (string_bytes line) new (line_told l journal ends back legal summary summary_is (string_bytes line) is) wrote
 
 -- ## Where no log is written
@@ -102,7 +102,7 @@ module _ (l : Loaded) (room : ℕ) (target name log : List ℕ) (old mid new : F
         → IfOk played (λ p. HasLog l room p.journal grown empty)
         → Tells cycles played result → TellsTexts name log held played result mid new → Makes result (Ok (trace_job target name log room l)) old new
     Makes-logged (Ok p) (Ok line) keeps set cut left logged line_is (next, text, wrote) =
-        Makes-traced l room p.journal p.ends keeps.played (promises l p keeps) logged.0 logged.1 logged.2 logged.4 target name log old mid next set text p.summary keeps.summary new
+        Makes-traced l room p.journal p.ends keeps.played (promises l p keeps) logged.0 logged.1 logged.2 logged.4 target name log old mid next set text p.summary (keeps.summary ∙ keeps.alone) new
         (subst (λ (xs : List ℕ). SetsFile next log (Some xs) new) (appended held grown empty (log_text logged.0 logged.1) held_is logged.3 none) wrote) line line_is
     Makes-logged (Ok p) (Err (Refused refusal)) keeps set cut left logged wrong texts = absurd wrong
     Makes-logged (Ok p) (Err (Over over)) keeps set cut left logged wrong texts = absurd wrong

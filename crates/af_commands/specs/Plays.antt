@@ -6,9 +6,9 @@ use Rattle.af_io.specs.Outputs.{SetsFiles, with_file}
 use Rattle.af_journal.specs.Texts.{text_of}
 use Rattle.af_model.specs.Journals.{JournalData}
 use Rattle.af_script.specs.Data.{ScriptData}
+use Rattle.af_playing.specs.PlayedAlone.{summary_of_play}
 use Rattle.af_playing.specs.PlayedRuns.{HandsBackRun, IsLegalJournal, LeavesRun}
 use Rattle.af_session.specs.Ends.{EndsState}
-use Rattle.af_session.specs.Shown.{summary_told}
 use Rattle.af_runs.specs.Pcm.{journal_pcm}
 use Rattle.af_commands.specs.Line.{limit_text}
 use Rattle.af_commands.specs.Sessions.{summary_line}
@@ -16,10 +16,10 @@ use Rattle.af_commands.specs.Verified.{IsTextFor}
 
 -- ## One run
 
--- the line of a run: where all parties have ended that of its summary, and else that of the limit
-abbrev pub run_line : Bool → ScriptData → JournalData → EndsState → List ℕ
-run_line true script journal ends = summary_line (summary_told script.frames journal ends)
-run_line false script journal ends = limit_text script.cycles
+-- the line of a run, by its journal alone: where all parties have ended that of its summary, and else that of the limit
+abbrev pub run_line : Bool → ScriptData → List (List Frame) → JournalData → List ℕ
+run_line true script files journal = summary_line (summary_of_play script files journal)
+run_line false script files journal = limit_text script.cycles
 
 -- These bytes, this text and this line are of one run of all parties, in which all have ended, or which was cut off where the log was full: the sound of its journal, the text of the same journal, which is its one reading, and its line. By itself that journal is a legal run in which each frame of a lawful client has one fate and each lawful track is spared, or else a cut run
 pub record IsPlay (ended : Bool) (script : ScriptData) (files : List (List Frame)) (bytes text line : List ℕ) : Type 0 where
@@ -30,7 +30,7 @@ pub record IsPlay (ended : Bool) (script : ScriptData) (files : List (List Frame
   pub bytes_are : bytes ≡ journal_pcm script.frames journal
   pub text_is : text ≡ text_of journal
   pub read : IsTextFor script text journal
-  pub line_is : line ≡ run_line ended script journal ends
+  pub line_is : line ≡ run_line ended script files journal
 
 -- this is the line of a run of some script with some files, in which all parties have ended
 abbrev pub IsSomePlayLine : List ℕ → Type 0
