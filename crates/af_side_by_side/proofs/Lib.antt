@@ -1,6 +1,7 @@
 pub mod AloneTurns
 pub mod Zips
 pub mod ReadyOfAll
+pub mod ClientGiven
 pub mod NotedOfAll
 pub mod NotedTurns
 pub mod LogNotes
