@@ -1,5 +1,6 @@
 //! The log of a fast mixer: what each cycle read, saw and took.
 ghost use Rattle.std.specs.Prelude.{◌≡◌, ◌+◌, ◌*◌, ◌<◌, ◌≤◌, ◌^◌, [], ◌∷◌, ◌++◌, length, IfOk, MatchOption};
+ghost use Rattle.std.specs.Vec.{vec_capacity};
 ghost use Rattle.af_base.specs.Log.{slots, entry_at};
 
 use crate::seen::Seen;
@@ -96,6 +97,13 @@ impl FastLog {
         let entries = Vec::with_capacity(alloc, cycles)?;
         let frames = Vec::with_capacity(alloc, SLOTS * (cycles * frames))?;
         Ok(FastLog { entries, frames })
+    }
+
+    /// A log of these entries, whose slots name the place of their frames among these frames. It takes no memory, and has room for what these lists have room for.
+    pub fn of(entries: Vec<CycleEntry>, frames: Vec<Frame>) -> FastLog
+        ensures { result ≡ record { entries = entries.items; frames = frames.items; room = vec_capacity entries; frame_room = vec_capacity frames } }
+    {
+        FastLog { entries, frames }
     }
 
     /// How many entries there are.
