@@ -192,12 +192,17 @@ def cited(item, words=None):
     return [it for it in found if it]
 
 
-def reached(function):
-    """Returns all definitions and types that the clauses of a function reach."""
-    todo, seen = cited(function, clauses(function)), {}
+def closure(items):
+    """Returns these items and all that they reach."""
+    todo, seen = list(items), {}
     while todo:
         item = todo.pop()
         if item.place not in seen:
             seen[item.place] = item
             todo += cited(item) if item.kind == "definition" else []
     return list(seen.values())
+
+
+def reached(function):
+    """Returns all definitions and types that the clauses of a function reach."""
+    return closure(cited(function, clauses(function)))
