@@ -99,7 +99,7 @@ def code():
             start = DECLARES.match(line)
             if start:
                 first = at
-                while first and lines[first - 1].strip().startswith(("///", "#[")):
+                while first and lines[first - 1].strip().startswith(("// ", "/// ", "///", "#[")):
                     first -= 1
                 depth = len(line) - len(line.lstrip())
                 last = braced(lines, at)
