@@ -1,5 +1,5 @@
 """What stands in the sources under crates/: definitions, types, functions and clauses, with their text and place."""
-import functools, os, re
+import functools, glob, os, re
 
 TOP = os.path.dirname(os.path.dirname(os.path.abspath(__file__)))
 DEFINES = re.compile(r"^(\s*)(?:abbrev |unfoldable )?(?:pub )?(?:(record|data) )?([A-Za-z_][\w']*)(?: [:({]|$)")
@@ -25,6 +25,11 @@ class Item:
 def read(path):
     with open(os.path.join(TOP, path), encoding="utf-8") as file:
         return file.read().split("\n")
+
+
+def paths(pattern):
+    """Returns the files of a pattern, as paths from the top."""
+    return [os.path.relpath(it, TOP) for it in sorted(glob.glob(os.path.join(TOP, pattern)))]
 
 
 def files(part, ending):
