@@ -78,20 +78,18 @@ def specs():
 
 
 def braced(lines, at):
-    """Returns the line behind the block that opens at a line: its braces are closed, or it ends with ';' before any opened."""
-    depth = opened = 0
+    """Returns the line behind the item that begins at a line: its braces are closed, clauses aside, or it ends with ';' before any opened."""
+    depth, opened, clause = 0, False, False
     for last in range(at, len(lines)):
         text = re.sub(r"'[{}]'|\"(?:[^\"\\]|\\.)*\"|//.*", "", lines[last])
-        for sign in text:
-            depth += (sign == "{") - (sign == "}")
-            opened |= sign == "{"
-        if (opened and depth == 0 and lines[last].rstrip().endswith(("}", "};")) and not is_clause(lines[last])) or (not opened and text.rstrip().endswith(";")):
-            return last + 1
+        clause |= depth == 0 and bool(re.match(r"\s*(ensures|requires|decreases)\b", text))
+        depth += text.count("{") - text.count("}")
+        opened |= "{" in text and not clause
+        if depth == 0:
+            if not clause and (opened and text.rstrip().endswith(("}", "};", "},")) or not opened and text.rstrip().endswith(";")):
+                return last + 1
+            clause = False
     return len(lines)
-
-
-def is_clause(line):
-    return line.strip().startswith(("ensures", "requires", "decreases", "invariant", "⊎", "→"))
 
 
 @functools.lru_cache(None)
@@ -132,6 +130,10 @@ def clause_of(item, name):
                     break
             return [it.strip() if number == 0 or it.startswith("    ") and not it.startswith("        ") else it[4:] for number, it in enumerate(item.lines[first:last])]
     return None
+
+
+def has_clause(item, name):
+    return any(re.match(rf"\s*(ensures|requires)\*? {name} \{{", line) for line in item.lines)
 
 
 def clauses(item):
