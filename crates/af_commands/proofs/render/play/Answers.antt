@@ -1,7 +1,7 @@
 use Rattle.std.proofs.Common.{◌≡◌, Ok, subst}
-use Rattle.af_commands.specs.Asked.{Loaded, session_job}
+use Rattle.af_offline.specs.Asked.{Loaded, session_job}
 use Rattle.af_commands.specs.Ends.{Makes}
-use Rattle.af_commands.specs.Loading.{loaded_view}
+use Rattle.af_offline.specs.Loading.{loaded_view}
 use Rattle.af_commands.proofs.Played.{Makes-rendered, some_line_told}
 use Rattle.af_commands.proofs.PlayedFaults.{HasFault-rendered, IsNoUsage-rendered}
 use Rattle.af_commands.proofs.render.play.Goals as goal

@@ -1,8 +1,8 @@
 use Rattle.std.proofs.Common.{◌≡◌, Ok, subst}
 use Rattle.af_playing.specs.PlayKept.{KeepsPlay}
-use Rattle.af_commands.specs.Asked.{Loaded, trace_job}
+use Rattle.af_offline.specs.Asked.{Loaded, trace_job}
 use Rattle.af_commands.specs.Ends.{Makes}
-use Rattle.af_commands.specs.Loading.{loaded_view}
+use Rattle.af_offline.specs.Loading.{loaded_view}
 use Rattle.af_words.specs.Requests.{Trace}
 use Rattle.af_commands.proofs.PlayedFaults.{HasFault-told, SuitsRequest-told}
 use Rattle.af_commands.proofs.PlayedRounds.{some_play_told}
