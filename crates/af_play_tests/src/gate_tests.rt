@@ -1,5 +1,5 @@
 //! A gate by which two parties are seen to begin their turns side by side.
-use crate::ending_tests::{sink, words_of};
+use crate::shared::{sink, words_of};
 use af_commands::run;
 use af_io::{Gate, MemStore, Pcm, frames_of};
 use af_playing::play;
@@ -67,17 +67,23 @@ impl Gate for Watch {
     }
 }
 
-/// All six turns found the other party, in a run of the program.
-fn expect_run<R: Threads + Sync + Abort>(rt: &R, alloc: Global, other: u32) -> Result<(), Fail> {
-    let watch = Watch::new(other);
+/// A store with the script and the file of both clients.
+fn idle_store(alloc: Global) -> Result<MemStore, Fail> {
     let mut store = MemStore::new(alloc, Vec::new(alloc));
     store.put("s.toml", IDLE.as_bytes())?;
     store.put("in.pcm", &[])?;
-    let mut out = sink(alloc);
+    Ok(store)
+}
+
+/// All six turns found the other party, in a run of the program.
+fn expect_run<R: Threads + Sync + Abort>(rt: &R, alloc: Global, other: u32) -> Result<(), Fail> {
     let words = words_of(alloc, "play s.toml out.pcm journal")?;
+    let mut store = idle_store(alloc)?;
+    let mut out = sink(alloc);
+    let watch = Watch::new(other);
     let ended = run(rt, alloc, &words, &mut store, &mut out, &watch);
-    assert_eq!(rt; ended.code(), 0);
-    assert_eq!(rt; watch.met.load(Ordering::SeqCst), 6);
+    assert!(rt; ended.code() == 0);
+    assert!(rt; watch.met.load(Ordering::SeqCst) == 6);
     Ok(())
 }
 
@@ -111,10 +117,10 @@ fn is_played<R: Threads + Sync>(
 
 /// The same, in a play alone.
 fn expect_play<R: Threads + Sync + Abort>(rt: &R, alloc: Global, other: u32) -> Result<(), Fail> {
-    let watch = Watch::new(other);
     let (script, files) = idle(alloc)?;
+    let watch = Watch::new(other);
     assert!(rt; is_played(rt, alloc, &script, &files, &watch));
-    assert_eq!(rt; watch.met.load(Ordering::SeqCst), 6);
+    assert!(rt; watch.met.load(Ordering::SeqCst) == 6);
     Ok(())
 }
 

@@ -1,8 +1,7 @@
 //! Traces: the log of a play, whatever the order of its parties' turns.
-use crate::ending_tests::{numbered, words_of};
-use crate::playing_tests::WHOLE;
+use crate::shared::{WHOLE, given, sink, words_of};
 use af_commands::run;
-use af_io::{MemSink, MemStore, NoGate};
+use af_io::{MemStore, NoGate};
 use std::alloc::Global;
 use std::process::Abort;
 use std::str;
@@ -23,6 +22,21 @@ fn refused_in(log: &str) -> Option<usize> {
         .ok()
 }
 
+/// The text of a file.
+fn text_in<'a>(store: &'a MemStore, name: &str) -> &'a str {
+    str::from_utf8(store.file(name).unwrap_or(&[])).unwrap_or("")
+}
+
+/// Whether a log notes or refuses each entry of a journal, and refuses so many at most.
+fn is_log(journal: &str, log: &str, most_refused: usize) -> bool {
+    let refused = refused_in(log).unwrap_or(usize::MAX);
+    let lines = log.lines().count();
+    let entries = count_begun(journal, "y ");
+    refused <= most_refused
+        && lines.wrapping_add(refused) == entries.wrapping_add(1)
+        && (log.starts_with("0 0 1 0 0 0\n") || log.starts_with("0 1 "))
+}
+
 /// A trace of a whole play with a log of this room, after which so many notes at most were refused.
 fn expect_trace<R: Threads + Sync + Abort>(
     rt: &R,
@@ -30,23 +44,13 @@ fn expect_trace<R: Threads + Sync + Abort>(
     words: &str,
     most_refused: usize,
 ) -> Result<(), Fail> {
-    let mut store = MemStore::new(alloc, Vec::new(alloc));
-    let mut out = MemSink::new(alloc, Vec::new(alloc));
-    store.put("one.toml", WHOLE.as_bytes())?;
-    store.put("in.pcm", &numbered(alloc, 8)?)?;
     let words = words_of(alloc, words)?;
+    let mut store = given(alloc, 0, WHOLE, 8)?;
+    let mut out = sink(alloc);
     let ended = run(rt, alloc, &words, &mut store, &mut out, &NoGate);
-    assert_eq!(rt; ended.code(), 0);
-    let journal = str::from_utf8(store.file("out.txt").unwrap_or(&[])).unwrap_or("");
-    let log = str::from_utf8(store.file("log.txt").unwrap_or(&[])).unwrap_or("");
-    let refused = refused_in(log).unwrap_or(usize::MAX);
-    assert!(rt; refused <= most_refused);
-    let lines = log.lines().count();
-    assert_eq!(rt;
-        lines.wrapping_add(refused),
-        count_begun(journal, "y ").wrapping_add(1)
-    );
-    assert!(rt; log.starts_with("0 0 1 0 0 0\n") || log.starts_with("0 1 "));
+    assert!(rt; ended.code() == 0);
+    let (journal, log) = (text_in(&store, "out.txt"), text_in(&store, "log.txt"));
+    assert!(rt; is_log(journal, log, most_refused));
     Ok(())
 }
 

@@ -1,15 +1,11 @@
 //! Plays: what is the same however the turns of the parties fall.
-use crate::ending_tests::{numbered, words_of};
+use crate::shared::{WHOLE, failing_sink, given, loud, words_of};
 use af_commands::run;
-use af_io::{MemSink, MemStore, NoGate};
+use af_io::{MemStore, NoGate};
 use std::alloc::Global;
 use std::process::Abort;
 use std::test::Fail;
 use std::thread::Threads;
-
-/// One track that plays two frames to their end, with more cycles than it can take.
-pub(crate) const WHOLE: &str =
-    "version = 1\nframes = 2\nnormal = 1\ncycles = 2000\n[[track]]\nkind = \"fast\"\nframes = 8\nchannels = 2\nfile = \"in.pcm\"\nops = [\"open\", \"start\", \"write 2\", \"stop\", \"drain\", \"remove\"]\n";
 
 /// One cycle, in which nothing can be mixed and not all parties can end.
 const CUT: &str =
@@ -24,24 +20,24 @@ struct End<'a> {
     text: Option<&'a str>,
 }
 
-/// The bytes that aren't zero.
-pub(crate) fn loud(alloc: Global, bytes: &[u8]) -> Result<Vec<u8>, Fail> {
-    let mut found = Vec::new(alloc);
-    for byte in bytes {
-        if *byte != 0 {
-            found.push(*byte)?;
-        }
-    }
-    Ok(found)
+/// Whether the sound has these samples that aren't silent.
+fn has_sound(alloc: Global, store: &MemStore, wanted: &[u8]) -> Result<bool, Fail> {
+    let sound = loud(alloc, store.file("out.pcm").unwrap_or(&[]))?;
+    Ok(sound.as_slice() == wanted)
 }
 
-/// A list of one number, or of none where it is 0.
-fn only(alloc: Global, number: u64) -> Result<Vec<u64>, Fail> {
-    let mut numbers = Vec::new(alloc);
-    if number > 0 {
-        numbers.push(number)?;
+/// Whether the text of the journal begins so, where that file is to be there.
+fn has_text(store: &MemStore, wanted: Option<&str>) -> bool {
+    match (store.file("out.txt"), wanted) {
+        (Some(text), Some(begun)) => text.starts_with(begun.as_bytes()),
+        (None, None) => true,
+        _ => false,
     }
-    Ok(numbers)
+}
+
+/// Whether a line is printed that ends so, and none where that is empty.
+fn is_line(printed: &[u8], wanted: &str) -> bool {
+    printed.ends_with(wanted.as_bytes()) && printed.is_empty() == wanted.is_empty()
 }
 
 /// A play of a script, of which a call of the store and one of the sink fail by their numbers, counted from 1.
@@ -52,21 +48,15 @@ fn expect_play<R: Threads + Sync + Abort>(
     (store_fails, sink_fails): (u64, u64),
     want: End<'_>,
 ) -> Result<(), Fail> {
-    let mut store = MemStore::new(alloc, only(alloc, store_fails)?);
-    let mut out = MemSink::new(alloc, only(alloc, sink_fails)?);
-    store.put("one.toml", script.as_bytes())?;
-    store.put("in.pcm", &numbered(alloc, 8)?)?;
     let words = words_of(alloc, "play one.toml out.pcm out.txt")?;
+    let mut out = failing_sink(alloc, sink_fails)?;
+    let mut store = given(alloc, store_fails, script, 8)?;
     let ended = run(rt, alloc, &words, &mut store, &mut out, &NoGate);
-    assert_eq!(rt; ended.code(), want.status);
-    assert!(rt; out.bytes().ends_with(want.line.as_bytes()));
-    assert_eq!(rt; out.bytes().is_empty(), want.line.is_empty());
-    let sound = loud(alloc, store.file("out.pcm").unwrap_or(&[]))?;
-    assert_eq!(rt; sound.as_slice(), want.sound);
-    let text = store.file("out.txt");
-    assert_eq!(rt; text.is_some(), want.text.is_some());
-    let begun = want.text.unwrap_or("").as_bytes();
-    assert!(rt; text.unwrap_or(&[]).starts_with(begun));
+    assert!(rt; ended.code() == want.status);
+    assert!(rt; is_line(out.bytes(), want.line));
+    assert!(rt; has_text(&store, want.text));
+    let is_heard = has_sound(alloc, &store, want.sound)?;
+    assert!(rt; is_heard);
     Ok(())
 }
 
