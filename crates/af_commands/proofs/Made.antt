@@ -6,7 +6,7 @@ use Rattle.af_io.specs.Outputs.{with_files}
 use Rattle.af_io.proofs.Outputs.{LeavesFronts-none}
 use Rattle.af_io.specs.declared.store.StoreError.{StoreError}
 use Rattle.af_io.specs.declared.store.StoreError.TheVariants as outside
-use Rattle.af_offline.specs.declared.deliver.Output.{Output}
+use Rattle.af_offline.specs.declared.outputs.Output.{Output}
 use Rattle.af_offline.specs.declared.status.Refusal.{Refusal}
 use Rattle.af_offline.specs.declared.status.Stop.{Stop}
 use Rattle.af_offline.specs.declared.status.Stop.TheVariants.{Refused, Over, Store, Memory}

@@ -1,6 +1,6 @@
 -- What a command makes, as the definitions have it.
 use Rattle.std.specs.Prelude.{ℕ, List, [], string_bytes}
-use Rattle.af_offline.specs.declared.deliver.Output.{Output}
+use Rattle.af_offline.specs.declared.outputs.Output.{Output}
 use Rattle.af_offline.specs.Asked.{Exact, Job}
 
 -- what is made, for an output of this name

@@ -11,8 +11,8 @@ ghost use Rattle.af_offline.specs.Line.{counts_text};
 ghost use Rattle.af_offline.specs.Recorded.{Counts, counts_of, empty, heard, period, periods, read_up_to, recorded};
 ghost use Rattle.af_offline.specs.Status.{HasFault, IsNoUsage, Meets};
 
-use crate::deliver::Output;
 use crate::load::{MOST_FILE, frames_in, load_file};
+use crate::outputs::Output;
 use crate::status::{Role, Stop};
 use af_base::{Frame, Memory};
 use af_io::{Store, bytes_of};

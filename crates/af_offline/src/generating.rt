@@ -8,7 +8,7 @@ ghost use Rattle.af_script.specs.Printing.{printed_script};
 ghost use Rattle.af_script.specs.Reading.{script_of};
 ghost use Rattle.af_offline.specs.Generated.{next_draw, drawn, sample_of, drawn_bytes, drawn_files, generated_files};
 
-use crate::deliver::write_file;
+use crate::outputs::write_file;
 use af_base::Memory;
 use af_io::{Store, StoreError};
 use af_script::{GENERATED_FRAMES, GENERATED_TRACKS, Script, generated_name, generated_script};

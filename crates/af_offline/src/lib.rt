@@ -2,18 +2,18 @@
 #![tactic(auto)]
 
 mod capture;
-mod deliver;
 mod generating;
 mod lines;
 mod load;
 mod looping;
+mod outputs;
 mod status;
 mod verifying;
 
 pub use capture::record_output;
-pub use deliver::{Output, deliver, write_file};
 pub use generating::write_session;
 pub use load::{Loaded, load_files, load_script};
 pub use looping::loop_output;
+pub use outputs::{Output, deliver, write_file};
 pub use status::{Ending, FileFault, Refusal, Role, Status, Stop, Why};
 pub use verifying::{Case, judge, load_case};

@@ -13,8 +13,8 @@ ghost use Rattle.af_words.specs.Asking.{AreTurns};
 ghost use Rattle.af_offline.specs.Rolled.{rolls_in};
 ghost use Rattle.af_offline.specs.Status.{HasFault, IsNoUsage, Meets};
 
-use crate::deliver::Output;
 use crate::load::{file_fault, frames_in, load_file};
+use crate::outputs::Output;
 use crate::status::{Role, Stop, Why};
 use af_base::{Frame, Gains, Memory};
 use af_io::{Pcm, Store, bytes_of};

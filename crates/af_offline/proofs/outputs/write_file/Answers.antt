@@ -1,7 +1,7 @@
 use Rattle.std.proofs.Common.{List, ℕ, [], append-nil, sym, rules}
 use Rattle.af_io.specs.Files.{AddsFront, LeavesFront}
 use Rattle.af_io.proofs.Steps.{AddsFront-append, LeavesFront-added}
-use Rattle.af_offline.proofs.deliver.write_file.Goals as goal
+use Rattle.af_offline.proofs.outputs.write_file.Goals as goal
 
 pub returns-in_err-append-clause-left : goal.returns-in_err-append-clause-left
 returns-in_err-append-clause-left g c = λ told.
