@@ -30,3 +30,4 @@ pub mod OneJournal
 mod PokeLines
 mod MarkLines
 mod Beginnings
+mod Rows
