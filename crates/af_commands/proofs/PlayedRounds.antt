@@ -16,18 +16,18 @@ use Rattle.af_playing.specs.PlayedRuns.{AtFault, AtLimit, HandsBackRun, IsLegalJ
 use Rattle.af_playing.specs.PlayKept.{KeepsPlay}
 use Rattle.af_playing.specs.PlayedAlone.{summary_of_play}
 use Rattle.af_runs.specs.Pcm.{journal_pcm}
-use Rattle.af_commands.specs.declared.status.Stop.{Stop}
-use Rattle.af_commands.specs.declared.status.Stop.TheVariants.{Refused, Over, Store, Memory}
-use Rattle.af_commands.specs.declared.status.Ending.{Ending}
-use Rattle.af_commands.specs.declared.status.Ending.TheVariants.{Limit}
-use Rattle.af_commands.specs.Asked.{Loaded, play_job}
+use Rattle.af_offline.specs.declared.status.Stop.{Stop}
+use Rattle.af_offline.specs.declared.status.Stop.TheVariants.{Refused, Over, Store, Memory}
+use Rattle.af_offline.specs.declared.status.Ending.{Ending}
+use Rattle.af_offline.specs.declared.status.Ending.TheVariants.{Limit}
+use Rattle.af_offline.specs.Asked.{Loaded, play_job}
 use Rattle.af_commands.specs.Ends.{Makes}
-use Rattle.af_commands.specs.Line.{limit_text}
+use Rattle.af_offline.specs.Line.{limit_text}
 use Rattle.af_commands.specs.Plays.{IsPlay, IsPlayed, IsSomePlayLine, LeavesText, run_line}
 use Rattle.af_commands.specs.Sessions.{summary_line}
 use Rattle.af_commands.specs.Told.{Tells, TellsText}
-use Rattle.af_commands.specs.Verified.{IsTextFor}
-use Rattle.af_commands.proofs.Made.{files_are}
+use Rattle.af_offline.specs.Verified.{IsTextFor}
+use Rattle.af_offline.proofs.Chains.{files_are}
 
 -- the promises of a journal
 pub promises : (l : Loaded) (p : Played) → KeepsPlay l.script l.files (Ok p) → IsLegalJournal true l.script l.files p.journal

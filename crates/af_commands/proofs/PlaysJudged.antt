@@ -11,7 +11,7 @@ use Rattle.af_model.specs.Journals.{JournalData}
 use Rattle.af_script.specs.Data.{ScriptData}
 use Rattle.af_commands.specs.Plays.{IsPlay}
 use Rattle.af_commands.specs.PlaysJudged.{IsFoundLegal, PlayIsFoundLegal}
-use Rattle.af_commands.specs.Verified.{IsJudged, IsOfJournal}
+use Rattle.af_offline.specs.Verified.{IsJudged, IsOfJournal}
 
 module _ (script : ScriptData) (files : List (List Frame)) (bytes text line : List ℕ) (some : 0 < length script.tracks) (play : IsPlay true script files bytes text line) where
   -- its journal is that of a legal run with this sound

@@ -17,18 +17,18 @@ use Rattle.af_side_by_side.specs.Logging.{IsLogOf}
 use Rattle.af_playing.specs.PlayedRuns.{AtFault, AtLimit, HandsBackRun, IsLegalJournal, LeavesRun}
 use Rattle.af_playing.specs.PlayKept.{KeepsPlay}
 use Rattle.af_playing.specs.PlayedAlone.{summary_of_play}
-use Rattle.af_commands.specs.declared.status.Stop.{Stop}
-use Rattle.af_commands.specs.declared.status.Stop.TheVariants.{Refused, Over, Store, Memory}
-use Rattle.af_commands.specs.declared.status.Ending.{Ending}
-use Rattle.af_commands.specs.declared.status.Ending.TheVariants.{Limit}
-use Rattle.af_commands.specs.Asked.{Loaded, trace_job}
+use Rattle.af_offline.specs.declared.status.Stop.{Stop}
+use Rattle.af_offline.specs.declared.status.Stop.TheVariants.{Refused, Over, Store, Memory}
+use Rattle.af_offline.specs.declared.status.Ending.{Ending}
+use Rattle.af_offline.specs.declared.status.Ending.TheVariants.{Limit}
+use Rattle.af_offline.specs.Asked.{Loaded, trace_job}
 use Rattle.af_commands.specs.Ends.{Makes}
-use Rattle.af_commands.specs.Line.{limit_text}
+use Rattle.af_offline.specs.Line.{limit_text}
 use Rattle.af_commands.specs.Plays.{run_line}
 use Rattle.af_commands.specs.Sessions.{summary_line}
 use Rattle.af_commands.specs.Told.{Tells, TellsTexts}
 use Rattle.af_commands.specs.Traces.{IsTrace, IsTraced, LeavesLog, LeavesTrace}
-use Rattle.af_commands.proofs.Made.{files_are}
+use Rattle.af_offline.proofs.Chains.{files_are}
 use Rattle.af_commands.proofs.PlayedRounds.{LeavesRun-stays, cut_short, line_told, played, promises, read_alone, text_left}
 
 -- what a list that was empty holds behind what was appended

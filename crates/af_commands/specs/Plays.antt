@@ -10,9 +10,9 @@ use Rattle.af_playing.specs.PlayedAlone.{summary_of_play}
 use Rattle.af_playing.specs.PlayedRuns.{HandsBackRun, IsLegalJournal, LeavesRun}
 use Rattle.af_session.specs.Ends.{EndsState}
 use Rattle.af_runs.specs.Pcm.{journal_pcm}
-use Rattle.af_commands.specs.Line.{limit_text}
+use Rattle.af_offline.specs.Line.{limit_text}
 use Rattle.af_commands.specs.Sessions.{summary_line}
-use Rattle.af_commands.specs.Verified.{IsTextFor}
+use Rattle.af_offline.specs.Verified.{IsTextFor}
 
 -- ## One run
 
