@@ -1,18 +1,17 @@
 -- A round that has more entries than a turn of the fast mixer, or whose turn has more looks at a track than one of the normal mixer, is some party's fault. So nothing of a legal journal is left out where it is judged, and the fault of a front that ends behind such a round is in one of its rounds.
-use Rattle.std.proofs.Common.{◌≡◌, ◌⊎◌, inl, inr, ℕ, zero, suc, ◌+◌, ◌-◌, ◌<◌, ◌≤◌, ◌==◌, ◌&&◌, ◌||◌, nat_lt, Bool, true, false, if◌then◌else◌, MatchBool, MatchOption, List, [], ◌∷◌, ◌++◌, length, map, is_some, Option, Some, None, refl, ap, ◌∙◌, sym, subst, arith, length-append}
+use Rattle.std.proofs.Common.{◌≡◌, ℕ, zero, suc, ◌<◌, ◌≤◌, ◌==◌, ◌&&◌, ◌||◌, nat_lt, Bool, true, false, if◌then◌else◌, MatchBool, MatchOption, List, [], ◌∷◌, ◌++◌, length, map, is_some, Option, Some, None, refl, ap, ◌∙◌, sym, subst, arith, length-append}
 use Rattle.std.specs.List.{list_any}
 use Rattle.std.proofs.lemmas.Bool.{true≢false}
 use Rattle.std.proofs.lemmas.Bool.Decides.{nat_tests}
 use Rattle.af_base.specs.declared.frame.Frame.{Frame}
 use Rattle.af_base.specs.declared.turn.CommandLook.{CommandLook}
-use Rattle.af_base.specs.Turn.{TrackSeen, Turn, ended_turn}
+use Rattle.af_base.specs.Turn.{TrackSeen, Turn}
 use Rattle.af_life.specs.declared.kept.TrackKept.{TrackKept}
 use Rattle.af_life.specs.Kept.{Learnt, NormalKept, Setup, nothing_seen, seen_at, track_at}
 use Rattle.af_life.specs.Heard.{heard, learnt, ready}
 use Rattle.af_life.specs.Edits.{after_ack}
 use Rattle.af_life.specs.Obeys.{after_look, are_due, goes_on, slot_for}
 use Rattle.af_life.specs.Serves.{IsServed, LegalTrack, most_looks, served_to}
-use Rattle.af_life.specs.Turn.{LegalTurn}
 use Rattle.af_model.specs.Journals.{EntrySeen, JournalData, RoundSeen}
 use Rattle.af_script.specs.Data.{ScriptData}
 use Rattle.af_runs.specs.Blocks.{Marks}
@@ -21,7 +20,7 @@ use Rattle.af_runs.specs.LegalRuns.{marks_of, session_of}
 use Rattle.af_runs.specs.Rounds.{IsFastTurn, LegalEntries, after_round, after_turn, early_of, fills, found_in, late_of}
 use Rattle.af_runs.specs.Runs.{Run, fast_ended, fast_party, most_cycles, new_run, normal_party, with_calls}
 use Rattle.af_runs.specs.Sessions.{Session, setup_of}
-use Rattle.af_audit.specs.Verdicts.{AllClear, AreClear, FastIsClear, HasFirstFault, HasNoFault, IsFirstFault, IsVerdict, NormalIsClear}
+use Rattle.af_audit.specs.Verdicts.{AllClear, AreClear, FastIsClear, HasNoFault, IsFirstFault, IsVerdict, NormalIsClear}
 use Rattle.af_audit.specs.declared.verdict.Refusal.TheVariants as refused
 use Rattle.af_audit.specs.declared.verdict.Verdict.{Verdict}
 use Rattle.af_audit.specs.declared.verdict.Verdict.TheVariants as verdict
