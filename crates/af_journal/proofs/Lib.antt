@@ -18,6 +18,7 @@ mod EntriesLeft
 mod JournalOf
 mod Readable
 mod Leaving
+pub mod Judged
 pub mod Fitting
 mod Rising
 mod MixReading

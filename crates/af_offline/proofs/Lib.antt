@@ -6,4 +6,5 @@ pub mod Loads
 pub mod Draws
 pub mod Generated
 mod FrontFault
+pub mod BeyondFault
 pub mod Verified

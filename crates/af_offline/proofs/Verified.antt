@@ -1,14 +1,16 @@
 -- What is found of a text's front is found of the text.
-use Rattle.std.proofs.Common.{◌≡◌, ℕ, ◌-◌, ◌<◌, Bool, true, false, List, length, String, Result, Ok, Err, refl, arith, subst, sym}
+use Rattle.std.proofs.Common.{◌≡◌, ℕ, ◌-◌, ◌<◌, Bool, true, false, List, length, String, Result, Ok, Err, refl, ◌∙◌, arith, subst, sym}
 use Rattle.std.specs.declared.alloc.Global.{Global}
 use Rattle.af_audit.specs.Verdicts.{IsVerdict}
 use Rattle.af_audit.specs.declared.verdict.Refusal.TheVariants as refused
 use Rattle.af_audit.specs.declared.verdict.Verdict.{Verdict}
 use Rattle.af_audit.specs.declared.verdict.Verdict.TheVariants as verdict
+use Rattle.af_offline.proofs.BeyondFault.{beyond_tells}
 use Rattle.af_offline.proofs.FrontFault.{begins_fault}
 use Rattle.af_journal.specs.Beginnings.{IsFrontOf}
 use Rattle.af_journal.specs.declared.building.JournalFault.{JournalFault}
 use Rattle.af_journal.specs.declared.building.JournalFault.TheVariants as fault
+use Rattle.af_journal.specs.Judged.{EndsBeyond, judged_of, most_judged}
 use Rattle.af_journal.specs.Readings.{IsFaultOf}
 use Rattle.af_model.specs.Journals.{JournalData}
 use Rattle.af_offline.specs.Asked as asked
@@ -31,15 +33,20 @@ judged c (verdict.Refused (refused.Round round party)) h = h
 judged c (verdict.Refused (refused.Pcm at)) h = h
 
 -- and so is what is found of its front, where that tells it
-pub front_judged : (c : asked.Case) (whole : Bool) (front : JournalData) (found : Verdict) → IsFrontOf (length c.loaded.script.tracks) c.text whole front → Tells found whole (length front.rounds) → IsVerdict c.loaded.script c.loaded.files front c.pcm found → IsJudgedIn c found
+pub front_judged : (c : asked.Case) (whole : Bool) (front : JournalData) (found : Verdict) → IsFrontOf most_judged (length c.loaded.script.tracks) c.text whole front → Tells found whole (length front.rounds) → IsVerdict c.loaded.script c.loaded.files front c.pcm found → IsJudgedIn c found
 front_judged c true front found f tells v =
-    judged c found (f.reading, record { reads = f.reads; only = f.only }, subst (λ j. IsVerdict c.loaded.script c.loaded.files j c.pcm found) (f.same refl) v)
+    judged c found (f.reading, record { reads = f.reads; only = f.only }, subst (λ j. IsVerdict c.loaded.script c.loaded.files j c.pcm found) ((f.same refl).0 ∙ sym (f.same refl).1) v)
 front_judged c false front verdict.Legal f tells v = absurd tells
 front_judged c false front (verdict.Refused (refused.Text line)) f tells v = absurd tells
 front_judged c false front (verdict.Refused (refused.Pcm at)) f tells v = absurd tells
 front_judged c false front (verdict.Refused (refused.Round round party)) f tells v =
     let b = f.begins refl in
-    (f.reading, record { reads = f.reads; only = f.only }, begins_fault c.loaded.script c.loaded.files front f.reading (length front.rounds - 1) round party b.first b.marks (omega (arith, tells)) v)
+    (f.reading, record { reads = f.reads; only = f.only }, begins_fault c.loaded.script c.loaded.files front (judged_of f.reading) (length front.rounds - 1) round party b.first b.marks (omega (arith, tells)) v)
+
+-- and so is what is found of one that ends behind a round at fault
+pub whole_judged : (c : asked.Case) (whole : Bool) (front : JournalData) (found : Verdict) → IsFrontOf most_judged (length c.loaded.script.tracks) c.text whole front → (whole ≡ false → EndsBeyond 16 64 front) → IsVerdict c.loaded.script c.loaded.files front c.pcm found → IsJudgedIn c found
+whole_judged c true front found f beyond v = front_judged c true front found f tt v
+whole_judged c false front found f beyond v = front_judged c false front found f (beyond_tells c.loaded.script c.loaded.files front c.pcm (beyond refl) found v) v
 
 -- the whole tells all that is found of it
 pub tells_whole : (found : Verdict) (whole : Bool) (rounds : ℕ) → whole ≡ true → Tells found whole rounds

@@ -6,13 +6,13 @@ use Rattle.af_journal.specs.Beginnings.{IsFrontOf}
 use Rattle.af_journal.specs.declared.building.Front.{Front}
 use Rattle.af_journal.specs.declared.building.JournalFault.{JournalFault}
 use Rattle.af_journal.specs.declared.building.JournalFault.TheVariants as fault
+use Rattle.af_journal.specs.Judged.{EndsBeyond, judged_of, most_entries, most_judged, most_looks}
 use Rattle.af_journal.specs.Readings.{HasReading, IsFirstBad, IsOneReading}
 use Rattle.af_audit.specs.Verdicts.{IsVerdict}
 use Rattle.af_audit.specs.declared.verdict.Refusal.TheVariants as refused
 use Rattle.af_audit.specs.declared.verdict.Verdict.{Verdict}
 use Rattle.af_audit.specs.declared.verdict.Verdict.TheVariants as verdict
 use Rattle.af_model.specs.Journals.{JournalData}
-use Rattle.af_model.specs.declared.journal.Journal.{Journal}
 use Rattle.af_script.specs.Data.{ScriptData}
 use Rattle.af_offline.specs.Asked as asked
 use Rattle.af_offline.specs.Line.{legal_text}
@@ -26,9 +26,9 @@ use Rattle.af_offline.specs.declared.status.Stop.TheVariants.{Over, Memory}
 abbrev pub IsTextFor : ScriptData → List ℕ → JournalData → Type 0
 IsTextFor script text journal = IsOneReading (length script.tracks) text journal
 
--- the text has one reading, and this is what is found of that journal and the sound
+-- the text has one reading, and this is what is found of what of that journal is judged, and the sound
 abbrev pub IsOfJournal : ScriptData → List (List Frame) → List ℕ → List ℕ → Verdict → Type 0
-IsOfJournal script files pcm text found = (journal : JournalData) × IsTextFor script text journal × IsVerdict script files journal pcm found
+IsOfJournal script files pcm text found = (journal : JournalData) × IsTextFor script text journal × IsVerdict script files (judged_of journal) pcm found
 
 -- What is found of a sound and the text of its journal: the first bad line of a text without a reading, and else what is found of its journal
 abbrev pub IsJudged : ScriptData → List (List Frame) → List ℕ → List ℕ → Verdict → Type 0
@@ -46,15 +46,15 @@ IsUnread (Over (ending.Judged (refused.Text line))) script text = IsFirstBad (Ha
 IsUnread Memory script text = Unit {0}
 IsUnread stop script text = ⊥
 
--- a text was read, or refused
-abbrev pub ReadsTo : Result Journal Stop → ScriptData → List ℕ → Type 0
-ReadsTo (Ok journal) script text = IsTextFor script text journal
-ReadsTo (Err stop) script text = IsUnread stop script text
-
--- the same of what it begins with
+-- what a text begins with was read, or the text refused
 abbrev pub BeginsTo : Result Front Stop → ScriptData → List ℕ → Type 0
-BeginsTo (Ok front) script text = IsFrontOf (length script.tracks) text front.whole front.journal
+BeginsTo (Ok front) script text = IsFrontOf most_judged (length script.tracks) text front.whole front.journal
 BeginsTo (Err stop) script text = IsUnread stop script text
+
+-- the same, to the end of the text or to a round that is at fault
+abbrev pub ReadsTo : Result Front Stop → ScriptData → List ℕ → Type 0
+ReadsTo (Ok front) script text = IsFrontOf most_judged (length script.tracks) text front.whole front.journal × (front.whole ≡ false → EndsBeyond most_entries most_looks front.journal)
+ReadsTo (Err stop) script text = IsUnread stop script text
 
 -- what is found of a journal by which a text begins is found of the text's own: it is the whole, or the fault is in a round before its last one
 abbrev pub Tells : Verdict → Bool → ℕ → Type 0

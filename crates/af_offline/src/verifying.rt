@@ -11,7 +11,6 @@ use crate::status::{Ending, Role, Stop};
 use af_audit::{Refusal, Verdict};
 use af_io::Store;
 use af_journal::{Front, JournalFault};
-use af_model::Journal;
 use af_script::Script;
 use std::alloc::Global;
 
@@ -30,12 +29,12 @@ fn unread(fault: JournalFault) -> Stop
     }
 }
 
-/// The journal of a text.
-fn read_journal(alloc: Global, text: &[u8], script: &Script) -> Result<Journal, Stop>
+/// What of a text's journal is judged, up to a round that is at fault.
+fn read_judged(alloc: Global, text: &[u8], script: &Script) -> Result<Front, Stop>
     ensures { ReadsTo result script.now text.now }
 {
-    match af_journal::read(alloc, text, script) {
-        Ok(journal) => Ok(journal),
+    match af_journal::read_judged(alloc, text, script) {
+        Ok(front) => Ok(front),
         Err(fault) => Err(unread(fault)),
     }
 }
@@ -119,15 +118,16 @@ fn judge_front(alloc: Global, case: &Case) -> Result<Option<Verdict>, Stop>
     }
 }
 
-/// What is found of a sound and the text of its journal.
+/// What is found of a sound and the text of its journal, by all of it up to a round that is at fault.
 #[tactic(auto, using(crate::proofs::Loads::served_count))]
 fn judge_whole(alloc: Global, case: &Case) -> Result<Verdict, Stop>
     requires { AreFilesFor case.now.loaded }
     ensures { Finds result (case_view case.now) }
 {
     let script = &case.loaded.script;
-    let journal = read_journal(alloc, &case.text, script)?;
-    Ok(af_audit::verify(alloc, script, &case.loaded.files, &journal, &case.pcm)?)
+    let front = read_judged(alloc, &case.text, script)?;
+    let found = af_audit::verify(alloc, script, &case.loaded.files, &front.journal, &case.pcm)?;
+    Ok(found)
 }
 
 /// Judges a sound and the text of its journal, and answers the line of legal ones. What a text too long for its script begins with is enough.
