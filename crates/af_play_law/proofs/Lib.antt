@@ -34,3 +34,4 @@ pub mod CarriedRound
 pub mod Foreseen
 pub mod PlayEnds
 pub mod PlayTold
+pub mod KeptTold

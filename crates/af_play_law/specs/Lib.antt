@@ -5,3 +5,4 @@ pub mod Rounds
 pub mod PlayRuns
 pub mod AwaySlots
 pub mod PlayLaws
+pub mod KeptPlays
