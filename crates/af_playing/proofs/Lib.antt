@@ -19,4 +19,6 @@ pub mod ToldAlone
 pub mod NeverOlder
 pub mod SparedOfAll
 pub mod PlayedOn
+pub mod RoundsTold
 pub mod PlayLegal
+pub mod ListsKept
