@@ -35,3 +35,4 @@ pub mod Foreseen
 pub mod InTime
 pub mod PlayEnds
 pub mod PlayTold
+pub mod KeptTold

@@ -6,3 +6,4 @@ pub mod PlayRuns
 pub mod InTime
 pub mod AwaySlots
 pub mod PlayLaws
+pub mod KeptPlays

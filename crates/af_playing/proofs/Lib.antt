@@ -22,3 +22,4 @@ pub mod SparedOfAll
 pub mod PlayedOn
 pub mod RoundsTold
 pub mod PlayLegal
+pub mod ListsKept
