@@ -78,37 +78,41 @@ const SAW: ClientEvent = ClientEvent::SawFlags { flags: 0 };
 
 const FRONT: u32 = 0xffff_fffe;
 
-/// Two writes of two frames and one into a full block of four, and a look and a take: the rear wraps.
+const SEEN: ClientEvent = ClientEvent::SawFront { front: FRONT };
+
+const PUT: ClientEvent = ClientEvent::Release { count: 2 };
+
+/// Two writes of two frames and one into a full block of four.
+const WRITES: [ClientEvent; 8] = [SAW, SEEN, PUT, SAW, SEEN, PUT, SAW, SEEN];
+
+/// What is decided of those writes and of a look and a take of so many frames, whole and after the last piece: the rear wraps.
+fn decide_take(
+    alloc: Global,
+    count: u32,
+    hand: &[HandEvent],
+    first: (usize, usize, usize),
+    middle: (usize, usize, usize),
+) -> Result<(bool, bool), Memory> {
+    let server = [
+        ServerEvent::SawFlush { flush: 0 },
+        ServerEvent::SawRear { rear: 2 },
+        ServerEvent::SawFront { front: FRONT },
+        ServerEvent::Take { count },
+    ];
+    let from = fresh(0xffff_fffe);
+    let got = decide(alloc, (&WRITES, &server, hand), first, middle, &from)?;
+    Ok((got.0, got.1.2))
+}
+
+/// A take of the frames that were seen, alone and beside a hand that met the client, and one of more.
 #[test]
 fn takes_only_what_was_seen(rt: HostRuntime) -> Result<(), Fail> {
-    let seen = ClientEvent::SawFront { front: FRONT };
-    let put = ClientEvent::Release { count: 2 };
-    let client = [SAW, seen, put, SAW, seen, put, SAW, seen];
-    let from = fresh(0xffff_fffe);
-    for (count, want) in [(3, true), (5, false)] {
-        let server = [
-            ServerEvent::SawFlush { flush: 0 },
-            ServerEvent::SawRear { rear: 2 },
-            ServerEvent::SawFront { front: FRONT },
-            ServerEvent::Take { count },
-        ];
-        let alone = decide(
-            rt.alloc(),
-            (&client, &server, &[]),
-            (5, 2, 0),
-            (8, 3, 0),
-            &from,
-        )?;
-        assert_eq!(rt; (alone.0, alone.1.2), (want, want), "take {count}");
-        let met = [HandEvent::Met { client: 8 }];
-        let with_hand = decide(
-            rt.alloc(),
-            (&client, &server, &met),
-            (8, 1, 0),
-            (8, 4, 0),
-            &from,
-        )?;
-        assert_eq!(rt; (with_hand.0, with_hand.1.2), (want, want), "take {count}, met");
+    let met = [HandEvent::Met { client: 8 }];
+    for (count, want) in &[(3, true), (5, false)] {
+        let alone = decide_take(rt.alloc(), *count, &[], (5, 2, 0), (8, 3, 0))?;
+        assert!(rt; alone == (*want, *want), "take {count}");
+        let with_hand = decide_take(rt.alloc(), *count, &met, (8, 1, 0), (8, 4, 0))?;
+        assert!(rt; with_hand == (*want, *want), "take {count}, met");
     }
     Ok(())
 }
@@ -117,10 +121,10 @@ fn takes_only_what_was_seen(rt: HostRuntime) -> Result<(), Fail> {
 #[test]
 fn late_meeting_reaches_back(rt: HostRuntime) -> Result<(), Fail> {
     let client = [ClientEvent::ClearFlags { old: 0 }];
-    for (known, want) in [(0, false), (1, true)] {
+    for (known, want) in &[(0, false), (1, true)] {
         let hand = [
             HandEvent::SetFlags { bits: 8 },
-            HandEvent::Met { client: known },
+            HandEvent::Met { client: *known },
         ];
         let got = decide(
             rt.alloc(),
@@ -129,7 +133,7 @@ fn late_meeting_reaches_back(rt: HostRuntime) -> Result<(), Fail> {
             (1, 0, 1),
             &fresh(0),
         )?;
-        assert_eq!(rt; got, (want, (true, true, want)), "met {known}");
+        assert!(rt; got == (*want, (true, true, *want)), "met {known}");
     }
     Ok(())
 }
@@ -146,7 +150,7 @@ fn late_hand_may_stand_first(rt: HostRuntime) -> Result<(), Fail> {
         (1, 0, 0),
         &fresh(0),
     )?;
-    assert_eq!(rt; got, (true, (false, false, true)));
+    assert!(rt; got == (true, (false, false, true)));
     Ok(())
 }
 
@@ -162,7 +166,7 @@ fn meeting_may_stand_early(rt: HostRuntime) -> Result<(), Fail> {
         (1, 0, 1),
         &fresh(0),
     )?;
-    assert_eq!(rt; got, (true, (true, true, true)));
+    assert!(rt; got == (true, (true, true, true)));
     let crossed = [
         HandEvent::Met { client: 1 },
         HandEvent::SetFlags { bits: 8 },
@@ -175,42 +179,44 @@ fn meeting_may_stand_early(rt: HostRuntime) -> Result<(), Fail> {
         (1, 0, 2),
         &fresh(0),
     )?;
-    assert_eq!(rt; got, (false, (true, true, false)));
+    assert!(rt; got == (false, (true, true, false)));
     Ok(())
 }
 
-/// A flush of a positional block drops what was released before it, and no frame that came later.
-#[test]
-fn drops_only_what_the_flush_saw(rt: HostRuntime) -> Result<(), Fail> {
-    let client = [
-        ClientEvent::Flush,
-        ClientEvent::Release { count: 4 },
-        ClientEvent::SawFront { front: 4 },
-        ClientEvent::Release { count: 4 },
+const FLUSHED: [ClientEvent; 4] = [
+    ClientEvent::Flush,
+    ClientEvent::Release { count: 4 },
+    ClientEvent::SawFront { front: 4 },
+    ClientEvent::Release { count: 4 },
+];
+
+/// What is decided of a drop up to a position, whole and after the last piece.
+fn decide_drop(alloc: Global, to: u32) -> Result<(bool, bool), Memory> {
+    let server = [
+        ServerEvent::SawFlush { flush: 0 },
+        ServerEvent::SawRear { rear: 4 },
+        ServerEvent::SawFront { front: 0 },
+        ServerEvent::Take { count: 4 },
+        ServerEvent::SawFlush { flush: 16 },
+        ServerEvent::SawRear { rear: 8 },
+        ServerEvent::SawFront { front: 4 },
+        ServerEvent::Drop { to },
     ];
     let from = TrackPoint {
         wrap: 16,
         ..fresh(0)
     };
-    for (to, want) in [(4, true), (8, false)] {
-        let server = [
-            ServerEvent::SawFlush { flush: 0 },
-            ServerEvent::SawRear { rear: 4 },
-            ServerEvent::SawFront { front: 0 },
-            ServerEvent::Take { count: 4 },
-            ServerEvent::SawFlush { flush: 16 },
-            ServerEvent::SawRear { rear: 8 },
-            ServerEvent::SawFront { front: 4 },
-            ServerEvent::Drop { to },
-        ];
-        let got = decide(
-            rt.alloc(),
-            (&client, &server, &[]),
-            (1, 4, 0),
-            (4, 7, 0),
-            &from,
-        )?;
-        assert_eq!(rt; (got.0, got.1.2), (want, want), "drop to {to}");
+    let lists: Lists<'_> = (&FLUSHED, &server, &[]);
+    let got = decide(alloc, lists, (1, 4, 0), (4, 7, 0), &from)?;
+    Ok((got.0, got.1.2))
+}
+
+/// A flush of a positional block drops what was released before it, and no frame that came later.
+#[test]
+fn drops_only_what_the_flush_saw(rt: HostRuntime) -> Result<(), Fail> {
+    for (to, want) in &[(4, true), (8, false)] {
+        let got = decide_drop(rt.alloc(), *to)?;
+        assert!(rt; got == (*want, *want), "drop to {to}");
     }
     Ok(())
 }
@@ -233,7 +239,7 @@ fn rear_may_wait_for_its_word(rt: HostRuntime) -> Result<(), Fail> {
         (1, 2, 0),
         &fresh(0),
     )?;
-    assert_eq!(rt; got, (true, (false, false, true)));
+    assert!(rt; got == (true, (false, false, true)));
     Ok(())
 }
 

@@ -305,16 +305,16 @@ fn comes_in_place<R: Threads + Sync>(
 
 #[test]
 fn frames_come_in_order_from_another_thread(rt: HostRuntime) {
-    for positional in [false, true] {
-        let found = comes_in_place(&rt, rt.alloc(), positional, false);
+    for positional in &[false, true] {
+        let found = comes_in_place(&rt, rt.alloc(), *positional, false);
         assert!(rt; found == Ok(true));
     }
 }
 
 #[test]
 fn frames_stay_in_place_across_flushes(rt: HostRuntime) {
-    for positional in [false, true] {
-        let found = comes_in_place(&rt, rt.alloc(), positional, true);
+    for positional in &[false, true] {
+        let found = comes_in_place(&rt, rt.alloc(), *positional, true);
         assert!(rt; found == Ok(true));
     }
 }

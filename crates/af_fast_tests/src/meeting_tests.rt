@@ -1,6 +1,7 @@
 //! Meetings of the ends that a mixer lends, and of a proxy that it holds.
 ghost use Rattle.std.specs.Prelude.{◌≡◌, ◌<◌, [], ◌∷◌};
 ghost use Rattle.af_cblk.specs.Sides.{hand_made};
+ghost use Rattle.af_link.specs.Names.{IsStreamOf};
 ghost use Rattle.af_link.specs.PipeEnds.{in_made};
 ghost use Rattle.af_fast.specs.Mixer.{IsInOrder, IsLinked};
 ghost use Rattle.af_client.specs.Order.{IsClientOf};
@@ -15,7 +16,6 @@ use af_link::{Links, PipeIn, ReportReader, meet_pipe, meet_report};
 use af_server::Server;
 use std::alloc::Global;
 use std::marker::Brand;
-use std::mem::drop;
 use std::sync::ledger::{Blank, Ledger};
 use std::test::*;
 
@@ -56,6 +56,38 @@ fn meets_held<L: Ledger>(
     mixer.meet_held(links, 1, client, hand, steps)
 }
 
+// One cycle mixes the proxy of the only track, which then meets its client, and the ends that the mixer lends meet. Answers whether the proxy was held, and one state polled.
+fn meets_over<L: Ledger>(
+    mut ends: Ends,
+    links: &Links<'_>,
+    block: &Block,
+    server: Server,
+    client: &mut Client,
+    hand: &mut FlagHand,
+    steps: &mut Steps<L>,
+) -> bool
+    requires ready { IsReady links.now 4 ends.mutator ends.mixer ends.reader }
+    requires new { ends.mutator.past.number ≡ 0 }
+    requires pipe { in_made ends.pipe ≡ links.now.pipe.now }
+    requires one { links.now.streams.now ≡ block.now ∷ [] }
+    requires block { IsClientOf block.now client.old × (hand_made hand.old ≡ block.now) }
+    requires stream { IsStreamOf links.now.streams.now 0 server }
+{
+    attach(&mut ends.mutator, links, 1, false, 0x1000, 0, server);
+    push_command(&mut ends.mutator, links, Command::MixWrite, steps);
+    turn(&mut ends, links, steps);
+    let held = meets_held(&mut ends.mixer, links, block, client, hand, steps);
+    meet_lent(
+        &mut ends.mixer,
+        links,
+        &mut ends.reader,
+        &mut ends.pipe,
+        steps,
+    );
+    let polled = ends.mixer.observer().number() == 1;
+    held && polled
+}
+
 // A proxy whose hand was split off is mixed and meets its client, and then the ends that the mixer lends meet.
 fn meets<L: Ledger>(alloc: Global, blank: Blank) -> Result<bool, Memory>
     requires name { blank.name ≡ L.name }
@@ -67,33 +99,17 @@ fn meets<L: Ledger>(alloc: Global, blank: Blank) -> Result<bool, Memory>
     let mut server = Server::with(server, &block);
     let mut hand = server.hand(&block, &mut steps);
     let streams = [block];
-    let (shared, mut ends) = begin(alloc, &streams, 2, 4)?;
+    let (shared, ends) = begin(alloc, &streams, 2, 4)?;
     let links = shared.links(&streams);
-    attach(&mut ends.mutator, &links, 1, false, 0x1000, 0, server);
-    push_command(&mut ends.mutator, &links, Command::MixWrite, &mut steps);
-    turn(&mut ends, &links, &mut steps);
-    let Ends {
-        mutator,
-        mut mixer,
-        mut reader,
-        mut pipe,
-    } = ends;
-    drop(mutator);
-    let held = meets_held(
-        &mut mixer,
+    Ok(meets_over(
+        ends,
         &links,
         &streams[0],
+        server,
         &mut client,
         &mut hand,
         &mut steps,
-    );
-    meet_lent(&mut mixer, &links, &mut reader, &mut pipe, &mut steps);
-    let polled = mixer.observer().number() == 1;
-    drop(mixer);
-    drop(reader);
-    drop(pipe);
-    drop(client);
-    Ok(held && polled)
+    ))
 }
 
 #[test]

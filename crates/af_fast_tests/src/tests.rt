@@ -6,8 +6,9 @@ ghost use Rattle.af_client.specs.Order.{IsInOrder as IsClientInOrder};
 ghost use Rattle.af_link.specs.Linked.{AreLinked};
 ghost use Rattle.af_link.specs.Names.{IsStreamOf};
 ghost use Rattle.af_link.specs.PipeEnds.{in_made, out_made};
-ghost use Rattle.af_fast.specs.Fits.{NamesBlocks};
-ghost use Rattle.af_fast.specs.Mixer.{IsInOrder, IsLinked};
+ghost use Rattle.af_stateq.specs.Observes.{InOrder};
+ghost use Rattle.af_fast.specs.Fits.{NamesBlocks, stream_fits};
+ghost use Rattle.af_fast.specs.Mixer.{IsInOrder, IsLinked, IsUnused};
 ghost use Rattle.af_fast_tests.specs.Ready.{IsReady};
 ghost use Rattle.af_fast.specs.Tracks.{tracks_of};
 
@@ -19,11 +20,12 @@ use af_cblk::Block;
 use af_client::Client;
 use af_fast::FastMixer;
 use af_link::{
-    Links, PipeIn, ReportCell, ReportReader, StreamNames, first_report, pipe, report, stream_names,
+    Links, PipeIn, PipeOut, ReportCell, ReportReader, ReportWriter, StreamNames, first_report,
+    pipe, report, stream_names,
 };
 use af_model::carries_item;
 use af_server::Server;
-use af_stateq::{Mutator, Queue, queue};
+use af_stateq::{Mutator, Observer, Queue, queue};
 use std::alloc::Global;
 use std::marker::Brand;
 use std::sync::ledger::{Blank, Ledger};
@@ -32,6 +34,8 @@ use std::test::*;
 pub(crate) type Line = Queue<Server, StreamNames>;
 
 pub(crate) type Pushing = Mutator<Server, StreamNames>;
+
+type Polling = Observer<Server, StreamNames>;
 
 /// What the parties of a run share, beside the blocks of its streams.
 #[derive(Drop)]
@@ -68,6 +72,47 @@ impl Shared {
     }
 }
 
+/// What joins two mixers, the ends that a test moves, and those of the fast mixer.
+#[derive(Drop)]
+struct Joints {
+    shared: Shared,
+    mutator: Pushing,
+    reader: ReportReader,
+    from: PipeIn,
+    observer: Polling,
+    writer: ReportWriter,
+    to: PipeOut,
+}
+
+/// All of them, over these blocks and a pipe of 64 frames. Nothing was done on any end.
+fn join(alloc: Global, streams: &[Block], frames: usize) -> Result<Joints, Memory>
+    requires frames { (1 ≤ frames) × (frames ≤ 16) }
+    ensures names { IfOk result (λ j. NamesBlocks j.mutator.past.key streams.now × NamesBlocks j.observer.past.key streams.now) }
+    ensures queue { IfOk result (λ j. (j.mutator.past.queue ≡ j.shared.queue) × (j.observer.past.queue ≡ j.shared.queue)) }
+    ensures report { IfOk result (λ j. (j.reader.cell ≡ j.shared.report) × (j.writer.cell ≡ j.shared.report)) }
+    ensures pipe { IfOk result (λ j. (in_made j.from ≡ j.shared.pipe) × (out_made j.to ≡ j.shared.pipe)) }
+    ensures unused { IfOk result (λ j. IsUnused j.observer j.writer j.to) }
+    ensures order { IfOk result (λ j. InOrder stream_fits j.observer) }
+    ensures mutator { IfOk result (λ j. (j.mutator.past.number ≡ 0) × (j.mutator.editing ≡ false)) }
+{
+    let report = report(alloc)?;
+    let pipe = pipe(alloc, 64)?;
+    let queue = queue::<Server, StreamNames>(alloc, frames as u32, stream_names(streams))?;
+    Ok(Joints {
+        shared: Shared {
+            queue: queue.0,
+            pipe: pipe.0,
+            report: report.0,
+        },
+        mutator: queue.1,
+        reader: report.2,
+        from: pipe.1,
+        observer: queue.2,
+        writer: report.1,
+        to: pipe.2,
+    })
+}
+
 /// A mixer of `cycles` entries and `frames` frames a cycle, with all other ends, over these blocks and a pipe of 64 frames.
 pub(crate) fn begin(
     alloc: Global,
@@ -84,23 +129,22 @@ pub(crate) fn begin(
     ensures order { IfOk result (λ r. IsInOrder r.1.mixer × (r.1.mixer.adopted ≡ false) × (r.1.mixer.frames ≡ frames)) }
     ensures mutator { IfOk result (λ r. (r.1.mutator.past.number ≡ 0) × (r.1.mutator.editing ≡ false)) }
 {
-    let names = stream_names(streams);
-    let (queue, mutator, observer) = queue::<Server, StreamNames>(alloc, frames as u32, names)?;
-    let (pipe, from, to) = pipe(alloc, 64)?;
-    let (report, writer, reader) = report(alloc)?;
-    let mixer = FastMixer::make(alloc, observer, writer, to, cycles, frames)?;
-    let shared = Shared {
-        queue,
-        pipe,
-        report,
-    };
+    let joints = join(alloc, streams, frames)?;
+    let mixer = FastMixer::make(
+        alloc,
+        joints.observer,
+        joints.writer,
+        joints.to,
+        cycles,
+        frames,
+    )?;
     let ends = Ends {
-        mutator,
+        mutator: joints.mutator,
         mixer,
-        reader,
-        pipe: from,
+        reader: joints.reader,
+        pipe: joints.from,
     };
-    Ok((shared, ends))
+    Ok((joints.shared, ends))
 }
 
 /// Attaches the proxy of a track where the slot is free, and says whether it was.
@@ -197,7 +241,7 @@ pub(crate) fn one_cycle<L: Ledger>(
 pub(crate) const FRAMES: usize = 4;
 
 /// What a cycle of a table answered and wrote, and the report after it.
-#[derive(Clone, Copy, Debug, PartialEq, Eq)]
+#[derive(Clone, Copy, PartialEq, Eq)]
 pub(crate) struct Turned {
     pub cycle: Cycle,
     pub out: [Frame; FRAMES],

@@ -6,24 +6,27 @@ use std::test::Fail;
 
 #[test]
 fn frames_are_words(rt: HostRuntime) {
-    for (left, right, word) in [
+    for (left, right, word) in &[
         (1000, -1000, 0xfc18_03e8),
         (-1, 1, 0x0001_ffff),
         (-32768, 32767, 0x7fff_8000),
     ] {
-        let frame = Frame { left, right };
-        assert_eq!(rt; frame.pack(), word);
-        assert_eq!(rt; Frame::unpack(word), frame);
+        let frame = Frame {
+            left: *left,
+            right: *right,
+        };
+        assert!(rt; frame.pack() == *word);
+        assert!(rt; Frame::unpack(*word) == frame);
     }
 }
 
 #[test]
 fn gains_end_at_unity(rt: HostRuntime) {
     let gains = Gains::clamped(0xffff_1001);
-    assert_eq!(rt; (gains.left(), gains.right()), (0x1000, 0x1000));
+    assert!(rt; (gains.left(), gains.right()) == (0x1000, 0x1000));
     let half = Gains::clamped(0x0800_0fff).scaled(0x0800);
-    assert_eq!(rt; (half.left(), half.right()), (0x07ff, 0x0400));
-    assert_eq!(rt; Command::MixWrite.code(), 24);
+    assert!(rt; (half.left(), half.right()) == (0x07ff, 0x0400));
+    assert!(rt; Command::MixWrite.code() == 24);
 }
 
 #[test]
@@ -50,11 +53,8 @@ fn one_sum_and_one_clamp(rt: HostRuntime) -> Result<(), Fail> {
         },
         Frame { left: 0, right: 0 },
     ];
-    assert_eq!(rt; mixed.as_slice(), want.as_slice());
-    assert_eq!(rt;
-        plain_frame(&[part(&loud), part(&loud), part(&quiet)], 0),
-        want[0]
-    );
+    assert!(rt; mixed.as_slice() == want.as_slice());
+    assert!(rt; plain_frame(&[part(&loud), part(&loud), part(&quiet)], 0) == want[0]);
     Ok(())
 }
 
@@ -78,10 +78,13 @@ fn a_log_is_its_entries_and_frames(rt: HostRuntime) -> Result<(), Fail> {
     let frames = [Frame { left: 1, right: 2 }, Frame { left: 3, right: 4 }];
     log.push_frames(&frames);
     log.push(entry);
-    assert_eq!(rt; log.len(), 1);
-    assert_eq!(rt; log.entry(0), Some(&entry));
-    assert_eq!(rt; log.entry(1), None);
-    assert_eq!(rt; log.frames(), frames.as_slice());
+    assert!(rt; log.len() == 1);
+    let Some(first) = log.entry(0) else {
+        return Err(Fail::new("no entry"));
+    };
+    assert!(rt; *first == entry);
+    assert!(rt; log.entry(1).is_none());
+    assert!(rt; log.frames() == frames.as_slice());
     Ok(())
 }
 
@@ -96,7 +99,7 @@ fn a_list_with_room(rt: HostRuntime) -> Result<(), Fail> {
     };
     let mut looks = CommandLooks::with_room(rt.alloc(), 64)?;
     looks.push(look);
-    assert_eq!(rt; looks.as_slice(), [look].as_slice());
-    assert_eq!(rt; look.seen.count() + Seen::Empty.count(), 2);
+    assert!(rt; looks.as_slice() == [look].as_slice());
+    assert!(rt; look.seen.count() + Seen::Empty.count() == 2);
     Ok(())
 }

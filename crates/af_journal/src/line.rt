@@ -1,6 +1,6 @@
 //! One line of a journal's text.
 ghost use Rattle.std.specs.Prelude.{◌∷◌, [], Some};
-ghost use Rattle.af_journal.specs.Lines.{call_line, line_text, push_line, seen_text, spaced};
+ghost use Rattle.af_journal.specs.Lines.{call_line, line_text, look_line, push_line, seen_text, slot_line, spaced, take_line, turn_line};
 
 use af_base::{ClientCall, Push, Seen};
 use std::fmt;
@@ -165,6 +165,71 @@ impl fmt::Display for PushText {
     }
 }
 
+// A turn of the normal mixer: the room, whether the push was seen acknowledged, and the report's cycle.
+#[derive(Clone, Copy)]
+struct TurnText(u32, bool, u64);
+
+impl fmt::Display for TurnText {
+    ghost output = { λ n. Some (turn_line n.0 n.1 n.2) };
+
+    fn fmt<W: fmt::Write>(&self, f: &mut fmt::Formatter<W>) -> fmt::Result {
+        write!(f, "N {} {} {}", self.0, u32::from(self.1), self.2)
+    }
+}
+
+// A look at a command block: the track, the flush, the rear and what it showed.
+#[derive(Clone, Copy)]
+struct LookText(u32, u32, u32, Seen);
+
+impl fmt::Display for LookText {
+    ghost output = { λ n. Some (look_line n.0 n.1 n.2 n.3) };
+
+    fn fmt<W: fmt::Write>(&self, f: &mut fmt::Formatter<W>) -> fmt::Result {
+        write!(
+            f,
+            "q {} {}",
+            Three(self.0, self.1, self.2),
+            SeenText(self.3)
+        )
+    }
+}
+
+// A look at a stream block: the track, the gains, the flush, the rear and what it showed.
+#[derive(Clone, Copy)]
+struct TakeText(u32, u32, u32, u32, Seen);
+
+impl fmt::Display for TakeText {
+    ghost output = { λ n. Some (take_line n.0 n.1 n.2 n.3 n.4) };
+
+    fn fmt<W: fmt::Write>(&self, f: &mut fmt::Formatter<W>) -> fmt::Result {
+        write!(
+            f,
+            "m {} {} {}",
+            self.0,
+            Three(self.1, self.2, self.3),
+            SeenText(self.4)
+        )
+    }
+}
+
+// A slot of the mask: the slot, the scale, whether it is mono, the gains, the flush, the rear and what a look showed.
+#[derive(Clone, Copy)]
+struct SlotText(u32, u16, bool, u32, u32, u32, Seen);
+
+impl fmt::Display for SlotText {
+    ghost output = { λ n. Some (slot_line n.0 n.1 n.2 n.3 n.4 n.5 n.6) };
+
+    fn fmt<W: fmt::Write>(&self, f: &mut fmt::Formatter<W>) -> fmt::Result {
+        write!(
+            f,
+            "z {} {} {}",
+            Three(self.0, u32::from(self.1), u32::from(self.2)),
+            Three(self.3, self.4, self.5),
+            SeenText(self.6)
+        )
+    }
+}
+
 impl fmt::Display for Line {
     ghost output = { λ line. Some (line_text line) };
 
@@ -173,14 +238,14 @@ impl fmt::Display for Line {
             Line::Round => f.write_str("R"),
             Line::Client { track } => write!(f, "C {track}"),
             Line::Call { call } => write!(f, "{}", CallText(call)),
-            Line::Turn { room, ack, cycle } => write!(f, "N {room} {} {cycle}", u32::from(ack)),
+            Line::Turn { room, ack, cycle } => write!(f, "{}", TurnText(room, ack, cycle)),
             Line::Ended => f.write_str("E"),
             Line::Look {
                 track,
                 flush,
                 rear,
                 seen,
-            } => write!(f, "q {} {}", Three(track, flush, rear), SeenText(seen)),
+            } => write!(f, "{}", LookText(track, flush, rear, seen)),
             Line::Disabled { track } => write!(f, "b {track}"),
             Line::Status { track, word } => write!(f, "a {track} {word}"),
             Line::Pushed { push } => write!(f, "{}", PushText(push)),
@@ -190,12 +255,7 @@ impl fmt::Display for Line {
                 flush,
                 rear,
                 seen,
-            } => write!(
-                f,
-                "m {track} {} {}",
-                Three(gains, flush, rear),
-                SeenText(seen)
-            ),
+            } => write!(f, "{}", TakeText(track, gains, flush, rear, seen)),
             Line::Fast => f.write_str("F"),
             Line::Entry { state, kind } => write!(f, "y {state} {kind}"),
             Line::Slot {
@@ -208,10 +268,8 @@ impl fmt::Display for Line {
                 seen,
             } => write!(
                 f,
-                "z {} {} {}",
-                Three(slot, u32::from(scale), u32::from(mono)),
-                Three(gains, flush, rear),
-                SeenText(seen)
+                "{}",
+                SlotText(slot, scale, mono, gains, flush, rear, seen)
             ),
         }
     }

@@ -132,14 +132,18 @@ const TEXTS: [(usize, u64, &str); 3] = [
     ),
 ];
 
+// Whether the text of so many notes stands behind what was there before.
+fn is_written(alloc: Global, count: usize, refused: u64, text: &str) -> Result<bool, Memory> {
+    let mut out = Vec::new(alloc);
+    out.extend_from_slice(b"before\n")?;
+    write(alloc, &NOTES[..count.min(2)], refused, &mut out)?;
+    Ok(out.as_slice().strip_prefix(b"before\n") == Some(text.as_bytes()))
+}
+
 // Each text stands behind what was there before.
 fn texts_are_written(alloc: Global) -> Result<bool, Memory> {
-    for (count, refused, text) in TEXTS {
-        let mut out = Vec::new(alloc);
-        out.extend_from_slice(b"before\n")?;
-        write(alloc, &NOTES[..count.min(2)], refused, &mut out)?;
-        let want = format!(in alloc; "before\n{text}")?;
-        if out.as_slice() != want.as_str().as_bytes() {
+    for (count, refused, text) in &TEXTS {
+        if !is_written(alloc, *count, *refused, text)? {
             return Ok(false);
         }
     }

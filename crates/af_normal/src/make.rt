@@ -142,38 +142,79 @@ fn silence(alloc: Global, asked: usize) -> Result<Vec<Frame>, Memory>
     Ok(buffer)
 }
 
-// What a mixer reserves: what is kept of its tracks, their hands, the greatest entry of a turn, and the sums and frames of one normal buffer.
+// What is kept of a mixer's tracks, and room for their hands.
 #[derive(Drop)]
-struct Reserved {
+struct Lives {
     tracks: Vec<TrackKept>,
     hands: Vec<TrackHand>,
+}
+
+// So many new tracks.
+fn new_lives(alloc: Global, count: usize) -> Result<Lives, Memory>
+    ensures tracks { IfOk result (λ l. l.tracks.items ≡ replicate count new_track) }
+    ensures hands { IfOk result (λ l. l.hands.items ≡ []) }
+    ensures enough { IfOk result (λ l. length l.tracks.items ≤ vec_capacity l.hands) }
+{
+    let tracks = vec![in alloc; new_track(); count]?;
+    let hands = Vec::with_capacity(alloc, count)?;
+    Ok(Lives { tracks, hands })
+}
+
+// The greatest entry of a turn, and the records of tracks and takes that go into it.
+#[derive(Drop)]
+struct Records {
     entry: TurnEntry,
-    spare_turns: TrackTurns,
-    spare_takes: NormalTakes,
+    turns: TrackTurns,
+    takes: NormalTakes,
+}
+
+// The records for so many tracks, and for a buffer of so many frames.
+fn spare_records(alloc: Global, count: usize, asked: usize) -> Result<Records, Memory>
+    ensures entry { IfOk result (λ r. turn_of r.entry ≡ ended_turn) }
+    ensures room { IfOk result (λ r. (r.entry.tracks.room ≡ count) × (r.entry.mixes.room ≡ count)) }
+    ensures turns { IfOk result (λ r. (length r.turns.items ≡ count) × (r.turns.room ≡ count) × HaveRoom r.turns.items) }
+    ensures takes { IfOk result (λ r. (length r.takes.items ≡ count) × (r.takes.room ≡ count) × All (HasFrames asked) r.takes.items) }
+{
+    let entry = TurnEntry::with_room(alloc, count, count)?;
+    let turns = spare_turns(alloc, count)?;
+    let takes = spare_takes(alloc, count, asked)?;
+    Ok(Records {
+        entry,
+        turns,
+        takes,
+    })
+}
+
+// What a mixer reserves: what is kept of its tracks, the records of a turn, and the sums and frames of one normal buffer.
+#[derive(Drop)]
+struct Reserved {
+    lives: Lives,
+    records: Records,
     sums: Vec<Sum>,
     buffer: Vec<Frame>,
 }
 
 // What is reserved for so many tracks, and for a buffer of so many frames.
 fn reserve(alloc: Global, count: usize, asked: usize) -> Result<Reserved, Memory>
-    ensures tracks { IfOk result (λ r. r.tracks.items ≡ replicate count new_track) }
-    ensures hands { IfOk result (λ r. r.hands.items ≡ []) }
-    ensures enough { IfOk result (λ r. length r.tracks.items ≤ vec_capacity r.hands) }
-    ensures entry { IfOk result (λ r. turn_of r.entry ≡ ended_turn) }
-    ensures room { IfOk result (λ r. (r.entry.tracks.room ≡ count) × (r.entry.mixes.room ≡ count)) }
-    ensures turns { IfOk result (λ r. (length r.spare_turns.items ≡ count) × (r.spare_turns.room ≡ count) × HaveRoom r.spare_turns.items) }
-    ensures takes { IfOk result (λ r. (length r.spare_takes.items ≡ count) × (r.spare_takes.room ≡ count) × All (HasFrames asked) r.spare_takes.items) }
+    ensures tracks { IfOk result (λ r. r.lives.tracks.items ≡ replicate count new_track) }
+    ensures hands { IfOk result (λ r. r.lives.hands.items ≡ []) }
+    ensures enough { IfOk result (λ r. length r.lives.tracks.items ≤ vec_capacity r.lives.hands) }
+    ensures entry { IfOk result (λ r. turn_of r.records.entry ≡ ended_turn) }
+    ensures room { IfOk result (λ r. (r.records.entry.tracks.room ≡ count) × (r.records.entry.mixes.room ≡ count)) }
+    ensures turns { IfOk result (λ r. (length r.records.turns.items ≡ count) × (r.records.turns.room ≡ count) × HaveRoom r.records.turns.items) }
+    ensures takes { IfOk result (λ r. (length r.records.takes.items ≡ count) × (r.records.takes.room ≡ count) × All (HasFrames asked) r.records.takes.items) }
     ensures sums { IfOk result (λ r. length r.sums.items ≡ asked) }
     ensures buffer { IfOk result (λ r. length r.buffer.items ≡ asked) }
 {
+    let sums = no_sums(alloc, asked)?;
+    let buffer = silence(alloc, asked)?;
+    let lives = new_lives(alloc, count)?;
+    let records = spare_records(alloc, count, asked)?;
     Ok(Reserved {
-        tracks: vec![in alloc; new_track(); count]?,
-        hands: Vec::with_capacity(alloc, count)?,
-        entry: TurnEntry::with_room(alloc, count, count)?,
-        spare_turns: spare_turns(alloc, count)?,
-        spare_takes: spare_takes(alloc, count, asked)?,
-        sums: no_sums(alloc, asked)?,
-        buffer: silence(alloc, asked)?,
+        lives,
+        records,
+        sums,
+        buffer,
     })
 }
 
@@ -206,14 +247,17 @@ impl NormalMixer {
         let asked = (normal * frames) as usize;
         let reserved = reserve(alloc, count, asked)?;
         let Reserved {
-            tracks,
-            hands,
-            entry,
-            spare_turns,
-            spare_takes,
+            lives,
+            records,
             sums,
             buffer,
         } = reserved;
+        let Lives { tracks, hands } = lives;
+        let Records {
+            entry,
+            turns,
+            takes,
+        } = records;
         Ok(NormalMixer {
             frames,
             normal,
@@ -225,8 +269,8 @@ impl NormalMixer {
             mutator,
             ends: (reader, pipe),
             entry,
-            spare_turns,
-            spare_takes,
+            spare_turns: turns,
+            spare_takes: takes,
             ended: false,
             exits: false,
             turns: 0,

@@ -265,27 +265,23 @@ fn run_normal(
     put_all(links, from, reader, frames) && free
 }
 
-// Both mixers' ends on two threads, over a pipe of four buffers of 64 frames.
-fn run_both<R: Threads + Sync>(rt: &R, alloc: Global, total: u32) -> Result<bool, Memory> {
-    let frames = numbered(alloc, total)?;
-    let (stream, _client, _server) = Block::make(alloc, 64, 0)?;
-    let streams = [stream];
-    let (queue, mutator, observer) = queue::<Server, StreamNames>(
-        alloc,
-        64,
-        stream_names(&streams),
-    )?;
-    let (pipe, from, to) = pipe(alloc, 256)?;
-    let (report, writer, reader) = report(alloc)?;
-    let links = Links {
-        queue: &queue,
-        streams: &streams,
-        commands: &[],
-        pipe: &pipe,
-        report: &report,
-    };
-    let links = &links;
-    let frames = frames.as_slice();
+// Both mixers' ends on two threads.
+fn cross<R: Threads + Sync>(
+    rt: &R,
+    links: &Links<'_>,
+    ends: (Mutator<Server, StreamNames>, Observer<Server, StreamNames>),
+    sides: (PipeIn, PipeOut),
+    cells: (ReportWriter, ReportReader),
+    frames: &[Frame],
+    total: u32,
+) -> bool
+    requires fast { AreLinked links.now ends.1.past.key ends.1.past.queue cells.0.cell (out_made sides.1) }
+    requires new { last_cycle cells.0.events ≡ 0 }
+    requires normal { AreLinked links.now ends.0.past.key ends.0.past.queue cells.1.cell (in_made sides.0) }
+{
+    let (mutator, observer) = ends;
+    let (from, to) = sides;
+    let (writer, reader) = cells;
     let (in_place, right) = thread::join(
         rt,
         move || -> bool
@@ -295,7 +291,45 @@ fn run_both<R: Threads + Sync>(rt: &R, alloc: Global, total: u32) -> Result<bool
             requires { AreLinked links.now mutator.past.key mutator.past.queue reader.cell (in_made from) }
         { run_normal(links, mutator, from, reader, frames) },
     );
-    Ok(in_place && right)
+    in_place && right
+}
+
+// The same over these blocks, and a new pipe of four buffers of 64 frames.
+fn cross_over<R: Threads + Sync>(
+    rt: &R,
+    alloc: Global,
+    streams: &[Block],
+    frames: &[Frame],
+    total: u32,
+) -> Result<bool, Memory> {
+    let (report, writer, reader) = report(alloc)?;
+    let (pipe, from, to) = pipe(alloc, 256)?;
+    let names = stream_names(streams);
+    let (queue, mutator, observer) = queue::<Server, StreamNames>(alloc, 64, names)?;
+    let links = Links {
+        queue: &queue,
+        streams,
+        commands: &[],
+        pipe: &pipe,
+        report: &report,
+    };
+    let ends = (mutator, observer);
+    Ok(cross(
+        rt,
+        &links,
+        ends,
+        (from, to),
+        (writer, reader),
+        frames,
+        total,
+    ))
+}
+
+// The same with so many numbered frames, over one block.
+fn run_both<R: Threads + Sync>(rt: &R, alloc: Global, total: u32) -> Result<bool, Memory> {
+    let frames = numbered(alloc, total)?;
+    let (stream, _client, _server) = Block::make(alloc, 64, 0)?;
+    cross_over(rt, alloc, &[stream], frames.as_slice(), total)
 }
 
 #[test]

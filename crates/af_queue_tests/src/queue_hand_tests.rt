@@ -83,23 +83,56 @@ fn ends_alike(mutator: &Pushing, observer: &mut Polling, plain: &PlainQueue<u32>
     alike
 }
 
+// The answers of the plain queue to a list, and the queue after them.
+fn plain_answers(
+    alloc: Global,
+    list: &[Told],
+) -> Result<(Vec<QueueAnswer<u32>>, PlainQueue<u32>), Memory> {
+    let calls = calls_of(alloc, list)?;
+    let mut plain = PlainQueue::new(alloc, 4)?;
+    let answers = plain.answer_each(alloc, calls)?;
+    Ok((answers, plain))
+}
+
+// Whether the two ends of a new queue give these answers to a list, and are then the plain queue.
+fn ends_answer<L: Ledger>(
+    alloc: Global,
+    list: &[Told],
+    wants: &[QueueAnswer<u32>],
+    plain: &PlainQueue<u32>,
+    steps: &mut Steps<L>,
+) -> Result<bool, Memory> {
+    let calls = calls_of(alloc, list)?;
+    let (line, mut mutator, mut observer) = queue::<u32, ByNumber>(alloc, 4, ())?;
+    let answers = answer_each(alloc, &line, &mut mutator, &mut observer, calls, steps)?;
+    Ok(answers.as_slice() == wants && ends_alike(&mutator, &mut observer, plain))
+}
+
+// Whether the answers from the start are these.
+fn start_answers<L: Ledger>(
+    alloc: Global,
+    list: &[Told],
+    wants: &[QueueAnswer<u32>],
+    steps: &mut Steps<L>,
+) -> Result<bool, Memory> {
+    let calls = calls_of(alloc, list)?;
+    let answers = answer_from_start::<u32, ByNumber, L>(alloc, 4, (), calls, steps)?;
+    Ok(answers.as_slice() == wants)
+}
+
 // The answers of a list from the start, where both functions give those of the plain queue, and the ends are then the plain queue.
 fn answers_of_both<L: Ledger>(
     alloc: Global,
     list: &[Told],
     steps: &mut Steps<L>,
 ) -> Result<Option<Vec<QueueAnswer<u32>>>, Memory> {
-    let (line, mut mutator, mut observer) = queue::<u32, ByNumber>(alloc, 4, ())?;
-    let calls = calls_of(alloc, list)?;
-    let shared = answer_each(alloc, &line, &mut mutator, &mut observer, calls, steps)?;
-    let calls = calls_of(alloc, list)?;
-    let again = answer_from_start::<u32, ByNumber, L>(alloc, 4, (), calls, steps)?;
-    let mut plain = PlainQueue::new(alloc, 4)?;
-    let wants = plain.answer_each(alloc, calls_of(alloc, list)?)?;
-    if shared != wants || again != wants || !ends_alike(&mutator, &mut observer, &plain) {
+    let (wants, plain) = plain_answers(alloc, list)?;
+    if !ends_answer(alloc, list, &wants, &plain, steps)?
+        || !start_answers(alloc, list, &wants, steps)?
+    {
         return Ok(None);
     }
-    Ok(Some(shared))
+    Ok(Some(wants))
 }
 
 // Edits A, B and C: each state is pushed once the one before is polled, and B and C are squashed.

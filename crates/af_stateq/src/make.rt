@@ -4,7 +4,7 @@ ghost use Rattle.af_model.specs.Draft.{initial};
 ghost use Rattle.af_model.specs.StateQueue.{slots, HasHistory};
 ghost use Rattle.af_stateq.specs.Mutates.{IsNewMutator};
 ghost use Rattle.af_stateq.specs.Observes.{IsNewObserver, InOrder};
-ghost use Rattle.af_stateq.specs.Shelved.{cells, nothing};
+ghost use Rattle.af_stateq.specs.Shelved.{cells, nothing, starting};
 ghost use Rattle.af_model.specs.declared.states.MutatorEvent.TheVariants as mutates;
 ghost use Rattle.af_model.specs.declared.states.ObserverEvent.TheVariants as observes;
 
@@ -13,12 +13,22 @@ use crate::ends::{MutatorEnd, ObserverEnd};
 use crate::mutator::Mutator;
 use crate::observer::Observer;
 use crate::plays::{Meet, Part, SitMutator, SitObserver};
-use crate::rule::{Basis, Fits, Queue};
+use crate::rule::{Basis, Fits, Queue, Shelved};
+use crate::view::View;
 use af_base::{FastState, Memory, SLOTS, Steps};
 use af_model::first_state;
-use atomic_table::Table;
+use atomic_table::{Seat, Table};
 use std::alloc::Global;
 use std::sync::ledger::Ledger;
+
+// The table of a queue.
+type Laid<P, N> = Table<
+    Slot<P>,
+    View<P, <N as Fits<P>>::Key>,
+    Basis<<N as Fits<P>>::Key>,
+    Shelved<N>,
+    Global,
+>;
 
 /// No item for any slot.
 pub(crate) fn no_items<P: Drop>(alloc: Global) -> Result<Vec<Option<P>>, Memory>
@@ -46,21 +56,35 @@ fn table_slots<P: Drop>(alloc: Global, state: FastState) -> Result<Vec<Slot<P>>,
     Ok(places)
 }
 
-/// The table of a queue with its two ends. Nothing is pushed.
-pub(crate) fn ends_of<P: Drop, N: Fits<P>>(
+/// The table of a queue, and its one seat.
+fn table_of<P: Drop, N: Fits<P>>(
     alloc: Global,
     first: FastState,
     key: N::Key,
-) -> Result<(Queue<P, N>, MutatorEnd<P, N>, ObserverEnd<P, N>), Memory>
-    ensures together { IfOk result (λ l. (l.1.queue ≡ l.0) × (l.2.queue ≡ l.0)) }
-    ensures mutator { IfOk result (λ l. (l.1.key ≡ Some key) × (l.1.first ≡ first) × (l.1.last ≡ first) × (l.1.number ≡ 0) × (l.1.clear ≡ true) × (l.1.events ≡ [])) }
-    ensures observer { IfOk result (λ l. (l.2.key ≡ Some key) × (l.2.state ≡ first) × (l.2.number ≡ 0) × (l.2.due ≡ false) × (l.2.events ≡ [])) }
+) -> Result<(Laid<P, N>, Seat<Slot<P>, View<P, N::Key>>), Memory>
+    ensures laid { IfOk result (λ t. (t.0.shared.table_id.words ≡ 2) × (t.0.shared.table_id.slots ≡ cells + slots) × (t.0.shared.key ≡ record { first = first; key = key })) }
+    ensures seat { IfOk result (λ t. (t.1.table_id ≡ t.0.shared.table_id) × (t.1.id ≡ 0) × (t.1.me ≡ (starting t.0.shared.key, []))) }
 {
     let places = table_slots(alloc, first)?;
     let basis = Basis { first, key };
-    let Ok((table, mut seat)) = Table::new(alloc, &[0, 0], places, &basis) else {
+    let Ok((table, seat)) = Table::new(alloc, &[0, 0], places, &basis) else {
         return Err(Memory);
     };
+    Ok((table, seat))
+}
+
+/// The two ends of a table that no end has used.
+fn ends_at<P: Drop, N: Fits<P>>(
+    table: Laid<P, N>,
+    seat: Seat<Slot<P>, View<P, N::Key>>,
+) -> (Queue<P, N>, MutatorEnd<P, N>, ObserverEnd<P, N>)
+    requires laid { (table.shared.table_id.words ≡ 2) × (table.shared.table_id.slots ≡ cells + slots) }
+    requires seat { (seat.table_id ≡ table.shared.table_id) × (seat.id ≡ 0) × (seat.me ≡ (starting table.shared.key, [])) }
+    ensures together { (result.1.queue ≡ result.0) × (result.2.queue ≡ result.0) }
+    ensures mutator { let b = table.shared.key in (result.1.key ≡ Some b.key) × (result.1.first ≡ b.first) × (result.1.last ≡ b.first) × (result.1.number ≡ 0) × (result.1.clear ≡ true) × (result.1.events ≡ []) }
+    ensures observer { let b = table.shared.key in (result.2.key ≡ Some b.key) × (result.2.state ≡ b.first) × (result.2.number ≡ 0) × (result.2.due ≡ false) × (result.2.events ≡ []) }
+{
+    let mut seat = seat;
     let mut other = table.shared.split_seat::<Part>(&mut seat);
     table.shared.load::<SitMutator>(&mut seat, 0);
     table.shared.load::<SitObserver>(&mut other, 0);
@@ -74,7 +98,21 @@ pub(crate) fn ends_of<P: Drop, N: Fits<P>>(
         number: 0,
         due: false,
     };
-    Ok((Queue { table }, mutator, observer))
+    (Queue { table }, mutator, observer)
+}
+
+/// The table of a queue with its two ends. Nothing is pushed.
+pub(crate) fn ends_of<P: Drop, N: Fits<P>>(
+    alloc: Global,
+    first: FastState,
+    key: N::Key,
+) -> Result<(Queue<P, N>, MutatorEnd<P, N>, ObserverEnd<P, N>), Memory>
+    ensures together { IfOk result (λ l. (l.1.queue ≡ l.0) × (l.2.queue ≡ l.0)) }
+    ensures mutator { IfOk result (λ l. (l.1.key ≡ Some key) × (l.1.first ≡ first) × (l.1.last ≡ first) × (l.1.number ≡ 0) × (l.1.clear ≡ true) × (l.1.events ≡ [])) }
+    ensures observer { IfOk result (λ l. (l.2.key ≡ Some key) × (l.2.state ≡ first) × (l.2.number ≡ 0) × (l.2.due ≡ false) × (l.2.events ≡ [])) }
+{
+    let (table, seat) = table_of::<P, N>(alloc, first, key)?;
+    Ok(ends_at(table, seat))
 }
 
 /// Each end learns of the other's events. It takes five steps.

@@ -1,4 +1,5 @@
-use Rattle.std.proofs.Common.{◌≡◌, ℕ, List, length, map, slice_set, Option, sym, ap, ◌∙◌, subst, arith}
+use Rattle.std.proofs.Common.{◌≡◌, ℕ, List, length, map, slice_set, Option, sym, ap, ◌∙◌, subst, arith, length-set}
+use Rattle.std.specs.Vec.{with_items}
 use Rattle.std.proofs.lemmas.List.{get_or_default, with_items_is}
 use Rattle.af_base.specs.Turn.{TrackSeen, track_seen}
 use Rattle.af_cblk.specs.Sides.{HandSide}
@@ -57,3 +58,17 @@ returns-clause-serves g c = λ k r o.
     eg eh er ps pc pf pt pd pe c.attend_at.ensures.attends)
     (λ j. slice_set (tracks j) c.args.i (full j))
     (ap (λ (m : NormalState). map track_seen m.entry.tracks.items) c.self.view_is)
+
+pub returns-clause-same : goal.returns-clause-same
+returns-clause-same g c =
+    ap (λ (m : NormalState). record m {
+      tracks = slice_set c.self.inside.tracks.items c.args.i c.attend_at.result;
+      streams = (with_items c.self.inside.streams c.attend_at.new.streams).items;
+      commands = (with_items c.self.inside.commands c.attend_at.new.commands).items;
+      hands = (with_items c.self.inside.hands c.attend_at.new.hands).items;
+    }) c.self.view_is
+
+pub invariant_of-self : goal.invariant_of-self
+invariant_of-self g c =
+    let whole = c.self.invariant in
+    (whole.0, whole.1, whole.2, omega (arith, length-set c.self.inside.tracks.items c.args.i c.attend_at.result))
