@@ -33,6 +33,7 @@ module _ (l : Loaded) (journal : JournalData) (ends : EndsState) (back : HandsBa
       line_is = ap summary_line (summary_is ∙ told.summary);
       alone = (λ plain met other run also. one_turn_run l.script l.files other journal accepted plain run told.run also met);
     });
+    kept = (render_told l.script l.files journal ends accepted back).kept;
   }
 
   some_line : (line : List ℕ) → line ≡ summary_line summary → IsSomeSessionLine line

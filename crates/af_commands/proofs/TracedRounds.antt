@@ -17,6 +17,7 @@ use Rattle.af_side_by_side.specs.Logging.{IsLogOf}
 use Rattle.af_playing.specs.PlayedRuns.{AtFault, AtLimit, HandsBackRun, IsLegalJournal, LeavesRun}
 use Rattle.af_playing.specs.PlayKept.{KeepsPlay}
 use Rattle.af_playing.specs.PlayedAlone.{summary_of_play}
+use Rattle.af_playing.proofs.ListsKept.{lists_kept}
 use Rattle.af_commands.specs.declared.status.Stop.{Stop}
 use Rattle.af_commands.specs.declared.status.Stop.TheVariants.{Refused, Over, Store, Memory}
 use Rattle.af_commands.specs.declared.status.Ending.{Ending}
@@ -43,7 +44,7 @@ module _ (l : Loaded) (room : ℕ) (journal : JournalData) (ends : EndsState) (b
   told = log_text notes refused
 
   is_trace : (line : List ℕ) → line ≡ run_line true l.script l.files journal → IsTrace l.script l.files room bytes (text_of journal) told line
-  is_trace line is = record { play = record { journal = journal; ends = ends; run = back; legal = legal; bytes_are = refl; text_is = refl; read = read_alone true l journal ends back; line_is = is }; notes = notes; refused = refused; log_of = log_of; log_is = refl; all_kept = kept }
+  is_trace line is = record { play = record { journal = journal; ends = ends; run = back; legal = legal; kept = lists_kept true l.script l.files journal ends back; bytes_are = refl; text_is = refl; read = read_alone true l journal ends back; line_is = is }; notes = notes; refused = refused; log_of = log_of; log_is = refl; all_kept = kept }
 
   module _ (target name log : List ℕ) (old mid next : Files) (set : SetsFile old target (Some bytes) mid) (text : SetsFile mid name (Some (text_of journal)) next) where
     both : with_files old (record { name = target; bytes = bytes } ∷ record { name = name; bytes = text_of journal } ∷ []) ≡ next
