@@ -14,6 +14,7 @@ it prints, and its exit status:
     script: .., file: ..           3, 4  as the player says it
 
 With `--verify` a cut run has the line by which it isn't legal. The parts are in the folder `judging`.
+Of each round the first 32,768 entries are judged, and of its turn the first 32,768 looks at each track's commands.
 Python 3.11 or later, the standard library alone; only scripts are read by the plain model beside this file.
 """
 import os, sys
@@ -61,7 +62,7 @@ def judge(script, files, pcm, journal, as_verify=False):
         rounds = text.read(journal, len(script.tracks))
     except text.BadLine as bad:
         return REFUSED, f"refused: line {bad.number}", None
-    verdict = judge_rounds(script, files, rounds)
+    verdict = judge_rounds(script, files, text.judged(rounds))
     if verdict.fault and (as_verify or not verdict.cut):
         return REFUSED, "refused: round {} party {}".format(*verdict.fault), verdict.run
     other = first_difference(verdict.run.pcm(), pcm)

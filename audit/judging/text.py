@@ -2,6 +2,7 @@
 
 WORD = 1 << 32                 # a number of 32 bits is below this
 LONG = 1 << 64
+MOST_JUDGED = 32768            # of a round so many entries are judged, and of its turn so many looks at a track
 SLOTS = 32
 SUBMIX = (4096, 0, 268439552)  # scale, mono mark and gains of slot 0
 MIXED, IDLE, COLD, EXIT = range(4)
@@ -288,3 +289,12 @@ def read(data, tracks):
     if parts[-1] or reader.stage not in LAST:
         raise BadLine(len(parts))
     return reader.rounds
+
+
+def judged(rounds):
+    """The rounds of a journal, each with its first entries, and the first looks at each track in its turn."""
+    for told in rounds:
+        del told.entries[MOST_JUDGED:]
+        for seen in told.turn.tracks.values() if told.turn else ():
+            del seen.looks[MOST_JUDGED:]
+    return rounds

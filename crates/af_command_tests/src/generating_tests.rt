@@ -1,7 +1,7 @@
 //! A session that is generated, and each call of the store that it makes failing in turn.
-use crate::ending_tests::words_of;
+use crate::shared::{failing_sink, words_of};
 use af_commands::run;
-use af_io::{MemSink, MemStore, NoGate};
+use af_io::{MemStore, NoGate};
 use std::alloc::Global;
 use std::process::Abort;
 use std::test::Fail;
@@ -47,25 +47,31 @@ fn length_left(failing: u64, made: u64, length: usize) -> Option<usize> {
     }
 }
 
+/// Whether the files that are written before the session are left as they must be.
+fn are_left(store: &MemStore, failing: u64) -> bool {
+    for (name, made, length) in WRITTEN {
+        if length_of(store, name) != length_left(failing, *made, *length) {
+            return false;
+        }
+    }
+    let first = store.file("g0.pcm").unwrap_or(&[]);
+    first.is_empty() || first.starts_with(&[0x30, 0xe0, 0x16, 0xfc])
+}
+
 /// A session that is generated while calls fail.
 fn expect_generated<R: Threads + Sync + Abort>(
     rt: &R,
     alloc: Global,
     (failing, of_sink, status, sound, line): GenerateFailure<'_>,
 ) -> Result<(), Fail> {
-    let mut store = MemStore::new(alloc, [failing].to_vec(alloc)?);
-    let mut out = MemSink::new(alloc, [of_sink].to_vec(alloc)?);
     let words = words_of(alloc, "generate 0 s.toml out.pcm")?;
+    let mut out = failing_sink(alloc, of_sink)?;
+    let mut store = MemStore::new(alloc, [failing].to_vec(alloc)?);
     let ended = run(rt, alloc, &words, &mut store, &mut out, &NoGate);
-    assert_eq!(rt; ended.code(), status, "{failing}");
-    assert_eq!(rt; out.bytes(), line.as_bytes(), "{failing}");
-    assert_eq!(rt; length_of(&store, "out.pcm"), sound, "{failing}");
-    for (name, made, length) in WRITTEN {
-        let left = length_left(failing, *made, *length);
-        assert_eq!(rt; length_of(&store, name), left, "{name} {failing}");
-    }
-    let first = store.file("g0.pcm").unwrap_or(&[]);
-    assert!(rt; first.is_empty() || first.starts_with(&[0x30, 0xe0, 0x16, 0xfc]));
+    assert!(rt; ended.code() == status, "{failing}");
+    assert!(rt; out.bytes() == line.as_bytes(), "{failing}");
+    assert!(rt; length_of(&store, "out.pcm") == sound, "{failing}");
+    assert!(rt; are_left(&store, failing), "{failing}");
     Ok(())
 }
 

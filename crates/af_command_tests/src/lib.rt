@@ -1,4 +1,4 @@
-//! Tests of the player's commands, over files and a sink in memory: what each run answers, prints and leaves.
+//! Tests of the player's commands, over files and a sink in memory: how runs end, what a generated session writes, and what is verified.
 #![tactic(auto)]
 
 #[cfg(test)]
@@ -6,18 +6,8 @@ mod ending_tests;
 #[cfg(test)]
 mod failing_tests;
 #[cfg(test)]
-mod gate_tests;
-#[cfg(test)]
 mod generating_tests;
 #[cfg(test)]
-mod mix_tests;
-#[cfg(test)]
-mod plain_tests;
-#[cfg(test)]
-mod playing_tests;
-#[cfg(test)]
-mod session_tests;
-#[cfg(test)]
-mod tracing_tests;
+mod shared;
 #[cfg(test)]
 mod verifying_tests;

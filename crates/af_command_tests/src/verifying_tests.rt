@@ -1,8 +1,7 @@
 //! What is verified: a play, and what was made of its sound and its journal.
-use crate::ending_tests::{expect, numbered, sink, words_of};
-use crate::playing_tests::WHOLE;
+use crate::shared::{expect, failing_sink, given, sink, words_of};
 use af_commands::run;
-use af_io::{MemSink, MemStore, NoGate};
+use af_io::{MemStore, NoGate};
 use std::alloc::Global;
 use std::process::Abort;
 use std::test::Fail;
@@ -10,21 +9,17 @@ use std::thread::Threads;
 
 const VERIFY: &str = "verify one.toml out.pcm out.txt";
 
-/// A store with a script and a file of so many bytes, of which a call fails by its number (0: none).
-fn given(alloc: Global, failing: u64, script: &str, length: usize) -> Result<MemStore, Fail> {
-    let mut store = MemStore::new(alloc, [failing].to_vec(alloc)?);
-    store.put("one.toml", script.as_bytes())?;
-    store.put("in.pcm", &numbered(alloc, length)?)?;
-    Ok(store)
-}
+/// One track that plays two frames to their end, with more cycles than it can take.
+const WHOLE: &str =
+    "version = 1\nframes = 2\nnormal = 1\ncycles = 2000\n[[track]]\nkind = \"fast\"\nframes = 8\nchannels = 2\nfile = \"in.pcm\"\nops = [\"open\", \"start\", \"write 2\", \"stop\", \"drain\", \"remove\"]\n";
 
 /// A store with a play of that script.
 fn played<R: Threads + Sync + Abort>(rt: &R, alloc: Global) -> Result<MemStore, Fail> {
+    let words = words_of(alloc, "play one.toml out.pcm out.txt")?;
     let mut store = given(alloc, 0, WHOLE, 8)?;
     let mut out = sink(alloc);
-    let words = words_of(alloc, "play one.toml out.pcm out.txt")?;
     let ended = run(rt, alloc, &words, &mut store, &mut out, &NoGate);
-    assert_eq!(rt; ended.code(), 0);
+    assert!(rt; ended.code() == 0);
     Ok(store)
 }
 
@@ -36,11 +31,11 @@ fn expect_verdict<R: Threads + Sync + Abort>(
     status: u8,
     line: &str,
 ) -> Result<(), Fail> {
-    let mut out = sink(alloc);
     let words = words_of(alloc, VERIFY)?;
+    let mut out = sink(alloc);
     let ended = run(rt, alloc, &words, &mut store, &mut out, &NoGate);
-    assert_eq!(rt; ended.code(), status, "{line}");
-    assert_eq!(rt; out.bytes(), line.as_bytes(), "{line}");
+    assert!(rt; ended.code() == status, "{line}");
+    assert!(rt; out.bytes() == line.as_bytes(), "{line}");
     Ok(())
 }
 
@@ -52,19 +47,23 @@ fn a_play_is_verified(rt: HostRuntime) -> Result<(), Fail> {
     expect_verdict(&rt, alloc, store, 0, "legal\n")
 }
 
+/// A file of a play that is written over, and what is found then.
+const OVERWRITTEN: &[(&str, &[u8], &str)] = &[
+    ("out.pcm", &[9], "refused: pcm 0\n"),
+    ("out.txt", b"C 0\n", "refused: line 1\n"),
+    ("out.txt", b"", "refused: round 0 party 0\n"),
+];
+
 /// Another sound is refused at its first byte, a text that is no journal at its first line, and a journal without rounds at the first client.
 #[test]
 fn what_was_changed_is_refused(rt: HostRuntime) -> Result<(), Fail> {
     let alloc = rt.alloc();
-    let mut store = played(&rt, alloc)?;
-    store.put("out.pcm", &[9])?;
-    expect_verdict(&rt, alloc, store, 7, "refused: pcm 0\n")?;
-    let mut store = played(&rt, alloc)?;
-    store.put("out.txt", b"C 0\n")?;
-    expect_verdict(&rt, alloc, store, 7, "refused: line 1\n")?;
-    let mut store = played(&rt, alloc)?;
-    store.put("out.txt", b"")?;
-    expect_verdict(&rt, alloc, store, 7, "refused: round 0 party 0\n")
+    for (name, bytes, line) in OVERWRITTEN {
+        let mut store = played(&rt, alloc)?;
+        store.put(name, bytes)?;
+        expect_verdict(&rt, alloc, store, 7, line)?;
+    }
+    Ok(())
 }
 
 /// A sound and a journal that aren't there.
@@ -83,286 +82,42 @@ fn what_is_verified_must_be_there(rt: HostRuntime) -> Result<(), Fail> {
     expect_verdict(&rt, alloc, store, 4, "file: journal missing\n")
 }
 
-/// A journal of a play of that script: up to its first cycle, one quiet cycle of fifteen, what comes before eight more, and what comes behind them.
-const FIRST: &str =
-    "R\nC 0\ns 0 1 0\ns 0 2 0\nt 0\nN 8 1 1\nq 0 0 0 e\nP 0\nF\ny 0 1\nR\nC 0\nt 514\np 0 2\nk 0\ns 4 4 2\nt 514\nN 8 1 2\nq 0 0 4 f 2\nh 0000000100000000\nq 0 0 4 f 2\nh 0000000200000000\nq 0 0 4 e\na 0 514\nP 1 1\nF\ny 0 1\nR\nC 0\nt 514\nN 8 1 7\nq 0 0 6 f 2\nh 0000000400000002\nq 0 0 6 e\na 0 791\nP 0\nF\ny 1 0\nz 0 4096 0 268439552 0 0 e\nz 1 4096 0 268439552 0 2 f 2\nh 0001000100020002\n";
-
-const QUIET: &str = "y 1 0\nz 0 4096 0 268439552 0 0 e\nz 1 4096 0 268439552 0 2 e\n";
-
-const MIDDLE: &str = "R\nC 0\nt 792\ns 6 6 0\nN 8 1 25\nq 0 0 6 e\na 0 792\nP 1 2\nF\n";
-
-const LAST: &str =
-    "y 2 2\nR\nN 8 1 28\nq 0 0 8 f 2\nh 0000000600000000\nq 0 0 8 e\na 0 1048\nP 1 3\nF\ny 2 1\nR\nN 8 0 28\nP 0\nF\ny 3 3\nR\nE\n";
-
-/// What comes before sixteen silent cycles in a journal of a track without frames, one of them, and what comes behind them.
-const BEGUN: &str =
-    "R\nC 0\ns 0 1 0\ns 0 2 0\nt 0\nN 8 1 0\nq 0 0 2 f 2\nh 0000000100000000\nq 0 0 4 f 2\nh 0000000200000000\nq 0 0 4 e\na 0 514\nP 1 1\nF\ny 0 1\nR\nC 0\nt 514\ns 4 4 0\nt 514\nN 8 1 1\nq 0 0 6 f 2\nh 0000000400000000\nq 0 0 6 e\na 0 791\nP 0\nF\n";
-
-const STILL: &str = "y 1 0\nz 0 4096 0 268439552 0 0 e\nz 1 4096 0 268439552 0 0 e\n";
-
-const ENDED: &str =
-    "R\nC 0\nt 792\ns 6 6 0\nN 8 1 17\nq 0 0 6 e\na 0 792\nP 1 2\nF\ny 2 2\nR\nN 8 1 18\nq 0 0 8 f 2\nh 0000000600000000\nq 0 0 8 e\na 0 1048\nP 1 3\nF\ny 3 3\nR\nE\n";
-
-/// Its script.
-const EMPTY: &str =
-    "version = 1\nframes = 2\nnormal = 1\ncycles = 1024\n[[track]]\nkind = \"fast\"\nframes = 8\nchannels = 2\nfile = \"in.pcm\"\nops = [\"open\", \"start\", \"stop\", \"drain\", \"remove\"]\n";
-
-/// A script of two tracks, of which one starts a turn later.
-const LATE: &str =
-    "version = 1\nframes = 2\nnormal = 1\ncycles = 300\n[[track]]\nkind = \"fast\"\nframes = 4\nchannels = 2\nfile = \"in.pcm\"\nops = [\"open\", \"start\"]\n[[track]]\nkind = \"fast\"\nframes = 4\nchannels = 2\nfile = \"in.pcm\"\nops = [\"open\", \"yield\", \"start\", \"write 1\", \"stop\", \"drain\"]\n";
-
-/// A journal of it that no order of a play makes. The later track is attached in round 1, whose push is Busy; the normal mixer's turn of round 2 pushes its state, and loads the report of the entries behind that push. What comes before sixteen silent cycles, before fifteen more, and behind them.
-const ATTACHED: &str =
-    "R\nC 0\ns 0 1 0\ns 0 2 0\nt 0\nC 1\ns 0 1 0\nN 8 1 1\nq 0 0 4 f 2\nh 0000000100000000\nq 0 0 4 f 2\nh 0000000200000000\nq 0 0 4 e\na 0 514\nq 1 0 2 f 2\nh 0000000100000000\nq 1 0 2 e\na 1 257\nP 1 1\nF\ny 0 1\nR\nC 0\nt 514\ns 4 6 0\nC 1\ns 2 2 0\nt 257\nN 8 0 1\nq 0 0 6 f 2\nh 0000000600000000\nq 0 0 6 e\na 0 770\nq 1 0 4 f 2\nh 0000000200000000\nq 1 0 4 e\na 1 514\nP 2 0 1\nF\n";
-
-const LOADED: &str =
-    "R\nC 1\nt 514\np 0 1\nk 0\ns 4 4 1\nt 514\nN 8 1 33\nq 1 0 6 f 2\nh 0000000400000001\nq 1 0 6 e\na 1 791\nP 1 2\nF\ny 2 0\nz 0 4096 0 268439552 0 0 e\nz 2 4096 0 268439552 0 1 f 1\nh 00010001\n";
-
-const TAKEN: &str = "y 2 0\nz 0 4096 0 268439552 0 0 e\nz 2 4096 0 268439552 0 1 e\n";
-
-const LEFT: &str =
-    "R\nC 1\nt 791\nN 8 1 33\nq 1 0 6 e\na 1 792\nP 1 3\nF\ny 3 2\nR\nC 1\nt 792\ns 6 6 0\nN 8 1 34\nq 1 0 8 f 2\nh 0000000600000000\nq 1 0 8 e\na 1 1048\nP 1 4\nF\ny 4 3\nR\nE\n";
-
-/// A played session: its script, the bytes of its file, the silent bytes of its sound that come before them, and all bytes of its sound.
-type Session<'a> = (&'a str, usize, usize, usize);
-
-const HEARD_SESSION: Session<'static> = (WHOLE, 8, 0, 192);
-
-const UNHEARD_SESSION: Session<'static> = (EMPTY, 0, 0, 128);
-
-const LATE_SESSION: Session<'static> = (LATE, 4, 128, 256);
-
-/// So many bytes of a journal, from a place on, replaced by a text, and what is found then.
-type Damage<'a> = (usize, usize, &'a str, &'a str);
-
-/// Adds a text so many times.
-fn add(text: &mut Vec<u8>, part: &str, times: usize) -> Result<(), Fail> {
-    for _ in 0..times {
-        text.extend_from_slice(part.as_bytes())?;
-    }
-    Ok(())
-}
-
-/// The text of the journal.
-fn whole_journal(alloc: Global) -> Result<Vec<u8>, Fail> {
-    let mut text = Vec::new(alloc);
-    add(&mut text, FIRST, 1)?;
-    add(&mut text, QUIET, 15)?;
-    add(&mut text, MIDDLE, 1)?;
-    add(&mut text, QUIET, 8)?;
-    add(&mut text, LAST, 1)?;
-    Ok(text)
-}
-
-/// The text of the other journal.
-fn silent_journal(alloc: Global) -> Result<Vec<u8>, Fail> {
-    let mut text = Vec::new(alloc);
-    add(&mut text, BEGUN, 1)?;
-    add(&mut text, STILL, 16)?;
-    add(&mut text, ENDED, 1)?;
-    Ok(text)
-}
-
-/// The text of the journal of two tracks.
-fn late_journal(alloc: Global) -> Result<Vec<u8>, Fail> {
-    let mut text = Vec::new(alloc);
-    add(&mut text, ATTACHED, 1)?;
-    add(&mut text, STILL, 16)?;
-    add(&mut text, LOADED, 1)?;
-    add(&mut text, TAKEN, 15)?;
-    add(&mut text, LEFT, 1)?;
-    Ok(text)
-}
-
-/// A text in which bytes are replaced.
-fn damaged(
-    alloc: Global,
-    whole: &[u8],
-    (place, length, new, _): Damage<'_>,
-) -> Result<Vec<u8>, Fail> {
-    let mut text = Vec::new(alloc);
-    for (at, byte) in whole.iter().enumerate() {
-        if at == place {
-            add(&mut text, new, 1)?;
-        }
-        if at < place || at - place >= length {
-            text.push(*byte)?;
-        }
-    }
-    Ok(text)
-}
-
-/// The sound of a session: its frames, and before and behind them silence.
-fn sound_of(alloc: Global, (_, length, before, bytes): Session<'_>) -> Result<Vec<u8>, Fail> {
-    let mut sound = Vec::new(alloc);
-    add(&mut sound, "\0", before)?;
-    sound.extend_from_slice(&numbered(alloc, length)?)?;
-    let made = sound.len();
-    for _ in made..bytes {
-        sound.push(0)?;
-    }
-    Ok(sound)
-}
-
-/// A store with a session, its sound and a journal, of which a call fails by its number.
-fn judged(
-    alloc: Global,
-    failing: u64,
-    session: Session<'_>,
-    journal: &[u8],
-) -> Result<MemStore, Fail> {
-    let mut store = given(alloc, failing, session.0, session.1)?;
-    store.put("out.pcm", &sound_of(alloc, session)?)?;
-    store.put("out.txt", journal)?;
-    Ok(store)
-}
-
-/// The journals are legal, and with one byte more a sound is refused at its end.
-#[test]
-fn journals_are_legal(rt: HostRuntime) -> Result<(), Fail> {
-    let alloc = rt.alloc();
-    let (heard, unheard) = (whole_journal(alloc)?, silent_journal(alloc)?);
-    let more = judged(alloc, 0, (WHOLE, 8, 0, 193), &heard)?;
-    expect_verdict(
-        &rt,
-        alloc,
-        judged(alloc, 0, HEARD_SESSION, &heard)?,
-        0,
-        "legal\n",
-    )?;
-    expect_verdict(&rt, alloc, more, 7, "refused: pcm 192\n")?;
-    let more = judged(alloc, 0, (EMPTY, 0, 0, 129), &unheard)?;
-    expect_verdict(
-        &rt,
-        alloc,
-        judged(alloc, 0, UNHEARD_SESSION, &unheard)?,
-        0,
-        "legal\n",
-    )?;
-    expect_verdict(&rt, alloc, more, 7, "refused: pcm 128\n")
-}
-
-/// Calls of the store and of the sink that fail, by their numbers (0: none), the bytes of the sound, the status, and what is printed.
-type VerifyFailure<'a> = (u64, u64, usize, u8, &'a str);
+/// Calls of the store and of the sink that fail, by their numbers (0: none), a sound in place of that of the play, the status, and what is printed.
+type VerifyFailure<'a> = (u64, u64, Option<&'a [u8]>, u8, &'a str);
 
 /// The store is asked for the script, the file, the sound and the journal.
 const FAILURES: &[VerifyFailure<'static>] = &[
-    (1, 0, 192, 5, ""),
-    (2, 0, 192, 5, ""),
-    (3, 0, 192, 5, ""),
-    (4, 0, 192, 5, ""),
-    (5, 0, 192, 0, "legal\n"),
-    (0, 1, 192, 5, "leg"),
-    (0, 1, 193, 5, "refused:"),
+    (1, 0, None, 5, ""),
+    (2, 0, None, 5, ""),
+    (3, 0, None, 5, ""),
+    (4, 0, None, 5, ""),
+    (5, 0, None, 0, "legal\n"),
+    (0, 1, None, 5, "leg"),
+    (0, 1, Some(&[9]), 5, "refused"),
 ];
 
-/// Each call fails in turn, and the sound stays as it is.
+/// A verify of a play, of which calls fail, leaves the sound as it is.
+fn expect_verify_failure<R: Threads + Sync + Abort>(
+    rt: &R,
+    alloc: Global,
+    play: &MemStore,
+    (of_store, of_sink, other, status, line): VerifyFailure<'_>,
+) -> Result<(), Fail> {
+    let sound = other.unwrap_or(play.file("out.pcm").unwrap_or(&[]));
+    let out = failing_sink(alloc, of_sink)?;
+    let mut store = given(alloc, of_store, WHOLE, 8)?;
+    store.put("out.pcm", sound)?;
+    store.put("out.txt", play.file("out.txt").unwrap_or(&[]))?;
+    expect(rt, alloc, VERIFY, (store, out), status, line, Some(sound))
+}
+
+/// Each call fails in turn.
 #[test]
 fn each_call_of_a_verify_fails_in_turn(rt: HostRuntime) -> Result<(), Fail> {
     let alloc = rt.alloc();
-    let journal = whole_journal(alloc)?;
-    for (of_store, of_sink, bytes, status, line) in FAILURES {
-        let session = (WHOLE, 8, 0, *bytes);
-        let store = judged(alloc, *of_store, session, &journal)?;
-        let out = MemSink::new(alloc, [*of_sink].to_vec(alloc)?);
-        let sound = sound_of(alloc, session)?;
-        expect(
-            &rt,
-            alloc,
-            VERIFY,
-            (store, out),
-            *status,
-            line,
-            Some(&sound),
-        )?;
+    let play = played(&rt, alloc)?;
+    for failure in FAILURES {
+        expect_verify_failure(&rt, alloc, &play, *failure)?;
     }
     Ok(())
-}
-
-/// Each kind of line damaged, one left out, and cuts before each round and behind the last; and what a damage that no reader can tell leaves: a legal journal.
-const DAMAGES: &[Damage<'static>] = &[
-    (0, 2, "", "line 1"),
-    (2, 4, "C 1\n", "line 2"),
-    (6, 8, "s 0 3 0\n", "round 0 party 0"),
-    (14, 8, "s 0 2 1\n", "round 0 party 0"),
-    (14, 8, "", "round 0 party 0"),
-    (62, 6, "t 2\n", "round 1 party 0"),
-    (68, 6, "p 0 1\n", "round 1 party 0"),
-    (74, 4, "k 1\n", "legal"),
-    (74, 4, "", "round 1 party 0"),
-    (26, 8, "N 7 1 1\n", "round 0 party 1"),
-    (92, 8, "N 8 0 2\n", "round 1 party 1"),
-    (206, 8, "N 8 1 8\n", "legal"),
-    (1270, 9, "N 8 1 1\n", "round 3 party 1"),
-    (100, 12, "q 0 0 4 e\n", "line 20"),
-    (112, 19, "h 0000000200000000\n", "round 1 party 0"),
-    (331, 19, "h 0001000100030003\n", "round 2 party 0"),
-    (172, 8, "a 0 515\n", "round 1 party 0"),
-    (180, 6, "P 0\n", "round 1 party 1"),
-    (1297, 6, "P 1 3\n", "round 3 party 1"),
-    (48, 2, "", "line 9"),
-    (50, 6, "y 0 2\n", "round 0 party 2"),
-    (269, 6, "y 2 0\n", "round 2 party 1"),
-    (1883, 6, "y 3 1\n", "round 5 party 2"),
-    (275, 27, "z 0 4096 0 268439552 0 0 f 1\n", "line 40"),
-    (383, 27, "z 1 4096 0 268439552 0 4 e\n", "round 2 party 0"),
-    (383, 27, "", "round 2 party 2"),
-    (1891, 2, "", "round 6 party 1"),
-    (1891, 2, "N 8 1 28\nP 0\n", "round 6 party 1"),
-    (1889, 4, "", "round 6 party 1"),
-    (1892, 1, "", "line 136"),
-    (56, 1837, "", "round 1 party 0"),
-    (194, 1699, "", "round 2 party 0"),
-    (1250, 643, "", "round 3 party 0"),
-    (1791, 102, "", "round 4 party 1"),
-    (1866, 27, "", "round 5 party 1"),
-];
-
-/// The other journal, cut before each round and in its last line, and with another kind of its last entry.
-const CUTS: &[Damage<'static>] = &[
-    (0, 1317, "", "round 0 party 0"),
-    (128, 1189, "", "round 1 party 0"),
-    (1177, 140, "", "round 2 party 0"),
-    (1238, 79, "", "round 3 party 1"),
-    (1313, 4, "", "round 4 party 1"),
-    (1307, 6, "y 3 1\n", "round 3 party 2"),
-    (1316, 1, "", "line 96"),
-];
-
-/// The journal of two tracks, with other reports that its turn loads, and with other words of the status that it stores: it hears of the frame by the track that its draft has in the slot.
-const REPORTS: &[Damage<'static>] = &[
-    (0, 0, "", "legal"),
-    (1339, 9, "N 8 1 18\n", "legal"),
-    (1339, 9, "N 8 1 17\n", "round 2 party 2"),
-    (1339, 9, "N 8 1 34\n", "round 2 party 2"),
-    (1389, 8, "a 1 774\n", "round 2 party 2"),
-    (1389, 8, "a 1 775\n", "round 2 party 2"),
-];
-
-/// What is found in a session's journal with each of some damages.
-fn expect_found<R: Threads + Sync + Abort>(
-    rt: &R,
-    alloc: Global,
-    session: Session<'_>,
-    whole: &[u8],
-    damages: &[Damage<'_>],
-) -> Result<(), Fail> {
-    for damage in damages {
-        let store = judged(alloc, 0, session, &damaged(alloc, whole, *damage)?)?;
-        if damage.3 == "legal" {
-            expect_verdict(rt, alloc, store, 0, "legal\n")?;
-        } else {
-            let line = format!(in alloc; "refused: {}\n", damage.3)?;
-            expect_verdict(rt, alloc, store, 7, line.as_str())?;
-        }
-    }
-    Ok(())
-}
-
-#[test]
-fn damaged_journals(rt: HostRuntime) -> Result<(), Fail> {
-    let alloc = rt.alloc();
-    expect_found(&rt, alloc, HEARD_SESSION, &whole_journal(alloc)?, DAMAGES)?;
-    expect_found(&rt, alloc, UNHEARD_SESSION, &silent_journal(alloc)?, CUTS)?;
-    expect_found(&rt, alloc, LATE_SESSION, &late_journal(alloc)?, REPORTS)
 }

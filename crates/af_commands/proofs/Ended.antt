@@ -3,17 +3,17 @@ use Rattle.std.proofs.Common.{◌≡◌, ℕ, ◌++◌, List, [], Option, Some, 
 use Rattle.std.proofs.lemmas.List.{take_all}
 use Rattle.af_io.specs.Files.{Files, SetsFile, LeavesFront}
 use Rattle.af_io.specs.Outputs.{with_files}
-use Rattle.af_commands.specs.declared.status.Ending.{Ending}
-use Rattle.af_commands.specs.declared.status.Ending.TheVariants.{Limit, Judged}
-use Rattle.af_commands.specs.declared.status.Refusal.{Refusal}
-use Rattle.af_commands.specs.declared.status.Status.TheVariants as status
-use Rattle.af_commands.specs.declared.status.Stop.{Stop}
-use Rattle.af_commands.specs.declared.status.Stop.TheVariants.{Over}
-use Rattle.af_commands.specs.Asked.{Job, Work, Exact, Session, Rounds, Judge, Traced}
+use Rattle.af_offline.specs.declared.status.Ending.{Ending}
+use Rattle.af_offline.specs.declared.status.Ending.TheVariants.{Limit, Judged}
+use Rattle.af_offline.specs.declared.status.Refusal.{Refusal}
+use Rattle.af_offline.specs.declared.status.Status.TheVariants as status
+use Rattle.af_offline.specs.declared.status.Stop.{Stop}
+use Rattle.af_offline.specs.declared.status.Stop.TheVariants.{Over}
+use Rattle.af_offline.specs.Asked.{Job, Work, Exact, Session, Rounds, Judge, Traced}
 use Rattle.af_commands.specs.Ends.{AsksEnding, EndsAsAsked, EndsWork, IsCutOff, IsEnded, IsOver, LeavesWork, MayBeCut, Printed, Prints, PrintsFront, PrintsOwnLine, PrintsSomeLine, Renders, Works}
-use Rattle.af_commands.specs.Line.{ending_text, limit_text}
+use Rattle.af_offline.specs.Line.{ending_text, limit_text}
 use Rattle.af_words.specs.Requests.{Request}
-use Rattle.af_commands.specs.Status.{JudgesWords, RefusesWords, ended_status}
+use Rattle.af_offline.specs.Status.{JudgesWords, RefusesWords, ended_status}
 
 -- a file that was made anew holds a front of its bytes: all of them
 pub LeavesFront-whole : (old : Files) (name bytes : List ℕ) (new : Files) → SetsFile old name (Some bytes) new → LeavesFront old name bytes new

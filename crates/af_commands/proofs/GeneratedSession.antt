@@ -14,19 +14,19 @@ use Rattle.af_script.specs.declared.op.Op.{Op}
 use Rattle.af_script.specs.declared.op.Op.TheVariants as op
 use Rattle.af_script.specs.declared.track.TrackSpec.{TrackSpec}
 use Rattle.af_party.specs.Works.{frames_to_come}
-use Rattle.af_commands.specs.declared.status.Refusal.{Refusal}
-use Rattle.af_commands.specs.declared.status.Stop.{Stop}
-use Rattle.af_commands.specs.declared.status.Stop.TheVariants.{Refused, Over, Store, Memory}
-use Rattle.af_commands.specs.declared.status.Ending.TheVariants.{Limit, Judged}
-use Rattle.af_commands.specs.Asked.{◌>>=◌, then_cons, most_file, most_files, track_in, tracks_in, session_of, session_job, generated_job, Loaded, Job}
+use Rattle.af_offline.specs.declared.status.Refusal.{Refusal}
+use Rattle.af_offline.specs.declared.status.Stop.{Stop}
+use Rattle.af_offline.specs.declared.status.Stop.TheVariants.{Refused, Over, Store, Memory}
+use Rattle.af_offline.specs.declared.status.Ending.TheVariants.{Limit, Judged}
+use Rattle.af_offline.specs.Asked.{◌>>=◌, then_cons, most_file, most_files, track_in, tracks_in, session_of, session_job, generated_job, Loaded, Job}
 use Rattle.af_commands.specs.Ends.{Makes}
-use Rattle.af_commands.specs.Generated.{samples_of, samples_before, generated_file, generated_files, generated_frames}
-use Rattle.af_commands.specs.Loading.{loaded_view}
+use Rattle.af_offline.specs.Generated.{samples_of, samples_before, generated_file, generated_files, generated_frames}
+use Rattle.af_offline.specs.Loading.{loaded_view}
 use Rattle.af_words.specs.Requests.{is_drawn}
-use Rattle.af_commands.specs.Status.{Meets}
-use Rattle.af_commands.proofs.Draws.{file_length}
-use Rattle.af_commands.proofs.Generated.{file_there}
-use Rattle.af_commands.proofs.Made.{files_are}
+use Rattle.af_offline.specs.Status.{Meets}
+use Rattle.af_offline.proofs.Draws.{file_length}
+use Rattle.af_offline.proofs.Generated.{file_there}
+use Rattle.af_offline.proofs.Chains.{files_are}
 
 -- ## What the clients write
 

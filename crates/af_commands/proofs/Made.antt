@@ -6,18 +6,15 @@ use Rattle.af_io.specs.Outputs.{with_files}
 use Rattle.af_io.proofs.Outputs.{LeavesFronts-none}
 use Rattle.af_io.specs.declared.store.StoreError.{StoreError}
 use Rattle.af_io.specs.declared.store.StoreError.TheVariants as outside
-use Rattle.af_commands.specs.declared.deliver.Output.{Output}
-use Rattle.af_commands.specs.declared.status.Refusal.{Refusal}
-use Rattle.af_commands.specs.declared.status.Stop.{Stop}
-use Rattle.af_commands.specs.declared.status.Stop.TheVariants.{Refused, Over, Store, Memory}
-use Rattle.af_commands.specs.Asked.{◌>>=◌, Job}
-use Rattle.af_commands.specs.Asking.{output_job}
+use Rattle.af_offline.specs.declared.outputs.Output.{Output}
+use Rattle.af_offline.specs.declared.status.Refusal.{Refusal}
+use Rattle.af_offline.specs.declared.status.Stop.{Stop}
+use Rattle.af_offline.specs.declared.status.Stop.TheVariants.{Refused, Over, Store, Memory}
+use Rattle.af_offline.proofs.Chains.{files_are}
+use Rattle.af_offline.specs.Asked.{◌>>=◌, Job}
+use Rattle.af_offline.specs.Asking.{output_job}
 use Rattle.af_commands.specs.Ends.{LeavesWork, IsOver, IsCutOff, Makes, Renders, PrintsFront, PrintsWhole, PrintsCut}
-use Rattle.af_commands.specs.Status.{Meets, stop_of}
-
--- files of which none has changed
-pub files_are : (old mid : Files) → SameFiles old mid → mid ≡ old
-files_are old mid same = λ i name. same name i
+use Rattle.af_offline.specs.Status.{Meets, stop_of}
 
 -- ## Making
 

@@ -13,8 +13,8 @@ use Rattle.af_session.specs.Ends.{EndsState}
 use Rattle.af_rendering.specs.Rendered.{HandsBack, LeavesSound}
 use Rattle.af_session.specs.Shown.{summary_told}
 use Rattle.af_runs.specs.Pcm.{journal_pcm}
-use Rattle.af_commands.specs.declared.status.Stop.{Stop}
-use Rattle.af_commands.specs.Asked.{Loaded, session_job}
+use Rattle.af_offline.specs.declared.status.Stop.{Stop}
+use Rattle.af_offline.specs.Asked.{Loaded, session_job}
 use Rattle.af_commands.specs.Ends.{IsCutOff, IsMade, Makes}
 use Rattle.af_commands.specs.Sessions.{IsSession, IsSomeSessionLine, summary_line}
 use Rattle.af_commands.specs.Told.{TellsRender}
@@ -33,6 +33,7 @@ module _ (l : Loaded) (journal : JournalData) (ends : EndsState) (back : HandsBa
       line_is = ap summary_line (summary_is ∙ told.summary);
       alone = (λ plain met other run also. one_turn_run l.script l.files other journal accepted plain run told.run also met);
     });
+    kept = (render_told l.script l.files journal ends accepted back).kept;
   }
 
   some_line : (line : List ℕ) → line ≡ summary_line summary → IsSomeSessionLine line

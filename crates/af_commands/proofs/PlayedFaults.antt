@@ -10,11 +10,11 @@ use Rattle.af_playing.specs.declared.answering.PlayFault.TheVariants as fault
 use Rattle.af_rendering.specs.declared.rendering.Played.{Played}
 use Rattle.af_session.specs.Ends.{EndsState}
 use Rattle.af_playing.specs.PlayedRuns.{HasStoreCause}
-use Rattle.af_commands.specs.declared.status.Ending.{Ending}
-use Rattle.af_commands.specs.declared.status.Stop.{Stop}
-use Rattle.af_commands.specs.declared.status.Stop.TheVariants.{Refused, Over, Store, Memory}
+use Rattle.af_offline.specs.declared.status.Ending.{Ending}
+use Rattle.af_offline.specs.declared.status.Stop.{Stop}
+use Rattle.af_offline.specs.declared.status.Stop.TheVariants.{Refused, Over, Store, Memory}
 use Rattle.af_words.specs.Requests.{Request}
-use Rattle.af_commands.specs.Status.{HasFault, IsNoUsage, IsOutside, IsPlayRequest, SuitsRequest, stop_of}
+use Rattle.af_offline.specs.Status.{HasFault, IsNoUsage, IsOutside, IsPlayRequest, SuitsRequest, stop_of}
 use Rattle.af_commands.specs.Told.{Tells, TellsCause, TellsRender}
 
 -- what is so of the stop of the store's refusal is so of the answer

@@ -15,19 +15,20 @@ use Rattle.af_session.specs.Ends.{EndsState}
 use Rattle.af_playing.specs.PlayedRuns.{AtFault, AtLimit, HandsBackRun, IsLegalJournal, LeavesRun}
 use Rattle.af_playing.specs.PlayKept.{KeepsPlay}
 use Rattle.af_playing.specs.PlayedAlone.{summary_of_play}
+use Rattle.af_playing.proofs.ListsKept.{lists_kept}
 use Rattle.af_runs.specs.Pcm.{journal_pcm}
-use Rattle.af_commands.specs.declared.status.Stop.{Stop}
-use Rattle.af_commands.specs.declared.status.Stop.TheVariants.{Refused, Over, Store, Memory}
-use Rattle.af_commands.specs.declared.status.Ending.{Ending}
-use Rattle.af_commands.specs.declared.status.Ending.TheVariants.{Limit}
-use Rattle.af_commands.specs.Asked.{Loaded, play_job}
+use Rattle.af_offline.specs.declared.status.Stop.{Stop}
+use Rattle.af_offline.specs.declared.status.Stop.TheVariants.{Refused, Over, Store, Memory}
+use Rattle.af_offline.specs.declared.status.Ending.{Ending}
+use Rattle.af_offline.specs.declared.status.Ending.TheVariants.{Limit}
+use Rattle.af_offline.specs.Asked.{Loaded, play_job}
 use Rattle.af_commands.specs.Ends.{Makes}
-use Rattle.af_commands.specs.Line.{limit_text}
+use Rattle.af_offline.specs.Line.{limit_text}
 use Rattle.af_commands.specs.Plays.{IsPlay, IsPlayed, IsSomePlayLine, LeavesText, run_line}
 use Rattle.af_commands.specs.Sessions.{summary_line}
 use Rattle.af_commands.specs.Told.{Tells, TellsText}
-use Rattle.af_commands.specs.Verified.{IsTextFor}
-use Rattle.af_commands.proofs.Made.{files_are}
+use Rattle.af_offline.specs.Verified.{IsTextFor}
+use Rattle.af_offline.proofs.Chains.{files_are}
 
 -- the promises of a journal
 pub promises : (l : Loaded) (p : Played) → KeepsPlay l.script l.files (Ok p) → IsLegalJournal true l.script l.files p.journal
@@ -46,7 +47,7 @@ module _ (ended : Bool) (l : Loaded) (journal : JournalData) (ends : EndsState) 
   bytes = journal_pcm l.script.frames journal
 
   is_play : (line : List ℕ) → line ≡ run_line ended l.script l.files journal → IsPlay ended l.script l.files bytes (text_of journal) line
-  is_play line is = record { journal = journal; ends = ends; run = back; legal = legal; bytes_are = refl; text_is = refl; read = read_alone ended l journal ends back; line_is = is }
+  is_play line is = record { journal = journal; ends = ends; run = back; legal = legal; kept = lists_kept ended l.script l.files journal ends back; bytes_are = refl; text_is = refl; read = read_alone ended l journal ends back; line_is = is }
 
   module _ (target name : List ℕ) (old mid : Files) (set : SetsFile old target (Some bytes) mid) where
     made : with_file old (record { name = target; bytes = bytes }) ≡ mid

@@ -1,5 +1,5 @@
 -- The two files of a play in which all parties have ended are found legal.
-use Rattle.std.proofs.Common.{◌≡◌, ℕ, ◌<◌, true, List, length, refl, subst}
+use Rattle.std.proofs.Common.{◌≡◌, ℕ, ◌<◌, true, List, length, refl, ap, ◌∙◌, sym, subst}
 use Rattle.af_audit.specs.Verdicts.{IsVerdict}
 use Rattle.af_audit.specs.declared.verdict.Refusal.TheVariants as refused
 use Rattle.af_audit.specs.declared.verdict.Verdict.{Verdict}
@@ -7,21 +7,27 @@ use Rattle.af_audit.specs.declared.verdict.Verdict.TheVariants.{Legal, Refused}
 use Rattle.af_audit.proofs.JudgedExactly.{legal_exactly}
 use Rattle.af_audit.proofs.OneVerdict.{one_verdict}
 use Rattle.af_base.specs.declared.frame.Frame.{Frame}
+use Rattle.af_journal.specs.Judged.{judged_of}
 use Rattle.af_model.specs.Journals.{JournalData}
+use Rattle.af_offline.proofs.BeyondFault.{legal_judged}
 use Rattle.af_script.specs.Data.{ScriptData}
 use Rattle.af_commands.specs.Plays.{IsPlay}
 use Rattle.af_commands.specs.PlaysJudged.{IsFoundLegal, PlayIsFoundLegal}
-use Rattle.af_commands.specs.Verified.{IsJudged, IsOfJournal}
+use Rattle.af_offline.specs.Verified.{IsJudged, IsOfJournal}
 
 module _ (script : ScriptData) (files : List (List Frame)) (bytes text line : List ℕ) (some : 0 < length script.tracks) (play : IsPlay true script files bytes text line) where
   -- its journal is that of a legal run with this sound
   legal : IsVerdict script files play.journal bytes Legal
   legal = (legal_exactly script files play.journal bytes (record { tracks = play.read.reads.0.tracks_are; some = some; form = play.run.form })).1 (play.legal.legal, play.bytes_are)
 
+  -- and all of it is judged
+  whole : judged_of play.journal ≡ play.journal
+  whole = legal_judged script files play.journal legal.0
+
   -- what is found of the reading of the text is found of its journal
   same_found : (found : Verdict) → IsOfJournal script files bytes text found → found ≡ Legal
   same_found found (journal, reads, verdict) =
-      one_verdict script files play.journal bytes found Legal (subst (λ (j : JournalData). IsVerdict script files j bytes found) (play.read.only journal reads.reads) verdict) legal
+      one_verdict script files play.journal bytes found Legal (subst (λ (j : JournalData). IsVerdict script files j bytes found) (ap judged_of (play.read.only journal reads.reads) ∙ whole) verdict) legal
 
   only : (found : Verdict) → IsJudged script files bytes text found → found ≡ Legal
   only Legal judged = refl
@@ -30,7 +36,7 @@ module _ (script : ScriptData) (files : List (List Frame)) (bytes text line : Li
   only (Refused (refused.Pcm at)) judged = same_found (Refused (refused.Pcm at)) judged
 
   found_legal : IsFoundLegal script files bytes text
-  found_legal = record { legal = (play.journal, play.read, legal); only = only }
+  found_legal = record { legal = (play.journal, play.read, subst (λ (j : JournalData). IsVerdict script files j bytes Legal) (sym whole) legal); only = only }
 
 pub play_found_legal : (script : ScriptData) (files : List (List Frame)) (bytes text line : List ℕ) → PlayIsFoundLegal script files bytes text line
 play_found_legal script files bytes text line some play = found_legal script files bytes text line some play

@@ -9,9 +9,9 @@ use Rattle.af_playing.specs.declared.answering.PlayFault.{PlayFault}
 use Rattle.af_playing.specs.declared.answering.PlayFault.TheVariants as fault
 use Rattle.af_rendering.specs.declared.rendering.Played.{Played}
 use Rattle.af_tally.specs.declared.summary.Summary.{Summary}
-use Rattle.af_commands.specs.declared.status.Stop.{Stop}
-use Rattle.af_commands.specs.declared.status.Stop.TheVariants.{Refused, Over, Store, Memory}
-use Rattle.af_commands.specs.Status.{stop_of}
+use Rattle.af_offline.specs.declared.status.Stop.{Stop}
+use Rattle.af_offline.specs.declared.status.Stop.TheVariants.{Refused, Over, Store, Memory}
+use Rattle.af_offline.specs.Status.{stop_of}
 use Rattle.af_commands.specs.Told.{Tells, TellsLine, TellsText, TellsTexts, WritesText}
 use Rattle.af_commands.proofs.Ended.{LeavesFront-whole}
 

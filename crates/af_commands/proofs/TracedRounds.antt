@@ -17,18 +17,19 @@ use Rattle.af_side_by_side.specs.Logging.{IsLogOf}
 use Rattle.af_playing.specs.PlayedRuns.{AtFault, AtLimit, HandsBackRun, IsLegalJournal, LeavesRun}
 use Rattle.af_playing.specs.PlayKept.{KeepsPlay}
 use Rattle.af_playing.specs.PlayedAlone.{summary_of_play}
-use Rattle.af_commands.specs.declared.status.Stop.{Stop}
-use Rattle.af_commands.specs.declared.status.Stop.TheVariants.{Refused, Over, Store, Memory}
-use Rattle.af_commands.specs.declared.status.Ending.{Ending}
-use Rattle.af_commands.specs.declared.status.Ending.TheVariants.{Limit}
-use Rattle.af_commands.specs.Asked.{Loaded, trace_job}
+use Rattle.af_playing.proofs.ListsKept.{lists_kept}
+use Rattle.af_offline.specs.declared.status.Stop.{Stop}
+use Rattle.af_offline.specs.declared.status.Stop.TheVariants.{Refused, Over, Store, Memory}
+use Rattle.af_offline.specs.declared.status.Ending.{Ending}
+use Rattle.af_offline.specs.declared.status.Ending.TheVariants.{Limit}
+use Rattle.af_offline.specs.Asked.{Loaded, trace_job}
 use Rattle.af_commands.specs.Ends.{Makes}
-use Rattle.af_commands.specs.Line.{limit_text}
+use Rattle.af_offline.specs.Line.{limit_text}
 use Rattle.af_commands.specs.Plays.{run_line}
 use Rattle.af_commands.specs.Sessions.{summary_line}
 use Rattle.af_commands.specs.Told.{Tells, TellsTexts}
 use Rattle.af_commands.specs.Traces.{IsTrace, IsTraced, LeavesLog, LeavesTrace}
-use Rattle.af_commands.proofs.Made.{files_are}
+use Rattle.af_offline.proofs.Chains.{files_are}
 use Rattle.af_commands.proofs.PlayedRounds.{LeavesRun-stays, cut_short, line_told, played, promises, read_alone, text_left}
 
 -- what a list that was empty holds behind what was appended
@@ -43,7 +44,7 @@ module _ (l : Loaded) (room : ℕ) (journal : JournalData) (ends : EndsState) (b
   told = log_text notes refused
 
   is_trace : (line : List ℕ) → line ≡ run_line true l.script l.files journal → IsTrace l.script l.files room bytes (text_of journal) told line
-  is_trace line is = record { play = record { journal = journal; ends = ends; run = back; legal = legal; bytes_are = refl; text_is = refl; read = read_alone true l journal ends back; line_is = is }; notes = notes; refused = refused; log_of = log_of; log_is = refl; all_kept = kept }
+  is_trace line is = record { play = record { journal = journal; ends = ends; run = back; legal = legal; kept = lists_kept true l.script l.files journal ends back; bytes_are = refl; text_is = refl; read = read_alone true l journal ends back; line_is = is }; notes = notes; refused = refused; log_of = log_of; log_is = refl; all_kept = kept }
 
   module _ (target name log : List ℕ) (old mid next : Files) (set : SetsFile old target (Some bytes) mid) (text : SetsFile mid name (Some (text_of journal)) next) where
     both : with_files old (record { name = target; bytes = bytes } ∷ record { name = name; bytes = text_of journal } ∷ []) ≡ next

@@ -7,24 +7,24 @@ use Rattle.af_io.specs.Outputs.{with_files, LeavesFronts}
 use Rattle.af_rendering.specs.Rendered.{LeavesSound}
 use Rattle.af_audit.specs.declared.verdict.Refusal.{Refusal as JournalRefusal}
 use Rattle.af_audit.specs.declared.verdict.Verdict.TheVariants as verdict
-use Rattle.af_commands.specs.declared.status.Ending.{Ending}
-use Rattle.af_commands.specs.declared.status.Ending.TheVariants.{Limit, Judged}
-use Rattle.af_commands.specs.declared.status.Status.{Status}
-use Rattle.af_commands.specs.declared.status.Status.TheVariants as status
-use Rattle.af_commands.specs.declared.status.Refusal.{Refusal}
-use Rattle.af_commands.specs.declared.status.Refusal.TheVariants.{Usage, Script, File}
-use Rattle.af_commands.specs.declared.status.Stop.{Stop}
-use Rattle.af_commands.specs.declared.status.Stop.TheVariants.{Refused, Over, Store}
-use Rattle.af_commands.specs.Recorded.{Counts}
-use Rattle.af_commands.specs.Looped.{Rolls}
+use Rattle.af_offline.specs.declared.status.Ending.{Ending}
+use Rattle.af_offline.specs.declared.status.Ending.TheVariants.{Limit, Judged}
+use Rattle.af_offline.specs.declared.status.Status.{Status}
+use Rattle.af_offline.specs.declared.status.Status.TheVariants as status
+use Rattle.af_offline.specs.declared.status.Refusal.{Refusal}
+use Rattle.af_offline.specs.declared.status.Refusal.TheVariants.{Usage, Script, File}
+use Rattle.af_offline.specs.declared.status.Stop.{Stop}
+use Rattle.af_offline.specs.declared.status.Stop.TheVariants.{Refused, Over, Store}
+use Rattle.af_offline.specs.Recorded.{Counts}
+use Rattle.af_offline.specs.Looped.{Rolls}
 use Rattle.af_words.specs.Requests.{Request, Render, Record, Loop, Generate, Play, Verify, Trace}
-use Rattle.af_commands.specs.Asked.{Job, Work, Exact, Session, Rounds, Judge, Traced}
+use Rattle.af_offline.specs.Asked.{Job, Work, Exact, Session, Rounds, Judge, Traced}
 use Rattle.af_commands.specs.Plays.{IsPlayed, IsSomePlayLine, LeavesPlay}
 use Rattle.af_commands.specs.Traces.{IsTraced, LeavesTrace}
 use Rattle.af_commands.specs.Sessions.{IsSession, IsSomeSessionLine}
-use Rattle.af_commands.specs.Line.{counts_text, ending_text, legal_text, limit_text, rolls_text, refusal_text}
-use Rattle.af_commands.specs.Status.{status_of, SuitsEnding}
-use Rattle.af_commands.specs.Verified.{IsJudged}
+use Rattle.af_offline.specs.Line.{counts_text, ending_text, legal_text, limit_text, rolls_text, refusal_text}
+use Rattle.af_offline.specs.Status.{status_of, SuitsEnding}
+use Rattle.af_offline.specs.Verified.{IsJudged}
 
 -- ## The output
 

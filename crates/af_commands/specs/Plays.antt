@@ -9,10 +9,12 @@ use Rattle.af_script.specs.Data.{ScriptData}
 use Rattle.af_playing.specs.PlayedAlone.{summary_of_play}
 use Rattle.af_playing.specs.PlayedRuns.{HandsBackRun, IsLegalJournal, LeavesRun}
 use Rattle.af_session.specs.Ends.{EndsState}
+use Rattle.af_runs.specs.LegalRuns.{run_of}
 use Rattle.af_runs.specs.Pcm.{journal_pcm}
-use Rattle.af_commands.specs.Line.{limit_text}
+use Rattle.af_offline.specs.Line.{limit_text}
+use Rattle.af_told_law.specs.KeptEnds.{KeepsLists}
 use Rattle.af_commands.specs.Sessions.{summary_line}
-use Rattle.af_commands.specs.Verified.{IsTextFor}
+use Rattle.af_offline.specs.Verified.{IsTextFor}
 
 -- ## One run
 
@@ -21,12 +23,13 @@ abbrev pub run_line : Bool → ScriptData → List (List Frame) → JournalData 
 run_line true script files journal = summary_line (summary_of_play script files journal)
 run_line false script files journal = limit_text script.cycles
 
--- These bytes, this text and this line are of one run of all parties, in which all have ended, or which was cut off where the log was full: the sound of its journal, the text of the same journal, which is its one reading, and its line. By itself that journal is a legal run in which each frame of a lawful client has one fate and each lawful track is spared, or else a cut run
+-- These bytes, this text and this line are of one run of all parties, in which all have ended, or which was cut off where the log was full: the sound of its journal, the text of the same journal, which is its one reading, and its line. By itself that journal is a legal run in which each frame of a lawful client has one fate and each lawful track is spared, or else a cut run; and the lists that the parties keep are those of the run that it tells
 pub record IsPlay (ended : Bool) (script : ScriptData) (files : List (List Frame)) (bytes text line : List ℕ) : Type 0 where
   pub journal : JournalData
   pub ends : EndsState
   pub run : HandsBackRun ended script files journal ends
   pub legal : IsLegalJournal ended script files journal
+  pub kept : KeepsLists (run_of script files journal) ends
   pub bytes_are : bytes ≡ journal_pcm script.frames journal
   pub text_is : text ≡ text_of journal
   pub read : IsTextFor script text journal

@@ -5,7 +5,7 @@ use Rattle.af_audit.specs.declared.verdict.Verdict.TheVariants.{Legal}
 use Rattle.af_base.specs.declared.frame.Frame.{Frame}
 use Rattle.af_script.specs.Data.{ScriptData}
 use Rattle.af_commands.specs.Plays.{IsPlay}
-use Rattle.af_commands.specs.Verified.{IsJudged}
+use Rattle.af_offline.specs.Verified.{IsJudged}
 
 -- the sound and the text are found legal, and nothing else is found of them
 pub record IsFoundLegal (script : ScriptData) (files : List (List Frame)) (bytes text : List ℕ) : Type 0 where

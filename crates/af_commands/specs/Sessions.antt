@@ -4,7 +4,7 @@ use Rattle.af_base.specs.declared.frame.Frame.{Frame}
 use Rattle.af_model.specs.Journals.{JournalData}
 use Rattle.af_one_turn_run.specs.MetLast.{AllMetLast}
 use Rattle.af_one_turn_run.specs.NoPokes.{HasNoPokes}
-use Rattle.af_render_law.specs.RenderLaws.{summary_alone}
+use Rattle.af_render_law.specs.RenderLaws.{run_told, summary_alone}
 use Rattle.af_runs.specs.TurnRuns.{IsTurnRun}
 use Rattle.af_script.specs.Data.{ScriptData}
 use Rattle.af_tally.specs.declared.summary.Summary.{Summary}
@@ -13,6 +13,7 @@ use Rattle.af_rendering.specs.Rendered.{HandsBack}
 use Rattle.af_session.specs.Shown.{summary_told}
 use Rattle.af_runs.specs.Pcm.{journal_pcm}
 use Rattle.af_tally.specs.Summaries.{summary_text}
+use Rattle.af_told_law.specs.KeptEnds.{KeepsLists}
 
 -- the line of a summary
 abbrev pub summary_line : Summary → List ℕ
@@ -24,7 +25,7 @@ pub record IsTurnRunAlone (script : ScriptData) (files : List (List Frame)) (jou
   pub line_is : line ≡ summary_line (summary_alone script files journal)
   pub alone : HasNoPokes script → AllMetLast script files journal → (other : JournalData) → IsTurnRun script files other → AllMetLast script files other → other ≡ journal
 
--- These bytes and this line are the sound of the journal of one turn run, and the line of its summary. Where no op is a poke, and each stream proxy takes part in the last meeting, they are a function of the script and the files
+-- These bytes and this line are the sound of the journal of one turn run, and the line of its summary; the lists that its parties keep are those of the run that the journal tells. Where no op is a poke, and each stream proxy takes part in the last meeting, they are a function of the script and the files
 pub record IsSession (script : ScriptData) (files : List (List Frame)) (bytes line : List ℕ) : Type 0 where
   pub journal : JournalData
   pub ends : EndsState
@@ -32,6 +33,7 @@ pub record IsSession (script : ScriptData) (files : List (List Frame)) (bytes li
   pub bytes_are : bytes ≡ journal_pcm script.frames journal
   pub line_is : line ≡ summary_line (summary_told script.frames journal ends)
   pub told : IsTurnRunAlone script files journal line
+  pub kept : KeepsLists (run_told script files journal) ends
 
 -- this is the line of a turn run of some script with some files
 abbrev pub IsSomeSessionLine : List ℕ → Type 0

@@ -9,11 +9,11 @@ use Rattle.af_playing.specs.declared.answering.PlayFault.{PlayFault}
 use Rattle.af_playing.specs.declared.answering.PlayFault.TheVariants as fault
 use Rattle.af_rendering.specs.declared.rendering.Played.{Played}
 use Rattle.af_tally.specs.declared.summary.Summary.{Summary}
-use Rattle.af_commands.specs.declared.status.Ending.TheVariants.{Limit}
-use Rattle.af_commands.specs.declared.status.Stop.{Stop}
-use Rattle.af_commands.specs.declared.status.Stop.TheVariants.{Over, Store, Memory}
+use Rattle.af_offline.specs.declared.status.Ending.TheVariants.{Limit}
+use Rattle.af_offline.specs.declared.status.Stop.{Stop}
+use Rattle.af_offline.specs.declared.status.Stop.TheVariants.{Over, Store, Memory}
 use Rattle.af_commands.specs.Sessions.{summary_line}
-use Rattle.af_commands.specs.Status.{HasFault, IsOutside, stop_of}
+use Rattle.af_offline.specs.Status.{HasFault, IsOutside, stop_of}
 
 -- ## The answer
 

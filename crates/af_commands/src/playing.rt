@@ -3,21 +3,19 @@ ghost use Rattle.std.specs.Prelude.{◌≡◌, ◌++◌, ℕ, List, Ok, Some, If
 ghost use Rattle.af_io.specs.Causes.{HasCause};
 ghost use Rattle.af_io.specs.Files.{SetsFile, LeavesFront};
 ghost use Rattle.af_journal.specs.Texts.{text_of};
-ghost use Rattle.af_commands.specs.Asked.{play_asked, play_job};
+ghost use Rattle.af_offline.specs.Asked.{play_asked, play_job};
 ghost use Rattle.af_commands.specs.Ends.{Makes};
-ghost use Rattle.af_commands.specs.Loading.{loaded_view, AreFilesFor};
+ghost use Rattle.af_offline.specs.Loading.{loaded_view, AreFilesFor};
 ghost use Rattle.af_commands.specs.Plays.{IsSomePlayLine};
 ghost use Rattle.af_words.specs.Requests.{Play};
-ghost use Rattle.af_commands.specs.Status.{HasFault, SuitsRequest};
+ghost use Rattle.af_offline.specs.Status.{HasFault, SuitsRequest};
 ghost use Rattle.af_commands.specs.Told.{Tells, TellsCause, TellsEnded, TellsLimit, TellsText, WritesText};
 
-use crate::deliver::write_file;
-use crate::load::{Loaded, load_script};
 use crate::render::line_of;
-use crate::status::{Ending, Stop};
 use af_base::Memory;
 use af_io::{Gate, Store, StoreError};
 use af_model::Journal;
+use af_offline::{Ending, Loaded, Stop, load_script, write_file};
 use af_playing::PlayFault;
 use af_rendering::Played;
 use std::alloc::Global;

@@ -1,16 +1,15 @@
 //! The command `render`: a script's session, played into a file.
 ghost use Rattle.std.specs.Prelude.{◌≡◌, ◌≤◌, Ok, IfOk, string_bytes};
-ghost use Rattle.af_commands.specs.Asked.{render_asked, session_job};
+ghost use Rattle.af_offline.specs.Asked.{render_asked, session_job};
 ghost use Rattle.af_commands.specs.Ends.{Makes};
-ghost use Rattle.af_commands.specs.Loading.{loaded_view, AreFilesFor};
+ghost use Rattle.af_offline.specs.Loading.{loaded_view, AreFilesFor};
 ghost use Rattle.af_commands.specs.Sessions.{IsSomeSessionLine, summary_line};
-ghost use Rattle.af_commands.specs.Status.{HasFault, IsNoUsage};
+ghost use Rattle.af_offline.specs.Status.{HasFault, IsNoUsage};
 ghost use Rattle.af_commands.specs.Told.{TellsLine, TellsRender};
 ghost use Rattle.af_script.specs.Form.{IsScript};
 
-use crate::load::{Loaded, load_script};
-use crate::status::Stop;
 use af_io::{Store, StoreError};
+use af_offline::{Loaded, Stop, load_script};
 use af_rendering::Played;
 use af_script::Script;
 use af_tally::Summary;

@@ -2,22 +2,20 @@
 ghost use Rattle.std.specs.Prelude.{◌≡◌, ◌⊎◌, IfOk, IfErr, map, string_bytes};
 ghost use Rattle.af_io.specs.Causes.{Rose, HasCause};
 ghost use Rattle.af_io.specs.Files.{Appends};
-ghost use Rattle.af_commands.specs.Asked.{asked_of, job_of};
+ghost use Rattle.af_offline.specs.Asked.{asked_of, job_of};
 ghost use Rattle.af_words.specs.Asking.{request_view, IsSound};
 ghost use Rattle.af_commands.specs.Ends.{IsDoneLine, IsOver, Makes, Works, Prints, PrintsLine, Renders, Printed, WholeUnless, PrintsOwnLine, PrintsSomeLine, EndsAsAsked};
-ghost use Rattle.af_commands.specs.Line.{ending_text, refusal_text};
+ghost use Rattle.af_offline.specs.Line.{ending_text, refusal_text};
 ghost use Rattle.af_words.specs.Requests.{request_of};
-ghost use Rattle.af_commands.specs.Status.{CountsFaults, HasEitherFault, HasFault, IsOutside, JudgesWords, RefusesWords, SuitsRequest};
+ghost use Rattle.af_offline.specs.Status.{CountsFaults, HasEitherFault, HasFault, IsOutside, JudgesWords, RefusesWords, SuitsRequest};
 
-use crate::capture::record_file;
 use crate::generating::generate;
-use crate::looping::loop_file;
+use crate::offline::{loop_file, record_file, verify_files};
 use crate::playing::play_script;
 use crate::render::render_script;
-use crate::status::{Ending, Refusal, Status, Stop};
 use crate::tracing::trace_script;
-use crate::verifying::verify_files;
 use af_io::{Gate, Sink, Store, StoreError};
+use af_offline::{Ending, Refusal, Status, Stop};
 use af_words::{Request, request_of};
 use std::alloc::Global;
 use std::thread::Threads;

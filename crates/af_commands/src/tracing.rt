@@ -1,18 +1,16 @@
 //! The command `trace`: a script's parties, played in rounds into a file, with the texts of their journal and of their log beside it.
 ghost use Rattle.std.specs.Prelude.{◌≡◌, ◌≤◌, ℕ, List, Ok, IfOk, string_bytes};
-ghost use Rattle.af_commands.specs.Asked.{trace_asked, trace_job};
+ghost use Rattle.af_offline.specs.Asked.{trace_asked, trace_job};
 ghost use Rattle.af_commands.specs.Ends.{Makes};
-ghost use Rattle.af_commands.specs.Loading.{loaded_view, AreFilesFor};
+ghost use Rattle.af_offline.specs.Loading.{loaded_view, AreFilesFor};
 ghost use Rattle.af_commands.specs.Plays.{IsSomePlayLine};
 ghost use Rattle.af_words.specs.Requests.{Trace};
-ghost use Rattle.af_commands.specs.Status.{HasFault, SuitsRequest};
+ghost use Rattle.af_offline.specs.Status.{HasFault, SuitsRequest};
 ghost use Rattle.af_commands.specs.Told.{Tells, TellsCause, TellsTexts};
 
-use crate::deliver::write_file;
-use crate::load::{Loaded, load_script};
 use crate::playing::tell;
-use crate::status::Stop;
 use af_io::{Gate, Store};
+use af_offline::{Loaded, Stop, load_script, write_file};
 use af_playing::PlayFault;
 use af_rendering::Played;
 use std::alloc::Global;

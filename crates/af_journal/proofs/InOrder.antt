@@ -367,3 +367,46 @@ read_all tracks text =
     } in
     subst (λ ps. Found tracks text (first_refused tracks stage.Nothing 1 ps)) (sym s.is)
     (read_on tracks text [] s.first s.others stage.Nothing 1 place)
+
+-- ## What is left of a text
+
+-- a text is that of lines each of which may follow those before it, the first one a stage, and of which the last may be the last
+pub record FollowsFrom (tracks : ℕ) (at : Stage) (text : List ℕ) : Type 0 where
+  pub ws : List Written
+  pub fit : AllByRecursion IsWritten ws
+  pub last : Stage
+  pub follow : after_all tracks at ws ≡ Some last
+  pub may : may_end last ≡ true
+  pub is : text ≡ text_of_lines ws
+
+end_by : (tracks : ℕ) (at : Stage) (part : List ℕ) (number : ℕ) (b : Bool) → ends at part ≡ b → cond b None (Some number) ≡ None → FollowsFrom tracks at part
+end_by tracks at [] number true may none = record { ws = []; fit = tt; last = at; follow = refl; may = may; is = refl }
+end_by tracks at (c ∷ cs) number true may none = cc
+end_by tracks at part number false may none = absurd (none-some number (sym none))
+
+not_refused : (number : ℕ) (o : Option Stage) (f : Stage → Option ℕ) → refused_or number o f ≡ None → (next : Stage) × (o ≡ Some next) × (f next ≡ None)
+not_refused number None f e = absurd (none-some number (sym e))
+not_refused number (Some next) f e = (next, refl, e)
+
+parts_from : (tracks : ℕ) (at : Stage) (number : ℕ) (part : List ℕ) (parts : List (List ℕ)) → first_refused tracks at number (part ∷ parts) ≡ None → FollowsFrom tracks at (join_with_byte 10 (part ∷ parts))
+unfolding stage_after
+parts_from tracks at number part [] none = end_by tracks at part number (ends at part) refl none
+parts_from tracks at number part (q ∷ parts) none =
+    let n = not_refused number (stage_after tracks at part) (λ at. first_refused tracks at (number + 1) (q ∷ parts)) none in
+    let w = bind_some (written_at part) (after_written tracks at) n.0 n.1 in
+    let s = written-sound part w.0 w.1 in
+    let r = parts_from tracks n.0 (number + 1) q parts n.2 in
+    record {
+      ws = w.0 ∷ r.ws;
+      fit = (s.fits, r.fit);
+      last = r.last;
+      follow = ap (λ o. o >>= λ next. after_all tracks next r.ws) w.2 ∙ r.follow;
+      may = r.may;
+      is = (λ k. s.spelled k ++ 10 ∷ r.is k) ∙ sym (append_assoc (spelled w.0) (10 ∷ []) (text_of_lines r.ws));
+    }
+
+-- nothing of it is refused
+pub none_refused : (tracks : ℕ) (at : Stage) (text : List ℕ) → first_refused tracks at 1 (parts_of text) ≡ None → FollowsFrom tracks at text
+none_refused tracks at text none =
+    let p = some_part text in
+    subst (FollowsFrom tracks at) (ap (join_with_byte 10) (sym p.is) ∙ joined text) (parts_from tracks at 1 p.first p.others (ap (first_refused tracks at 1) (sym p.is) ∙ none))

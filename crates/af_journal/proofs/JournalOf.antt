@@ -335,7 +335,7 @@ at_end tracks place (stage.Slot due low) may = cc
 at_end tracks place stage.Entries may = rounds_entries tracks place [] (no_rounds tracks place)
 
 -- what the lines after a stage tell
-left : (tracks place : ℕ) (at end : Stage) (ws : List Written) → AllByRecursion IsWritten ws → after_all tracks at ws ≡ Some end → may_end end ≡ true → Rest tracks place at ws
+pub left : (tracks place : ℕ) (at end : Stage) (ws : List Written) → AllByRecursion IsWritten ws → after_all tracks at ws ≡ Some end → may_end end ≡ true → Rest tracks place at ws
 left tracks place at end [] fit e may = at_end tracks place at (ap may_end (same_Some _ _ e) ∙ may)
 left tracks place at end (numbers l ∷ ws) fit e may =
     let x = bind_some (after_line tracks at l) (λ next. after_all tracks next ws) end e in

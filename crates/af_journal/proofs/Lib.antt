@@ -18,6 +18,7 @@ mod EntriesLeft
 mod JournalOf
 mod Readable
 mod Leaving
+pub mod Judged
 pub mod Fitting
 mod Rising
 mod MixReading
@@ -30,3 +31,4 @@ pub mod OneJournal
 mod PokeLines
 mod MarkLines
 mod Beginnings
+mod Rows

@@ -222,6 +222,10 @@ module _ (commands : Bool) (track : ℕ) where
   pub rounds-poke : (own : ℕ) (rounds : List RoundSeen) → pokes commands track own (flat_map round_lines rounds) ≡ list_any (λ round. list_any (is_poke_on commands) (calls_in round track)) rounds
   rounds-poke own rounds = past-rounds own rounds ∙ each-hit rounds
 
+  -- and so do they behind the lines of entries
+  pub entries-poke : (own : ℕ) (further : List EntrySeen) (rounds : List RoundSeen) → pokes commands track own (flat_map entry_lines further ++ flat_map round_lines rounds) ≡ list_any (λ round. list_any (is_poke_on commands) (calls_in round track)) rounds
+  entries-poke own further rounds = past-quiet own (flat_map entry_lines further) (flat_map round_lines rounds) (quiet-flat entry_lines quiet-entry further) ∙ rounds-poke own rounds
+
   -- ## One round in place of some
 
   pub past-end : (calls : List (List ClientCall)) (k : ℕ) → length calls ≤ k → slice_index_or calls k [] ≡ []

@@ -1,8 +1,9 @@
 -- Rounds are read one after the other, and are those of the journal that is put together of what was noted.
-use Rattle.std.proofs.Common.{◌≡◌, ℕ, ◌+◌, ◌*◌, ◌<◌, ◌≤◌, ◌^◌, List, [], ◌∷◌, ◌++◌, length, map, take, drop, refl, ap, ◌∙◌, sym, subst, arith, append-nil, length-append}
+use Rattle.std.proofs.Common.{◌≡◌, ℕ, ◌+◌, ◌*◌, ◌<◌, ◌≤◌, ◌^◌, ◌==◌, true, false, List, [], ◌∷◌, ◌++◌, length, map, take, drop, refl, ap, ◌∙◌, sym, subst, arith, append-nil, length-append}
 use Rattle.std.specs.List.{flat_map, AllByRecursion}
 use Rattle.std.proofs.lemmas.List.{drop_at, length-map, map-append, take_at}
 use Rattle.std.proofs.lemmas.List.Concat.{flat_map-append}
+use Rattle.std.proofs.lemmas.Bool.Decides.{nat_tests}
 use Rattle.std.proofs.lemmas.List.Elements.{All-nil}
 use Rattle.af_base.specs.declared.event.ClientCall.{ClientCall}
 use Rattle.af_base.specs.declared.frame.Frame.{Frame}
@@ -15,7 +16,14 @@ use Rattle.af_journal.specs.Lines.{Written, numbers}
 use Rattle.af_journal.specs.Taken.{AddsRound, AreTaken, Leaves, body_lines, more_lines, noted_of}
 use Rattle.af_journal.specs.Texts.{call_lines, client_lines, each_from, entry_lines, fast_lines, round_lines, text_of_lines, turns_lines}
 use Rattle.af_journal.proofs.EntriesRead.{entries-append}
-use Rattle.af_journal.proofs.Leaving.{all-more, leaves-as, leaves-then, map-more}
+use Rattle.af_journal.specs.Beginnings.{AreRead, AreUpTo, EndsBy, ReadsRound, is_last}
+use Rattle.af_journal.specs.Judged.{first_of_round, is_beyond}
+use Rattle.af_journal.specs.declared.reach.End.{End}
+use Rattle.af_journal.specs.declared.reach.End.TheVariants as why
+use Rattle.af_journal.specs.declared.reach.Reach.{Reach}
+use Rattle.af_journal.specs.declared.reach.RoundRead.{RoundRead}
+use Rattle.af_journal.proofs.Judged.{round_whole, rounds_few}
+use Rattle.af_journal.proofs.Leaving.{all-more, leaves-as, leaves-more, leaves-none, leaves-then, map-more}
 use Rattle.af_journal.proofs.Texts.{text-append}
 use Rattle.af_journal.specs.Ranges.{IsWritten}
 use Rattle.af_journal.proofs.Fitting.{is_journal}
@@ -161,3 +169,65 @@ module _ (tracks : ℕ) (rounds : List RoundSeen) (noted : RoundsNoted) (entries
 -- nothing was taken yet
 pub taken-none : (tracks : ℕ) → AreTaken tracks [] (record { tracks = tracks; rounds = [] }) [] []
 taken-none tracks = record { noted_are = refl; entries_are = refl; frames_are = refl; form = All-nil (IsRound tracks); each = tt }
+
+-- ## Rounds of which so many entries, and looks at a track, are kept
+
+-- the entries taken of them are few enough to be counted
+pub read-fit : (tracks : ℕ) (reach : Reach) (start rest : List ℕ) (at : End) (noted : RoundsNoted) (entries : List CycleEntry) (frames : List Frame) → AreRead tracks reach start at noted entries frames rest → length start < 2 ^ 63 → cycles_of noted.rounds < 2 ^ 62
+read-fit tracks reach start rest at noted entries frames r few =
+    let l = r.lines in
+    let n = ap length l.text in let m = length-append (text_of_lines (flat_map round_lines r.rounds)) rest in let long = rounds-long r.rounds in
+    let kept = map (first_of_round reach.kept) r.rounds in
+    let count = taken-counted tracks kept noted entries frames r.taken in
+    let many = ap length r.taken.entries_are ∙ length-map (entries_of kept) (λ (e : EntrySeen). e.entry) in
+    let fewer = rounds_few reach.kept r.rounds in omega (arith, n, m, long, count, many, fewer, few)
+
+-- none was read yet
+pub read-none : (tracks : ℕ) (reach : Reach) (start : List ℕ) (noted : RoundsNoted) (entries : List CycleEntry) (frames : List Frame) → AreTaken tracks [] noted entries frames → AreRead tracks reach start why.Last noted entries frames start
+read-none tracks reach start noted entries frames taken = record { rounds = []; taken = taken; form = All-nil (IsRound tracks); lines = leaves-none start; ends = refl }
+
+pub last_is : (at : End) → is_last at ≡ true → at ≡ why.Last
+last_is why.Last is = refl
+last_is why.Enough is = cc
+last_is (why.Beyond full) is = cc
+
+-- where rounds are read on nothing of them is left out
+pub read-whole : (tracks : ℕ) (reach : Reach) (start rest : List ℕ) (at : End) (noted : RoundsNoted) (entries : List CycleEntry) (frames : List Frame) → at ≡ why.Last → (r : AreRead tracks reach start at noted entries frames rest) → AreTaken tracks r.rounds noted entries frames
+read-whole tracks reach start rest why.Last noted entries frames is r = subst (λ (l : List RoundSeen). AreTaken tracks l noted entries frames) r.ends r.taken
+read-whole tracks reach start rest why.Enough noted entries frames is r = absurd (let h = is in cc)
+read-whole tracks reach start rest (why.Beyond full) noted entries frames is r = absurd (let h = is in cc)
+
+-- one round more was read
+module _ (tracks : ℕ) (reach : Reach) (few : (reach.entries < reach.kept) × (reach.looks < reach.kept)) (start before mid after : List ℕ) (noted next : RoundsNoted) (entries es : List CycleEntry) (frames fs : List Frame)
+    (read : RoundRead) (r : AreRead tracks reach start why.Last noted entries frames before) (one : Leaves before (numbers line.Round ∷ []) mid) (s : ReadsRound tracks reach.kept noted entries frames mid next es fs after)
+    (beyond : read.beyond ≡ is_beyond reach.entries reach.looks (first_of_round reach.kept s.round)) (full : read.full ≡ (length s.round.entries == reach.kept)) where
+  abbrev first : RoundSeen → RoundSeen
+  first = first_of_round reach.kept
+
+  equal_is : (n m : ℕ) → (n == m) ≡ true → n ≡ m
+  equal_is n m e = grind (arith, nat_tests, e)
+
+  all_whole : read.beyond ≡ false → map first (r.rounds ++ s.round ∷ []) ≡ r.rounds ++ s.round ∷ []
+  all_whole not = map-more first r.rounds s.round ∙ (λ k. r.ends k ++ round_whole reach.kept reach.entries reach.looks few.0 few.1 s.round (sym beyond ∙ not) k ∷ [])
+
+  ends : (at : End) → EndsBy reach.cycles read at → AreUpTo reach (r.rounds ++ s.round ∷ []) at
+  ends why.Last by = all_whole by
+  ends why.Enough by = (all_whole by.0, by.1)
+  ends (why.Beyond told) by = record {
+    before = r.rounds;
+    last = s.round;
+    are = refl;
+    others = r.ends;
+    few = s.few;
+    full_is = λ is. equal_is (length s.round.entries) reach.kept (sym full ∙ sym by.1 ∙ is);
+    beyond = sym beyond ∙ by.0;
+  }
+
+  pub read-more : (at : End) → EndsBy reach.cycles read at → AreRead tracks reach start at next es fs after
+  read-more at by = record {
+    rounds = r.rounds ++ s.round ∷ [];
+    taken = subst (λ (l : List RoundSeen). AreTaken tracks l next es fs) (sym (map-more first r.rounds s.round)) (taken-more tracks (map first r.rounds) (first s.round) noted next entries es frames fs r.taken s.adds);
+    form = all-more (IsRound tracks) r.rounds s.round r.form s.form;
+    lines = leaves-more round_lines start before after r.rounds s.round r.lines (leaves-round before mid after s.round one s.lines);
+    ends = ends at by;
+  }

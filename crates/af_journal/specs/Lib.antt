@@ -9,4 +9,5 @@ pub mod Readings
 pub mod Mixes
 pub mod Taken
 pub mod Pokes
+pub mod Judged
 pub mod Beginnings

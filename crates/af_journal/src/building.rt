@@ -1,27 +1,27 @@
 //! A journal is put together from its text.
-ghost use Rattle.std.specs.Prelude.{◌≡◌, ℕ, ◌+◌, ◌*◌, ◌<◌, ◌≤◌, ◌^◌, ◌++◌, ◌∷◌, [], List, length, map, flat_map, true, IfErr, IfOk, IfSome};
-ghost use Rattle.af_base.specs.Log.{slots};
-ghost use Rattle.af_model.specs.Journals.{JournalData, RoundSeen, cycles_of};
-ghost use Rattle.af_journal.specs.Beginnings.{IsFrontOf, NotesRest};
+ghost use Rattle.std.specs.Prelude.{◌≡◌, ℕ, ◌+◌, ◌*◌, ◌<◌, ◌^◌, ◌∷◌, ◌==◌, [], length, map, true, false, if◌then◌else◌, None, IfErr, IfOk, IfSome};
+ghost use Rattle.af_model.specs.Journals.{JournalData, cycles_of};
+ghost use Rattle.af_journal.specs.Beginnings.{AreRead, IsFrontOf, NotesBy, NotesRest, ReadsRound, is_last};
 ghost use Rattle.af_journal.specs.declared.line.Line.TheVariants as line;
+ghost use Rattle.af_journal.specs.declared.stage.Stage.TheVariants as stage;
+ghost use Rattle.af_journal.specs.Judged.{EndsBeyond, first_of_round, is_beyond, most_entries, most_judged, most_looks};
 ghost use Rattle.af_journal.specs.Lines.{numbers};
 ghost use Rattle.af_journal.specs.Readings.{IsFaultOf, Reads};
-ghost use Rattle.af_journal.specs.Taken.{AddsRound, AreTaken, Leaves, body_lines};
-ghost use Rattle.af_journal.specs.Texts.{call_lines, client_lines, each_from, round_lines, text_of, text_of_lines};
+ghost use Rattle.af_journal.specs.Taken.{AreTaken, Leaves};
+ghost use Rattle.af_journal.specs.Texts.{call_lines, client_lines, each_from};
 
 use crate::fast_reading::{Taken, read_fast};
 use crate::left::{Left, Stop, next_line};
 use crate::line::Line;
 use crate::poked::pokes_in;
+use crate::reach::{End, Reach, RoundRead, end_after, has_more, reach_of_all, reach_of_judged};
 use crate::reading::{first_bad_line, first_refused};
+use crate::stage::Stage;
 use crate::turn_reading::read_turn;
-use af_base::{ClientCall, FastLog, Memory, SLOTS};
+use af_base::{ClientCall, FastLog};
 use af_model::{Journal, Rounds};
 use af_script::Script;
 use std::alloc::Global;
-
-// So many rounds without entries are read, where a text is read no further than it matters: the first one without entries is a fault, unless the mixer has ended, and then the second one comes behind the end of all parties.
-const MOST_STILL: usize = 2;
 
 /// Why a text was not read.
 #[derive(Clone, Copy, Debug, PartialEq, Eq)]
@@ -35,9 +35,9 @@ pub enum JournalFault {
 /// What a text begins with.
 #[derive(Drop)]
 pub struct Front {
-    /// The text's journal, where it is whole. Else all of its rounds but the last are the first ones of that journal, and the last one only pokes what the rest of the text pokes.
+    /// The text's journal, where it is whole. Else all of its rounds but the last are what is kept of the first ones of that journal, and the last one only pokes what the rest of the text pokes.
     pub journal: Journal,
-    /// The text was read to its end.
+    /// The text was read to its end, and nothing of it left out.
     pub whole: bool,
 }
 
@@ -88,136 +88,124 @@ fn read_clients(
     Ok(clients)
 }
 
-// A round, after its line, is noted.
+// A round, after its line: what is kept of it is noted.
 fn read_round(
     alloc: Global,
     left: &mut Left<'_>,
     tracks: u32,
+    reach: Reach,
     noted: &mut Rounds,
     taken: &mut Taken,
-) -> Result<(), Stop>
+) -> Result<RoundRead, Stop>
     requires counted { cycles_of noted.old.rounds ≡ length taken.old.entries.items }
     requires few { 2 * length taken.old.entries.items + length left.old.rest.now < 2 ^ 63 }
-    ensures { IfOk result (λ _. (round : RoundSeen) × AddsRound tracks noted.old taken.old.entries.items taken.old.frames.items round noted.new taken.new.entries.items taken.new.frames.items × Leaves left.old.rest.now (body_lines round) left.new.rest.now) }
+    ensures { IfOk result (λ read. (r : ReadsRound tracks reach.kept noted.old taken.old.entries.items taken.old.frames.items left.old.rest.now noted.new taken.new.entries.items taken.new.frames.items left.new.rest.now) × (read.beyond ≡ is_beyond reach.entries reach.looks (first_of_round reach.kept r.round)) × (read.full ≡ (length r.round.entries == reach.kept))) }
 {
     let calls = read_clients(alloc, left, tracks)?;
-    let turn = read_turn(alloc, left, tracks)?;
-    let cycles = read_fast(alloc, left, taken)?;
+    let turn = read_turn(alloc, left, tracks, reach.kept)?;
+    let cycles = read_fast(alloc, left, taken, reach.kept)?;
+    let more = has_more(reach.looks, &turn);
+    let beyond = cycles > reach.entries || more;
     noted.push(calls, turn, cycles)?;
-    Ok(())
-}
-
-// Whether the rounds behind one matter no more, where the script allows so many cycles: it begins with a full log or leaves more entries, or so many rounds had none. Each is a fault of that round or of one before it.
-fn is_enough(cycles: usize, before: usize, now: usize, still: usize) -> bool {
-    before >= cycles || now > cycles || still >= MOST_STILL
-}
-
-// Whether rounds are to be read on. Where no number of cycles is given all are.
-fn goes_on(most: Option<usize>, before: usize, now: usize, still: usize) -> bool {
-    match most {
-        None => true,
-        Some(cycles) => !is_enough(cycles, before, now, still),
-    }
+    Ok(RoundRead {
+        beyond,
+        full: cycles == reach.kept,
+    })
 }
 
 // What follows the line of a round, where rounds are read on and there is one.
-fn next_round(bytes: &[u8], on: bool) -> Option<&[u8]>
+fn next_round(bytes: &[u8], end: End) -> Option<&[u8]>
     ensures line { IfSome result (λ after. Leaves bytes.now (numbers line.Round ∷ []) after.now) }
+    ensures last { IfSome result (λ after. is_last end ≡ true) }
     ensures shorter { IfSome result (λ after. length after.now < length bytes.now) }
 {
     match next_line(bytes) {
-        Some((Line::Round, after)) if on => Some(after),
+        Some((Line::Round, after)) if end.is_last() => Some(after),
         _ => None,
     }
 }
 
-// The rounds of a text are noted, all or as many as matter where the script allows so many cycles.
+// The rounds of a text are noted, so far as it is read; why no further ones are.
 fn read_rounds(
     alloc: Global,
     left: &mut Left<'_>,
     tracks: u32,
-    most: Option<usize>,
+    reach: Reach,
     noted: &mut Rounds,
     taken: &mut Taken,
-) -> Result<(), Stop>
+) -> Result<End, Stop>
     requires none { AreTaken tracks [] noted.old taken.old.entries.items taken.old.frames.items }
     requires few { length left.old.rest.now < 2 ^ 63 }
-    ensures { IfOk result (λ _. (rounds : List RoundSeen) × AreTaken tracks rounds noted.new taken.new.entries.items taken.new.frames.items × Leaves left.old.rest.now (flat_map round_lines rounds) left.new.rest.now) }
+    requires reach { (reach.entries < reach.kept) × (reach.looks < reach.kept) }
+    ensures { IfOk result (λ end. AreRead tracks reach left.old.rest.now end noted.new taken.new.entries.items taken.new.frames.items left.new.rest.now) }
 {
-    let mut on = true;
+    let mut end = End::Last;
     let mut still = 0usize;
-    'rounds: while let Some(after) = next_round(left.rest, on) {
+    'rounds: while let Some(after) = next_round(left.rest, end) {
         left.rest = after;
         let before = taken.entries.len();
-        read_round(alloc, left, tracks, noted, taken)?;
+        let read = read_round(alloc, left, tracks, reach, noted, taken)?;
         let now = taken.entries.len();
         still = still.saturating_add(usize::from(now == before));
-        on = goes_on(most, before, now, still);
+        end = end_after(read, reach.cycles, before, now, still);
     }
-    Ok(())
+    Ok(end)
 }
 
-// Answers whether nothing is left of a text behind its first rounds. Else a round is noted that pokes what the rest pokes.
-fn note_rest(alloc: Global, rest: &[u8], tracks: u32, noted: &mut Rounds) -> Result<bool, Stop>
-    requires { cycles_of noted.old.rounds < 2 ^ 62 }
-    ensures { IfOk result (λ whole. (place : ℕ) → NotesRest tracks place rest.now whole noted.old noted.new) }
+// At which stage the rest of a text begins: within the entries of a round, where that is full.
+fn stage_behind(full: bool) -> Stage
+    ensures { result ≡ (if full then stage.Entries else stage.Nothing) }
 {
-    if rest.is_empty() {
-        return Ok(true);
-    }
-    if first_refused(rest, tracks).is_some() {
+    if full { Stage::Entries } else { Stage::Nothing }
+}
+
+// A round is noted that pokes what is left of a text, which may begin with further entries of a round that is full.
+fn note_pokes(
+    alloc: Global,
+    rest: &[u8],
+    tracks: u32,
+    full: bool,
+    noted: &mut Rounds,
+) -> Result<(), Stop>
+    requires { cycles_of noted.old.rounds < 2 ^ 62 }
+    ensures { IfOk result (λ _. (place : ℕ) → NotesRest tracks place rest.now full noted.old noted.new) }
+{
+    let stage = stage_behind(full);
+    if first_refused(rest, tracks, stage).is_some() {
         return Err(Stop::Order);
     }
     let clients = pokes_in(alloc, rest, tracks)?;
     noted.push(clients, None, 0)?;
-    Ok(false)
+    Ok(())
 }
 
-// How many frames of each slot and entry are enough for so many frames.
-fn frames_each(entries: usize, frames: usize) -> usize
-    requires some { 1 ≤ entries }
-    requires few { entries ≤ 100000 }
-    ensures { frames ≤ slots * (entries * result) }
-{
-    frames / (SLOTS * entries) + 1
-}
-
-// A log with room for so many entries and frames. Past the limits of a log that is want of memory.
-fn log_with_room(alloc: Global, entries: usize, frames: usize) -> Result<FastLog, Memory>
-    ensures empty { IfOk result (λ log. (log.entries ≡ []) × (log.frames ≡ [])) }
-    ensures room { IfOk result (λ log. (entries ≤ log.room) × (frames ≤ log.frame_room)) }
-{
-    let most = entries.max(1);
-    if most > 100_000 {
-        return Err(Memory);
-    }
-    let each = frames_each(most, frames);
-    if each > 0x20_0000 || most * each > 0x20_0000 {
-        return Err(Memory);
-    }
-    FastLog::with_room(alloc, most, each)
-}
-
-// The log of what was taken.
-fn log_of(alloc: Global, taken: &Taken) -> Result<FastLog, Memory>
-    ensures { IfOk result (λ log. (log.entries ≡ taken.now.entries.items) × (log.frames ≡ taken.now.frames.items)) }
-{
-    let mut log = log_with_room(alloc, taken.entries.len(), taken.frames.len())?;
-    log.push_frames(taken.frames.as_slice());
-    for entry in taken.entries.as_slice() {
-        log.push(*entry);
-    }
-    Ok(log)
-}
-
-// What a text of so many tracks begins with: all of it, or what matters of it where the script allows so many cycles.
-pub(crate) fn build(
+// What is left of a text behind its rounds: nothing, where all were read, and else a round is noted that pokes what it pokes.
+fn note_rest(
     alloc: Global,
-    bytes: &[u8],
+    rest: &[u8],
     tracks: u32,
-    most: Option<usize>,
-) -> Result<Front, Stop>
-    ensures { IfOk result (λ front. IsFrontOf tracks bytes.now front.whole front.journal) }
+    end: End,
+    noted: &mut Rounds,
+) -> Result<(), Stop>
+    requires { cycles_of noted.old.rounds < 2 ^ 62 }
+    ensures { IfOk result (λ _. NotesBy tracks rest.now end noted.old noted.new) }
+{
+    if !end.is_last() {
+        note_pokes(alloc, rest, tracks, end.is_full(), noted)?;
+        return Ok(());
+    }
+    if rest.is_empty() {
+        Ok(())
+    } else {
+        Err(Stop::Order)
+    }
+}
+
+// What a text of so many tracks begins with, as far as it is read.
+fn build(alloc: Global, bytes: &[u8], tracks: u32, reach: Reach) -> Result<Front, Stop>
+    requires { (reach.entries < reach.kept) × (reach.looks < reach.kept) }
+    ensures front { IfOk result (λ front. IsFrontOf reach.kept tracks bytes.now front.whole front.journal) }
+    ensures beyond { IfOk result (λ front. front.whole ≡ false → reach.cycles ≡ None → EndsBeyond reach.entries reach.looks front.journal) }
 {
     let _size = bytes.len();
     let mut left = Left { rest: bytes };
@@ -226,9 +214,10 @@ pub(crate) fn build(
         entries: Vec::new(alloc),
         frames: Vec::new(alloc),
     };
-    read_rounds(alloc, &mut left, tracks, most, &mut noted, &mut taken)?;
-    let whole = note_rest(alloc, left.rest, tracks, &mut noted)?;
-    let log = log_of(alloc, &taken)?;
+    let end = read_rounds(alloc, &mut left, tracks, reach, &mut noted, &mut taken)?;
+    note_rest(alloc, left.rest, tracks, end, &mut noted)?;
+    let log = FastLog::of(taken.entries, taken.frames);
+    let whole = end.is_last();
     Ok(Front {
         journal: Journal::new(noted, log),
         whole,
@@ -237,7 +226,7 @@ pub(crate) fn build(
 
 /// Reads a journal's text, for as many tracks as the script has: the journal whose text it is.
 ///
-/// A text that has no reading is answered by the number of its first bad line, as `first_bad_line` gives it, and is known before any memory is taken. Memory comes only for a text that has one; so does a text of more entries or frames than a log can hold (100,000 entries, and 2 ^ 21 of entries times frames of a slot).
+/// A text that has no reading is answered by the number of its first bad line, as `first_bad_line` gives it, and is known before any memory is taken. Memory comes only for a text that has one, where it was refused.
 pub fn read(alloc: Global, bytes: &[u8], script: &Script) -> Result<Journal, JournalFault>
     ensures journal { IfOk result (Reads (length script.now.tracks) bytes.now) }
     ensures only { IfOk result (λ journal. (other : JournalData) → Reads (length script.now.tracks) bytes.now other → other ≡ journal) }
@@ -247,7 +236,7 @@ pub fn read(alloc: Global, bytes: &[u8], script: &Script) -> Result<Journal, Jou
         return Err(JournalFault::Line { number });
     }
     let tracks = script.tracks().len() as u32;
-    let Ok(front) = build(alloc, bytes, tracks, None) else {
+    let Ok(front) = build(alloc, bytes, tracks, reach_of_all()) else {
         return Err(JournalFault::Memory);
     };
     if front.whole {
@@ -257,19 +246,50 @@ pub fn read(alloc: Global, bytes: &[u8], script: &Script) -> Result<Journal, Jou
     }
 }
 
-/// Reads a journal's text, for as many tracks as the script has, no further than it matters by the script's cycles: what the text begins with. A round behind more entries than the script allows is never at fault by itself, since one before it is.
-///
-/// A text that has no reading is answered as `read` answers it.
-pub fn read_front(alloc: Global, bytes: &[u8], script: &Script) -> Result<Front, JournalFault>
-    ensures front { IfOk result (λ front. IsFrontOf (length script.now.tracks) bytes.now front.whole front.journal) }
+// What a text begins with, as far as it is read.
+fn read_to(
+    alloc: Global,
+    bytes: &[u8],
+    script: &Script,
+    reach: Reach,
+) -> Result<Front, JournalFault>
+    requires { (reach.entries < reach.kept) × (reach.looks < reach.kept) }
+    ensures front { IfOk result (λ front. IsFrontOf reach.kept (length script.now.tracks) bytes.now front.whole front.journal) }
+    ensures beyond { IfOk result (λ front. front.whole ≡ false → reach.cycles ≡ None → EndsBeyond reach.entries reach.looks front.journal) }
     ensures fault { IfErr result (IsFaultOf (length script.now.tracks) bytes.now) }
 {
     if let Some(number) = first_bad_line(bytes, script) {
         return Err(JournalFault::Line { number });
     }
     let tracks = script.tracks().len() as u32;
-    match build(alloc, bytes, tracks, Some(script.cycles() as usize)) {
+    match build(alloc, bytes, tracks, reach) {
         Ok(front) => Ok(front),
         Err(_) => Err(JournalFault::Memory),
     }
+}
+
+/// Reads what of a journal's text is judged, for as many tracks as the script has, up to the first round that has more entries, or more looks at a track, than a legal one: what the text begins with.
+///
+/// A text that has no reading is answered as `read` answers it.
+pub fn read_judged(alloc: Global, bytes: &[u8], script: &Script) -> Result<Front, JournalFault>
+    ensures front { IfOk result (λ front. IsFrontOf most_judged (length script.now.tracks) bytes.now front.whole front.journal) }
+    ensures beyond { IfOk result (λ front. front.whole ≡ false → EndsBeyond most_entries most_looks front.journal) }
+    ensures fault { IfErr result (IsFaultOf (length script.now.tracks) bytes.now) }
+{
+    read_to(alloc, bytes, script, reach_of_judged(None))
+}
+
+/// Reads what `read_judged` reads, no further than it matters by the script's cycles. A round behind more entries than the script allows is never at fault by itself, since one before it is.
+///
+/// A text that has no reading is answered as `read` answers it.
+pub fn read_front(alloc: Global, bytes: &[u8], script: &Script) -> Result<Front, JournalFault>
+    ensures front { IfOk result (λ front. IsFrontOf most_judged (length script.now.tracks) bytes.now front.whole front.journal) }
+    ensures fault { IfErr result (IsFaultOf (length script.now.tracks) bytes.now) }
+{
+    read_to(
+        alloc,
+        bytes,
+        script,
+        reach_of_judged(Some(script.cycles() as usize)),
+    )
 }

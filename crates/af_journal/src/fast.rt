@@ -1,5 +1,5 @@
 //! The lines of the fast mixer's entries.
-ghost use Rattle.std.specs.Prelude.{◌≡◌, ◌+◌, ◌<◌, ◌≤◌, true, take, drop, flat_map, length, string_bytes, IfOk, All};
+ghost use Rattle.std.specs.Prelude.{◌≡◌, ◌+◌, ◌<◌, ◌≤◌, true, take, drop, flat_map, length, IfOk, All};
 ghost use Rattle.af_base.specs.Log.{count_seen, entry_slot, slots};
 ghost use Rattle.af_model.specs.Cycles.{is_mixed};
 ghost use Rattle.af_journal.specs.Texts.{GoesOn};
@@ -8,7 +8,8 @@ ghost use Rattle.af_journal.specs.Logged.{logged_entry, logged_fast, logged_show
 ghost use Rattle.af_runs.specs.Pcm.{LieWithin};
 
 use crate::line::Line;
-use crate::turn::{add, add_frames};
+use crate::packed::add_frames;
+use crate::text::{Text, add};
 use af_base::{Cycle, CycleEntry, FastLog, Frame, Memory, SLOTS, Seen};
 
 // Whether a slot shows something.
@@ -20,14 +21,14 @@ fn is_shown(seen: Seen) -> bool
 
 // Adds a slot that shows something.
 fn add_shown(
-    text: &mut String,
+    text: &mut Text,
     frames: &[Frame],
     entry: &CycleEntry,
     slot: usize,
 ) -> Result<(), Memory>
     requires slot { slot < slots }
     requires within { (entry_slot entry.now slot).first + count_seen (entry_slot entry.now slot).seen ≤ length frames.now }
-    ensures { IfOk result (λ _. GoesOn (string_bytes text.old) (logged_shown frames.now entry.now slot) (string_bytes text.new)) }
+    ensures { IfOk result (λ _. GoesOn text.old.bytes.items (logged_shown frames.now entry.now slot) text.new.bytes.items) }
 {
     let seen = entry.slots[slot];
     let line = Line::Slot {
@@ -47,14 +48,14 @@ fn add_shown(
 
 // Adds a slot of a mix, where it shows something.
 fn add_slot(
-    text: &mut String,
+    text: &mut Text,
     frames: &[Frame],
     entry: &CycleEntry,
     slot: usize,
 ) -> Result<(), Memory>
     requires slot { slot < slots }
     requires within { (entry_slot entry.now slot).first + count_seen (entry_slot entry.now slot).seen ≤ length frames.now }
-    ensures { IfOk result (λ _. GoesOn (string_bytes text.old) (logged_slot frames.now entry.now slot) (string_bytes text.new)) }
+    ensures { IfOk result (λ _. GoesOn text.old.bytes.items (logged_slot frames.now entry.now slot) text.new.bytes.items) }
 {
     if !is_shown(entry.slots[slot].seen) {
         return Ok(());
@@ -63,10 +64,10 @@ fn add_slot(
 }
 
 // Adds the slots of a mix.
-fn add_slots(text: &mut String, frames: &[Frame], entry: &CycleEntry) -> Result<(), Memory>
+fn add_slots(text: &mut Text, frames: &[Frame], entry: &CycleEntry) -> Result<(), Memory>
     requires mixed { is_mixed entry.now.cycle ≡ true }
     requires within { LieWithin frames.now entry.now }
-    ensures { IfOk result (λ _. GoesOn (string_bytes text.old) (logged_slots frames.now entry.now) (string_bytes text.new)) }
+    ensures { IfOk result (λ _. GoesOn text.old.bytes.items (logged_slots frames.now entry.now) text.new.bytes.items) }
 {
     for slot in 0..SLOTS {
         add_slot(text, frames, entry, slot)?;
@@ -75,9 +76,9 @@ fn add_slots(text: &mut String, frames: &[Frame], entry: &CycleEntry) -> Result<
 }
 
 // Adds an entry.
-fn add_entry(text: &mut String, frames: &[Frame], entry: &CycleEntry) -> Result<(), Memory>
+fn add_entry(text: &mut Text, frames: &[Frame], entry: &CycleEntry) -> Result<(), Memory>
     requires within { LieWithin frames.now entry.now }
-    ensures { IfOk result (λ _. GoesOn (string_bytes text.old) (logged_entry frames.now entry.now) (string_bytes text.new)) }
+    ensures { IfOk result (λ _. GoesOn text.old.bytes.items (logged_entry frames.now entry.now) text.new.bytes.items) }
 {
     let kind = entry.cycle.kind();
     add(
@@ -95,14 +96,14 @@ fn add_entry(text: &mut String, frames: &[Frame], entry: &CycleEntry) -> Result<
 
 /// Adds so many entries from a place of the log on, where there are some.
 pub(crate) fn add_entries(
-    text: &mut String,
+    text: &mut Text,
     log: &FastLog,
     first: usize,
     count: usize,
 ) -> Result<(), Memory>
     requires there { first + count ≤ length log.now.entries }
     requires within { All (LieWithin log.now.frames) log.now.entries }
-    ensures { IfOk result (λ _. GoesOn (string_bytes text.old) (logged_fast log.now.frames (take count (drop first log.now.entries))) (string_bytes text.new)) }
+    ensures { IfOk result (λ _. GoesOn text.old.bytes.items (logged_fast log.now.frames (take count (drop first log.now.entries))) text.new.bytes.items) }
 {
     let _entries = log.len();
     if count == 0 {

@@ -1,5 +1,5 @@
 //! The entries of the fast mixer are read.
-ghost use Rattle.std.specs.Prelude.{◌≡◌, ◌+◌, ◌*◌, ◌^◌, ◌<◌, ◌++◌, ◌==◌, true, List, length, flat_map, All, IfOk, [], slice_index_or};
+ghost use Rattle.std.specs.Prelude.{◌≡◌, ◌+◌, ◌*◌, ◌^◌, ◌<◌, ◌≤◌, ◌++◌, ◌==◌, true, List, length, flat_map, All, IfOk, [], slice_index_or};
 ghost use Rattle.std.specs.Int.{bit_at};
 ghost use Rattle.af_base.specs.Log.{entry_slot, kind_of, slots};
 ghost use Rattle.af_model.specs.Cycles.{place_of, still_entry};
@@ -15,9 +15,6 @@ use crate::line::Line;
 use crate::stage::is_submix;
 use af_base::{Cycle, CycleEntry, Frame, SLOTS, Seen, SlotEntry};
 use std::alloc::Global;
-
-// The most entries that a log has room for.
-const MOST_ENTRIES: usize = 100_000;
 
 /// The entries read so far, with the frames that they took.
 #[derive(Drop)]
@@ -188,14 +185,20 @@ fn read_entry(
     }
 }
 
-// Entries, one after the other; how many there were. More than a log has room for are want of memory at once.
-fn read_entries(alloc: Global, left: &mut Left<'_>, taken: &mut Taken) -> Result<usize, Stop>
-    ensures { IfOk result (λ count. (seen : List EntrySeen) × (count ≡ length seen) × AddsEntries taken.old.entries.items taken.old.frames.items seen taken.new.entries.items taken.new.frames.items × Leaves left.old.rest.now (flat_map entry_lines seen) left.new.rest.now) }
+// Entries, one after the other, so many at most; how many there were.
+fn read_entries(
+    alloc: Global,
+    left: &mut Left<'_>,
+    taken: &mut Taken,
+    most: usize,
+) -> Result<usize, Stop>
+    ensures few { IfOk result (λ count. count ≤ most) }
+    ensures entries { IfOk result (λ count. (seen : List EntrySeen) × (count ≡ length seen) × AddsEntries taken.old.entries.items taken.old.frames.items seen taken.new.entries.items taken.new.frames.items × Leaves left.old.rest.now (flat_map entry_lines seen) left.new.rest.now) }
 {
     let before = taken.entries.len();
     'entries: while let Some((Line::Entry { state, kind }, after)) = next_line(left.rest) {
-        if taken.entries.len() >= MOST_ENTRIES {
-            return Err(Stop::Memory);
+        if taken.entries.len() - before >= most {
+            break;
         }
         left.rest = after;
         let entry = read_entry(alloc, left, &mut taken.frames, state, kind)?;
@@ -204,19 +207,21 @@ fn read_entries(alloc: Global, left: &mut Left<'_>, taken: &mut Taken) -> Result
     Ok(taken.entries.len() - before)
 }
 
-/// The entries of a round, which are added; how many there were.
+/// The entries of a round, so many at most, which are added; how many there were. What is left may begin with further ones where there were so many.
 pub(crate) fn read_fast(
     alloc: Global,
     left: &mut Left<'_>,
     taken: &mut Taken,
+    most: usize,
 ) -> Result<usize, Stop>
-    ensures { IfOk result (λ count. (seen : List EntrySeen) × (count ≡ length seen) × AddsEntries taken.old.entries.items taken.old.frames.items seen taken.new.entries.items taken.new.frames.items × Leaves left.old.rest.now (fast_lines seen) left.new.rest.now) }
+    ensures few { IfOk result (λ count. count ≤ most) }
+    ensures entries { IfOk result (λ count. (seen : List EntrySeen) × (count ≡ length seen) × AddsEntries taken.old.entries.items taken.old.frames.items seen taken.new.entries.items taken.new.frames.items × Leaves left.old.rest.now (fast_lines seen) left.new.rest.now) }
 {
     let Some((Line::Fast, after)) = next_line(left.rest) else {
         return Ok(0);
     };
     left.rest = after;
-    let count = read_entries(alloc, left, taken)?;
+    let count = read_entries(alloc, left, taken, most)?;
     if count == 0 {
         Err(Stop::Order)
     } else {

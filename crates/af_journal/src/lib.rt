@@ -9,14 +9,17 @@ mod laws;
 mod left;
 mod line;
 mod line_reading;
+mod packed;
 mod poked;
+mod reach;
 mod reading;
 mod stage;
+mod text;
 mod turn;
 mod turn_reading;
 mod writing;
 
-pub use building::{Front, JournalFault, read, read_front};
+pub use building::{Front, JournalFault, read, read_front, read_judged};
 pub use laws::what_is_written_is_read_back;
 pub use line::Line;
 pub use reading::first_bad_line;

@@ -107,11 +107,11 @@ fn ends(stage: Stage, rest: &[u8]) -> bool
     rest.is_empty() && may_end(stage)
 }
 
-// The number of the first line that may not come after those before it; None where all may, and the text may end there.
-pub(crate) fn first_refused(bytes: &[u8], tracks: u32) -> Option<u64>
-    ensures { result ≡ first_refused tracks Nothing 1 (parts_of bytes.now) }
+// The number of the first line that may not come after those before it, at this stage before them; None where all may, and the text may end there.
+pub(crate) fn first_refused(bytes: &[u8], tracks: u32, first: Stage) -> Option<u64>
+    ensures { result ≡ first_refused tracks first 1 (parts_of bytes.now) }
 {
-    let mut stage = Stage::Nothing;
+    let mut stage = first;
     let mut rest = bytes;
     let mut number = 1u64;
     'lines: while let Some((part, after)) = cut_line(rest) {
@@ -137,5 +137,5 @@ pub fn first_bad_line(bytes: &[u8], script: &Script) -> Option<u64>
     ensures line { IfSome result (IsFirstBad (HasReading (length script.now.tracks)) bytes.now) }
 {
     let tracks = script.tracks();
-    first_refused(bytes, tracks.len() as u32)
+    first_refused(bytes, tracks.len() as u32, Stage::Nothing)
 }

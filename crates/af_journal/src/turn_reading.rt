@@ -1,9 +1,10 @@
 //! A turn of the normal mixer is read.
-ghost use Rattle.std.specs.Prelude.{◌≡◌, ◌∷◌, [], ◌<◌, length, map, flat_map, All, IfOk, MatchOption};
+ghost use Rattle.std.specs.Prelude.{◌≡◌, ◌∷◌, ◌++◌, [], ◌<◌, ◌≤◌, List, Option, length, map, flat_map, take, All, IfOk, MatchOption};
 ghost use Rattle.std.specs.Option.{option_map};
-ghost use Rattle.af_base.specs.Turn.{take_seen, track_seen, turn_of};
+ghost use Rattle.af_base.specs.Turn.{TrackSeen, Turn, take_seen, track_seen, turn_of};
 ghost use Rattle.af_model.specs.Cycles.{IsSeen};
 ghost use Rattle.af_model.specs.JournalForm.{IsCommandLook, IsOpenTurn, IsTake, IsTurn, TracksRise};
+ghost use Rattle.af_journal.specs.Judged.{first_looks, first_of_turn};
 ghost use Rattle.af_journal.specs.Lines.{numbers};
 ghost use Rattle.af_journal.specs.Taken.{Leaves, open_lines};
 ghost use Rattle.af_journal.specs.Texts.{command_words, disabled_lines, each_from, look_lines, status_lines, take_lines, track_lines, turns_lines, words_after};
@@ -56,10 +57,25 @@ fn looks_of(alloc: Global, looks: &[CommandLook]) -> Result<CommandLooks, Memory
     Ok(list)
 }
 
-// The looks of a turn at a track's command block.
-fn read_looks(alloc: Global, left: &mut Left<'_>, track: u32) -> Result<CommandLooks, Stop>
-    ensures lines { IfOk result (λ looks. Leaves left.old.rest.now (flat_map (look_lines track) looks.items) left.new.rest.now) }
-    ensures form { IfOk result (λ looks. All IsCommandLook looks.items) }
+// One look more is kept, up to so many.
+fn keep(looks: &mut Vec<CommandLook>, look: CommandLook, most: usize) -> Result<(), Stop>
+    requires { length looks.old.items ≤ most }
+    ensures { IfOk result (λ _. looks.new.items ≡ take most (looks.old.items ++ look ∷ [])) }
+{
+    if looks.len() < most {
+        looks.push(look)?;
+    }
+    Ok(())
+}
+
+// The looks of a turn at a track's command block, of which so many are kept.
+fn read_looks(
+    alloc: Global,
+    left: &mut Left<'_>,
+    track: u32,
+    most: usize,
+) -> Result<CommandLooks, Stop>
+    ensures { IfOk result (λ kept. (looks : List CommandLook) × (kept.items ≡ take most looks) × All IsCommandLook looks × Leaves left.old.rest.now (flat_map (look_lines track) looks) left.new.rest.now) }
 {
     let mut looks = Vec::new(alloc);
     'looks: while let Some(
@@ -79,7 +95,7 @@ fn read_looks(alloc: Global, left: &mut Left<'_>, track: u32) -> Result<CommandL
         }
         left.rest = after;
         let look = read_command(alloc, left, flush, rear, seen)?;
-        looks.push(look)?;
+        keep(&mut looks, look, most)?;
     }
     Ok(looks_of(alloc, looks.as_slice())?)
 }
@@ -110,12 +126,16 @@ fn read_status(left: &mut Left<'_>, track: u32) -> Option<u32>
     }
 }
 
-// What a turn saw and did of one track.
-fn read_track(alloc: Global, left: &mut Left<'_>, track: u32) -> Result<TrackTurn, Stop>
-    ensures lines { IfOk result (λ turn. Leaves left.old.rest.now (track_lines track (track_seen turn)) left.new.rest.now) }
-    ensures form { IfOk result (λ turn. All IsCommandLook turn.looks.items) }
+// What a turn saw and did of one track, of whose looks so many are kept.
+fn read_track(
+    alloc: Global,
+    left: &mut Left<'_>,
+    track: u32,
+    most: usize,
+) -> Result<TrackTurn, Stop>
+    ensures { IfOk result (λ kept. (turn : TrackSeen) × (track_seen kept ≡ first_looks most turn) × All IsCommandLook turn.looks × Leaves left.old.rest.now (track_lines track turn) left.new.rest.now) }
 {
-    let looks = read_looks(alloc, left, track)?;
+    let looks = read_looks(alloc, left, track, most)?;
     let disabled = read_disabled(left, track);
     let status = read_status(left, track);
     Ok(TrackTurn {
@@ -126,14 +146,17 @@ fn read_track(alloc: Global, left: &mut Left<'_>, track: u32) -> Result<TrackTur
 }
 
 // What it saw and did of all tracks.
-fn read_tracks(alloc: Global, left: &mut Left<'_>, tracks: u32) -> Result<TrackTurns, Stop>
-    ensures lines { IfOk result (λ turns. Leaves left.old.rest.now (each_from track_lines 0 (map track_seen turns.items)) left.new.rest.now) }
-    ensures each { IfOk result (λ turns. length turns.items ≡ tracks) }
-    ensures form { IfOk result (λ turns. All (λ t. All IsCommandLook t.looks) (map track_seen turns.items)) }
+fn read_tracks(
+    alloc: Global,
+    left: &mut Left<'_>,
+    tracks: u32,
+    most: usize,
+) -> Result<TrackTurns, Stop>
+    ensures { IfOk result (λ kept. (turns : List TrackSeen) × (map track_seen kept.items ≡ map (first_looks most) turns) × (length turns ≡ tracks) × All (λ (t : TrackSeen). All IsCommandLook t.looks) turns × Leaves left.old.rest.now (each_from track_lines 0 turns) left.new.rest.now) }
 {
     let mut turns = TrackTurns::with_room(alloc, tracks as usize)?;
     for track in 0..tracks {
-        let turn = read_track(alloc, left, track)?;
+        let turn = read_track(alloc, left, track, most)?;
         turns.push(turn);
     }
     Ok(turns)
@@ -195,20 +218,19 @@ fn read_takes(alloc: Global, left: &mut Left<'_>, tracks: u32) -> Result<NormalT
     Ok(takes)
 }
 
-// A turn that went on, after its first line.
+// A turn that went on, after its first line; so many looks at each track are kept.
 fn read_open_turn(
     alloc: Global,
     left: &mut Left<'_>,
     tracks: u32,
+    most: usize,
     room: u32,
     ack: bool,
     cycle: u64,
 ) -> Result<TurnEntry, Stop>
-    ensures lines { IfOk result (λ turn. Leaves left.old.rest.now (open_lines (turn_of turn)) left.new.rest.now) }
-    ensures first { IfOk result (λ turn. (turn.room ≡ room) × (turn.ack ≡ ack) × (turn.cycle ≡ cycle)) }
-    ensures form { IfOk result (λ turn. IsOpenTurn tracks (turn_of turn)) }
+    ensures { IfOk result (λ kept. (turn : Turn) × (turn_of kept ≡ first_of_turn most turn) × (turn.room ≡ room) × (turn.ack ≡ ack) × (turn.cycle ≡ cycle) × IsOpenTurn tracks turn × Leaves left.old.rest.now (open_lines turn) left.new.rest.now) }
 {
-    let turns = read_tracks(alloc, left, tracks)?;
+    let turns = read_tracks(alloc, left, tracks, most)?;
     let push = read_push(left)?;
     let mixes = read_takes(alloc, left, tracks)?;
     Ok(TurnEntry {
@@ -222,19 +244,19 @@ fn read_open_turn(
     })
 }
 
-/// The turn of a round, of so many tracks; None where there was none.
+/// The turn of a round, of so many tracks; None where there was none. So many looks at each track are kept.
 pub(crate) fn read_turn(
     alloc: Global,
     left: &mut Left<'_>,
     tracks: u32,
+    most: usize,
 ) -> Result<Option<TurnEntry>, Stop>
-    ensures lines { IfOk result (λ turn. Leaves left.old.rest.now (turns_lines (option_map turn_of turn)) left.new.rest.now) }
-    ensures form { IfOk result (λ turn. MatchOption (option_map turn_of turn) (Unit {0}) (IsTurn tracks)) }
+    ensures { IfOk result (λ kept. (turn : Option Turn) × (option_map turn_of kept ≡ option_map (first_of_turn most) turn) × MatchOption turn (Unit {0}) (IsTurn tracks) × Leaves left.old.rest.now (turns_lines turn) left.new.rest.now) }
 {
     match next_line(left.rest) {
         Some((Line::Turn { room, ack, cycle }, after)) => {
             left.rest = after;
-            let turn = read_open_turn(alloc, left, tracks, room, ack, cycle)?;
+            let turn = read_open_turn(alloc, left, tracks, most, room, ack, cycle)?;
             Ok(Some(turn))
         }
         Some((Line::Ended, after)) => {

@@ -1,19 +1,20 @@
 //! A journal is written.
-ghost use Rattle.std.specs.Prelude.{◌≡◌, ◌+◌, ◌<◌, ◌++◌, take, drop, length, string_bytes, IfOk, OnErr, All};
+ghost use Rattle.std.specs.Prelude.{◌≡◌, ◌+◌, ◌<◌, ◌++◌, take, drop, length, IfOk, OnErr, All};
 ghost use Rattle.af_model.specs.Journals.{entries_of, round_at};
 ghost use Rattle.af_model.specs.JournalForm.{IsJournal};
 ghost use Rattle.af_journal.specs.Texts.{GoesOn, call_lines, client_lines, each_from, fast_lines, round_lines, text_of, text_of_lines, turns_lines};
 
 use crate::fast::add_entries;
 use crate::line::Line;
-use crate::turn::{add, add_turn};
+use crate::text::{Text, add};
+use crate::turn::add_turn;
 use af_base::{ClientCall, Memory};
 use af_model::Journal;
 use std::alloc::Global;
 
 // Adds some calls of a client.
-fn add_calls(text: &mut String, calls: &[ClientCall]) -> Result<(), Memory>
-    ensures { IfOk result (λ _. GoesOn (string_bytes text.old) (call_lines calls.now) (string_bytes text.new)) }
+fn add_calls(text: &mut Text, calls: &[ClientCall]) -> Result<(), Memory>
+    ensures { IfOk result (λ _. GoesOn text.old.bytes.items (call_lines calls.now) text.new.bytes.items) }
 {
     for call in calls {
         add(text, Line::Call { call: *call })?;
@@ -22,8 +23,8 @@ fn add_calls(text: &mut String, calls: &[ClientCall]) -> Result<(), Memory>
 }
 
 // Adds a client that made calls.
-fn add_client(text: &mut String, track: u32, calls: &[ClientCall]) -> Result<(), Memory>
-    ensures { IfOk result (λ _. GoesOn (string_bytes text.old) (client_lines track calls.now) (string_bytes text.new)) }
+fn add_client(text: &mut Text, track: u32, calls: &[ClientCall]) -> Result<(), Memory>
+    ensures { IfOk result (λ _. GoesOn text.old.bytes.items (client_lines track calls.now) text.new.bytes.items) }
 {
     if calls.is_empty() {
         return Ok(());
@@ -34,10 +35,10 @@ fn add_client(text: &mut String, track: u32, calls: &[ClientCall]) -> Result<(),
 }
 
 // Adds the clients of a round.
-fn add_clients(text: &mut String, journal: &Journal, round: usize) -> Result<(), Memory>
+fn add_clients(text: &mut Text, journal: &Journal, round: usize) -> Result<(), Memory>
     requires round { round < length journal.now.rounds }
     requires whole { length (round_at journal.now round).calls ≡ journal.now.tracks }
-    ensures { IfOk result (λ _. GoesOn (string_bytes text.old) (each_from client_lines 0 (round_at journal.now round).calls) (string_bytes text.new)) }
+    ensures { IfOk result (λ _. GoesOn text.old.bytes.items (each_from client_lines 0 (round_at journal.now round).calls) text.new.bytes.items) }
 {
     for track in 0..journal.tracks() {
         add_client(text, track, journal.client(round, track))?;
@@ -46,10 +47,10 @@ fn add_clients(text: &mut String, journal: &Journal, round: usize) -> Result<(),
 }
 
 // Adds the turn of a round, where there was one.
-fn add_turn_of(text: &mut String, journal: &Journal, round: usize) -> Result<(), Memory>
+fn add_turn_of(text: &mut Text, journal: &Journal, round: usize) -> Result<(), Memory>
     requires round { round < length journal.now.rounds }
     requires form { IsJournal journal.now }
-    ensures { IfOk result (λ _. GoesOn (string_bytes text.old) (turns_lines (round_at journal.now round).turn) (string_bytes text.new)) }
+    ensures { IfOk result (λ _. GoesOn text.old.bytes.items (turns_lines (round_at journal.now round).turn) text.new.bytes.items) }
 {
     let _tracks = journal.tracks();
     let Some(turn) = journal.turn(round) else {
@@ -60,9 +61,9 @@ fn add_turn_of(text: &mut String, journal: &Journal, round: usize) -> Result<(),
 }
 
 // Adds the entries of a round, where there are some.
-fn add_fast(text: &mut String, journal: &Journal, round: usize) -> Result<(), Memory>
+fn add_fast(text: &mut Text, journal: &Journal, round: usize) -> Result<(), Memory>
     requires round { round < length journal.now.rounds }
-    ensures { IfOk result (λ _. GoesOn (string_bytes text.old) (fast_lines (round_at journal.now round).entries) (string_bytes text.new)) }
+    ensures { IfOk result (λ _. GoesOn text.old.bytes.items (fast_lines (round_at journal.now round).entries) text.new.bytes.items) }
 {
     let log = journal.log();
     let (first, count) = journal.cycles(round);
@@ -71,9 +72,9 @@ fn add_fast(text: &mut String, journal: &Journal, round: usize) -> Result<(), Me
 }
 
 // Adds a round.
-fn add_round(text: &mut String, journal: &Journal, round: usize) -> Result<(), Memory>
+fn add_round(text: &mut Text, journal: &Journal, round: usize) -> Result<(), Memory>
     requires round { round < length journal.now.rounds }
-    ensures { IfOk result (λ _. GoesOn (string_bytes text.old) (round_lines (round_at journal.now round)) (string_bytes text.new)) }
+    ensures { IfOk result (λ _. GoesOn text.old.bytes.items (round_lines (round_at journal.now round)) text.new.bytes.items) }
 {
     let _log = journal.log();
     add(text, Line::Round)?;
@@ -84,14 +85,16 @@ fn add_round(text: &mut String, journal: &Journal, round: usize) -> Result<(), M
 }
 
 // The text of a journal.
-fn text_of(alloc: Global, journal: &Journal) -> Result<String, Memory>
-    ensures { IfOk result (λ text. string_bytes text ≡ text_of journal.now) }
+fn text_of(alloc: Global, journal: &Journal) -> Result<Vec<u8>, Memory>
+    ensures { IfOk result (λ text. text.items ≡ text_of journal.now) }
 {
-    let mut text = String::new(alloc);
+    let mut text = Text {
+        bytes: Vec::new(alloc),
+    };
     for round in 0..journal.rounds() {
         add_round(&mut text, journal, round)?;
     }
-    Ok(text)
+    Ok(text.bytes)
 }
 
 /// Writes a journal: its text is appended to `out`. Memory is its only refusal; `out` is then as before.
@@ -102,6 +105,11 @@ pub fn write(alloc: Global, journal: &Journal, out: &mut Vec<u8>) -> Result<(), 
     ensures kept { OnErr result (out.new.items ≡ out.old.items) }
 {
     let text = text_of(alloc, journal)?;
-    out.extend_from_slice(text.as_str().as_bytes())?;
+    // An empty `out` takes the text as it is, so that it isn't copied.
+    if out.is_empty() {
+        *out = text;
+        return Ok(());
+    }
+    out.extend_from_slice(&text)?;
     Ok(())
 }

@@ -50,14 +50,14 @@ ends_normal run = by_end run.normal.ended
     by_end true = refl
     by_end false = refl
 
-after_normal : (s : Session) (run : Run) (round : RoundSeen) → (after_round s run round).normal ≡ (all_played s run round).normal
+pub after_normal : (s : Session) (run : Run) (round : RoundSeen) → (after_round s run round).normal ≡ (all_played s run round).normal
 after_normal s run round = ends_normal (met s (all_played s run round)) ∙ met_normal s (all_played s run round)
 
 -- all stream proxies of a mixer are home
 abbrev pub AllHome : NormalKept → Type 0
 AllHome m = (i : ℕ) → is_home (track_at m.tracks i).holder ≡ true
 
-or_left : (a b : Bool) → a ≡ true → (a || b) ≡ true
+pub or_left : (a b : Bool) → a ≡ true → (a || b) ≡ true
 or_left true b e = refl
 or_left false b e = absurd (true≢false (sym e))
 

@@ -61,7 +61,7 @@ module _ (script : ScriptData) (files : List (List Frame)) (shared : SharedState
   took_none : TookCounted x.fast
   took_none = ap (λ (l : List ℕ). length l) told.shared.taken ∙ sym (ap (λ (l : List ServerEvent). frames_taken l) told.shared.takes)
 
-  holds_first : (marks : Marks) → PlayHolds s marks (new_run s) no_deeds x
+  pub holds_first : (marks : Marks) → PlayHolds s marks (new_run s) no_deeds x
   holds_first marks = record {
     stands = record {
       told = told;

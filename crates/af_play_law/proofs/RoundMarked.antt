@@ -31,7 +31,7 @@ call_at : (round : RoundSeen) (run : Run) (i : ℕ) → i < length run.tracks �
 call_at round run i low = told_each (λ n t. if n == i then called (calls_in round i) t else t) run i low ∙ ap (λ (b : Bool). if b then called (calls_in round i) (told_at run i) else told_at run i) (eq-eqb i i refl)
 
 -- the clients' ends leave the blocks
-ends_at : (run : Run) (i : ℕ) → i < length run.tracks → ((told_at (with_ends run) i).stream ≡ (told_at run i).stream) × ((told_at (with_ends run) i).commands ≡ (told_at run i).commands)
+pub ends_at : (run : Run) (i : ℕ) → i < length run.tracks → ((told_at (with_ends run) i).stream ≡ (told_at run i).stream) × ((told_at (with_ends run) i).commands ≡ (told_at run i).commands)
 unfolding with_ends
 ends_at run i low = by_end run.normal.ended
   where

@@ -1,4 +1,5 @@
 //! What holds of every round in which all parties act at the same time.
+ghost use Rattle.af_play_law.specs.KeptPlays.{PlaysKeepTheirLists};
 ghost use Rattle.af_play_law.specs.Loads.{LoadsShowTheirNumber};
 ghost use Rattle.af_play_law.specs.PlayLaws.{PlaysAreToldAlone};
 ghost use Rattle.af_play_law.specs.PlayRuns.{RunsAreTold};
@@ -34,4 +35,9 @@ pub fn the_rounds_of_a_play_are_told()
 /// The rounds of a play that has ended are by themselves those of a run of the script and its files, whatever the threads did.
 pub fn a_play_is_told_by_its_journal()
     ensures { PlaysAreToldAlone }
+{}
+
+/// The ends of a play, whether it has ended or was cut off, keep the lists of the run that its rounds tell: those of the clients' proxies, of the queue's mutator, of the report's reader, of the pipe's end, of the hands, and of the proxies that the normal mixer holds, where no poke was made.
+pub fn the_ends_of_a_play_keep_its_lists()
+    ensures { PlaysKeepTheirLists }
 {}

@@ -1,5 +1,5 @@
 -- Once the fast mixer has exited, the next turn of the normal mixer ends.
-use Rattle.std.proofs.Common.{◌≡◌, ℕ, zero, suc, ◌≤◌, ◌==◌, ◌||◌, Bool, true, false, if◌then◌else◌, sym, refl, ap, subst, ◌∙◌, List, [], ◌∷◌, ◌++◌, length, map, append_assoc, Some, eqb-true, arith}
+use Rattle.std.proofs.Common.{◌≡◌, ℕ, zero, suc, ◌≤◌, ◌==◌, ◌||◌, Bool, true, false, if◌then◌else◌, sym, refl, ap, subst, ◌∙◌, List, [], ◌∷◌, ◌++◌, length, append_assoc, Some, eqb-true, arith}
 use Rattle.std.specs.Bool.{MatchBool}
 use Rattle.std.proofs.lemmas.Bool.{MatchBool-at_true, MatchBool-at_false}
 use Rattle.af_base.specs.declared.frame.Frame.{Frame}

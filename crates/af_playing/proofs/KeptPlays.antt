@@ -11,7 +11,7 @@ use Rattle.af_audit.proofs.SettledTold.{settled}
 use Rattle.af_audit.proofs.SparedTold.{lawful-blocks-are-spared}
 use Rattle.af_base.specs.declared.frame.Frame.{Frame}
 use Rattle.af_base.specs.declared.want.Memory.{Memory}
-use Rattle.af_enough_law.proofs.NeverCut.{never-cut}
+use Rattle.af_playing.proofs.InTime.{never_cut_off}
 use Rattle.af_io.specs.Files.{Files, SetsFile}
 use Rattle.af_io.specs.Causes.{HasCause}
 use Rattle.af_model.specs.Journals.{JournalData, RoundsNoted, journal_of}
@@ -24,7 +24,7 @@ use Rattle.af_playing.specs.declared.answering.PlayFault.TheVariants as fault
 use Rattle.af_rendering.specs.declared.rendering.Played.{Played}
 use Rattle.af_rendering.specs.declared.staging.Stage.{Stage}
 use Rattle.af_session.specs.Ends.{EndsState, ends_from}
-use Rattle.af_playing.specs.PlayKept.{Answers, KeepsFiles, KeepsPlay, spares_by}
+use Rattle.af_playing.specs.PlayKept.{Answers, KeepsFiles, KeepsPlay, keeps_by, spares_by}
 use Rattle.af_playing.specs.PlayedRuns.{AtLimit, HandedBack, HandsBackRun, HasStoreCause, LeavesRun, all_ended, is_limit}
 use Rattle.af_playing.specs.PlayedAlone.{IsToldAlone}
 use Rattle.af_playing.specs.Spelled.{CallsStandOnce, PushesStandOnce, ReleasedAsTold}
@@ -32,6 +32,7 @@ use Rattle.af_playing.specs.PlayedStages.{HasPlayed}
 use Rattle.af_session.specs.Together.{SessionState}
 use Rattle.af_tally.specs.Sound.{pcm_of}
 use Rattle.af_rendering.proofs.JournalSound.{journal_sounds}
+use Rattle.af_playing.proofs.ListsKept.{lists_kept}
 use Rattle.af_playing.proofs.NeverOlder.{none_older}
 use Rattle.af_playing.proofs.PlayCauses.{cause_behind}
 use Rattle.af_playing.proofs.PlayAnswers.{at_fault, cause_cut, cut_by, cut_off, handed, hands_back, if_ok_always, if_ok_one, if_ok_three, leaves, never_limited, off_limit, older_by}
@@ -67,6 +68,7 @@ module _ (script : ScriptData) (files : List (List Frame)) where
         pushes = off_limit {T = Played} (Err x) PushesStandOnce never;
         never_older = off_limit {T = Played} (Err x) older_by never;
         spared = off_limit {T = Played} (Err x) (spares_by script.frames) never;
+        kept = off_limit {T = Played} (Err x) (keeps_by script files) never;
       }
 
   -- and the file is left
@@ -123,7 +125,7 @@ module _ (script : ScriptData) (files : List (List Frame)) (s : Stage) (r : Resu
     settled = lawful (λ (p : Played). SettledMeansKept script files p.journal) (λ p legal. settled script files p.journal is legal);
     emptied = lawful (λ (p : Played). PipeIsEmptied script files p.journal) (λ p legal. pipe-is-emptied script files p.journal is legal);
     cut_run = a.cut_run;
-    enough = (λ enough. never_limited r (cut_by script files) (λ journal e cut. never-cut script files journal is enough cut) a.cut_run);
+    enough = (λ enough. never_limited r (HandsBackRun false script files) (never_cut_off script files is enough) limited);
     summary = a.summary;
     alone = alone_kept script files r played_on limited a.legal a.cut_run;
     calls = handed_on CallsStandOnce (calls_stand_once (all_ended t) script files j (ends_from t) back);
@@ -131,6 +133,7 @@ module _ (script : ScriptData) (files : List (List Frame)) (s : Stage) (r : Resu
     pushes = handed_on PushesStandOnce (pushes_stand_once (all_ended t) script files j (ends_from t) back);
     never_older = handed_on older_by (none_older script files noted t have.all have.noted.whole);
     spared = handed_on (spares_by script.frames) (spares_told script.frames noted t.fast.log t.normal.mutator.past.events j (ends_from t) have.noted.whole refl refl have.noted.spared);
+    kept = handed_on (keeps_by script files) (lists_kept (all_ended t) script files j (ends_from t) back);
   }
 
   module _ (name : List ℕ) (old new : Files) (set : SetsFile old name (Some (pcm_of script.frames t.fast.log)) new) where

@@ -9,6 +9,7 @@ pub mod RoundsOfAll
 pub mod GoingOn
 pub mod PlayAnswers
 pub mod StagesPlayed
+pub mod InTime
 pub mod KeptPlays
 pub mod ClientsSpelled
 pub mod RunSpelled
@@ -19,4 +20,6 @@ pub mod ToldAlone
 pub mod NeverOlder
 pub mod SparedOfAll
 pub mod PlayedOn
+pub mod RoundsTold
 pub mod PlayLegal
+pub mod ListsKept

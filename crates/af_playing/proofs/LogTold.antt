@@ -8,7 +8,6 @@ use Rattle.af_base.specs.Log.{Logged}
 use Rattle.af_fast.specs.Mixer.{MixerState}
 use Rattle.af_model.specs.JournalForm.{IsWhole}
 use Rattle.af_model.specs.Journals.{EntrySeen, JournalData, RoundNoted, RoundSeen, RoundsNoted, cycles_of, entries_of, entries_seen, journal_of, rounds_seen}
-use Rattle.af_nblog.specs.NoteEnds.{accepted}
 use Rattle.af_nblog.specs.NoteRounds.{count_accepted}
 use Rattle.af_nblog.proofs.Refusals.{none_refused}
 use Rattle.af_side_by_side.specs.Alone.{most_cycles}

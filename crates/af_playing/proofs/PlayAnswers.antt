@@ -135,14 +135,14 @@ no_want {T} h = let x : ⊥ = cc in x
 no_fault : (x : Unit {0}) → IsErrOf {T = Unit {0}} {E = StoreError} (Ok x) store.Failed → ⊥
 no_fault x h = let e : ⊥ = cc in e
 
--- an answer that is an error was cut off, with this journal and these ends, or memory ran out
+-- an answer that is an error comes where not all had ended: it was cut off, with this journal and these ends, or memory ran out
 abbrev pub IsCut : Result Played PlayFault → Type 0 → JournalData → EndsState → Type 0
-IsCut r A j e = IfErr r (λ f. (A × (f ≡ fault.CycleLimit j e)) ⊎ (f ≡ fault.Memory))
+IsCut r A j e = IfErr r (λ f. A × ((f ≡ fault.CycleLimit j e) ⊎ (f ≡ fault.Memory)))
 
 pub cut_off : (P : JournalData → EndsState → Type 0) (r : Result Played PlayFault) (A : Type 0) (j : JournalData) (e : EndsState) → (A → P j e) → IsCut r A j e → IfErr r (AtLimit P)
 cut_off P (Ok p) A j e h is = tt
-cut_off P (Err f) A j e h (inl is) = subst (AtLimit P) (sym is.1) (h is.0)
-cut_off P (Err f) A j e h (inr is) = subst (AtLimit P) (sym is) tt
+cut_off P (Err f) A j e h (more, inl is) = subst (AtLimit P) (sym is) (h more)
+cut_off P (Err f) A j e h (more, inr is) = subst (AtLimit P) (sym is) tt
 
 cause_limit : (A : Type 0) (j : JournalData) (e : EndsState) (x : Unit {0}) (before now : ℕ) → HasCause {T = Unit {0}} before now (Ok x) → HasStoreCause {T = Played} before now (Err (fault.CycleLimit j e))
 cause_limit A j e x before now cause = record {
@@ -160,8 +160,8 @@ cause_want x before now cause = record {
 
 pub cause_cut : (r : Result Played PlayFault) (A : Type 0) (j : JournalData) (e : EndsState) (x : Unit {0}) (before now : ℕ) → HasCause {T = Unit {0}} before now (Ok x) → IsCut r A j e → HasStoreCause before now r
 cause_cut (Ok p) A j e x before now cause is = cause_ok p x before now cause
-cause_cut (Err f) A j e x before now cause (inl is) = subst (λ (y : PlayFault). HasStoreCause {T = Played} before now (Err y)) (sym is.1) (cause_limit A j e x before now cause)
-cause_cut (Err f) A j e x before now cause (inr is) = subst (λ (y : PlayFault). HasStoreCause {T = Played} before now (Err y)) (sym is) (cause_want x before now cause)
+cause_cut (Err f) A j e x before now cause (more, inl is) = subst (λ (y : PlayFault). HasStoreCause {T = Played} before now (Err y)) (sym is) (cause_limit A j e x before now cause)
+cause_cut (Err f) A j e x before now cause (more, inr is) = subst (λ (y : PlayFault). HasStoreCause {T = Played} before now (Err y)) (sym is) (cause_want x before now cause)
 
 -- what is handed back
 pub hands_back : (ended : Bool) (script : ScriptData) (files : List (List Frame)) (t : SessionState) (noted : RoundsNoted) (j : JournalData) (e : EndsState) → Plays script files noted.rounds t → noted.tracks ≡ length script.tracks
@@ -182,8 +182,8 @@ hands_back ended script files t noted j e played tracks form count few over is j
 -- what is so of the journal and the ends of a run is so of what is handed back
 pub handed : (P : JournalData → EndsState → Type 0) (r : Result Played PlayFault) (A : Type 0) (j : JournalData) (e : EndsState) → P j e → IfOk r (λ p. p.journal ≡ j) → IfOk r (λ p. p.ends ≡ e) → IsCut r A j e → HandedBack P r
 handed P (Ok p) A j e is journal ends cut = subst (λ (x : JournalData × EndsState). P x.0 x.1) (λ i. (sym journal i, sym ends i)) is
-handed P (Err f) A j e is journal ends (inl cut) = subst (AtLimit P) (sym cut.1) is
-handed P (Err f) A j e is journal ends (inr want) = subst (AtLimit P) (sym want) tt
+handed P (Err f) A j e is journal ends (more, inl cut) = subst (AtLimit P) (sym cut) is
+handed P (Err f) A j e is journal ends (more, inr want) = subst (AtLimit P) (sym want) tt
 
 -- nothing is after want of memory or a fault of the store
 pub none_handed : (P : JournalData → EndsState → Type 0) (r : Result Played PlayFault) (fault : PlayFault) → is_limit fault ≡ false → IsErrAnd r (λ f. f ≡ fault) → HandedBack P r

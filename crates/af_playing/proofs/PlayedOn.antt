@@ -1,5 +1,5 @@
 -- The rounds of a run of all parties are those that its journal tells, one after the other.
-use Rattle.std.proofs.Common.{◌≡◌, ℕ, zero, suc, ◌+◌, ◌-◌, ◌<◌, ◌≤◌, if◌then◌else◌, Bool, true, false, List, [], ◌∷◌, length, map, option_map, take, drop, Some, slice_get, refl, sym, ap, subst, ◌∙◌, arith}
+use Rattle.std.proofs.Common.{◌≡◌, ℕ, zero, suc, ◌+◌, ◌-◌, if◌then◌else◌, Bool, true, false, List, [], ◌∷◌, length, map, option_map, take, drop, Some, slice_get, refl, sym, ap, subst, ◌∙◌, arith}
 use Rattle.std.specs.Bool.{MatchBool}
 use Rattle.std.specs.Prelude.{slice_index_or}
 use Rattle.std.proofs.lemmas.List.{length-append}
@@ -9,10 +9,9 @@ use Rattle.af_base.specs.Log.{Logged}
 use Rattle.af_fast.specs.Mixer.{MixerState}
 use Rattle.af_link.specs.declared.links.Links.{Links}
 use Rattle.af_model.specs.Cycles.{is_mixed}
-use Rattle.af_model.specs.Journals.{EntrySeen, RoundNoted, RoundSeen, entries_seen, rounds_seen}
+use Rattle.af_model.specs.Journals.{EntrySeen, RoundNoted, entries_seen, rounds_seen}
 use Rattle.af_party.specs.Parties.{PartyState}
 use Rattle.af_runs.specs.Blocks.{Marks}
-use Rattle.af_runs.specs.Runs.{calls_in}
 use Rattle.af_runs.specs.Sessions.{Session}
 use Rattle.af_session.specs.Rounds.{end_party, with_ends}
 use Rattle.af_session.specs.Together.{SessionState}

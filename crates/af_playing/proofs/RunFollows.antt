@@ -14,7 +14,7 @@ use Rattle.af_base.specs.Turn.{Turn, turn_of}
 use Rattle.af_cblk.specs.declared.view.ClientPart.{ClientPart}
 use Rattle.af_cblk.specs.Sides.{HandSide, Made, client_made}
 use Rattle.af_client.specs.Order.{ClientState}
-use Rattle.af_entry_law.proofs.ClientRuns.{Words, called_at, called_long, round_words, run_words, track_words, turn_words, words_after, words_called}
+use Rattle.af_entry_law.proofs.ClientRuns.{Words, called_at, called_long, round_words, run_words, track_words, turn_words, words_after}
 use Rattle.af_entry_law.proofs.NormalRuns.{IsFollowed, rest_followed, turn_followed}
 use Rattle.af_entry_law.specs.Told.{mixer_told}
 use Rattle.af_life.specs.Heard.{learnt}
@@ -22,7 +22,6 @@ use Rattle.af_life.specs.Kept.{NormalKept, Outside, Setup}
 use Rattle.af_life.specs.Turn.{LegalTurn, after_edits, turn_after}
 use Rattle.af_life.specs.TurnEvents.{mutator_list, number_seen, push_list}
 use Rattle.af_model.specs.Journals.{EntrySeen, RoundNoted, RoundSeen, rounds_seen}
-use Rattle.af_model.specs.declared.states.MutatorEvent.{MutatorEvent}
 use Rattle.af_model.specs.declared.states.MutatorEvent.TheVariants as mutator
 use Rattle.af_normal.specs.Meeting.{MeetsStream, client_knows}
 use Rattle.af_normal.specs.State.{NormalState, kept_of, setup_of}
@@ -37,7 +36,7 @@ use Rattle.af_runs.specs.Told.{is_pushed}
 use Rattle.af_script.specs.Data.{ScriptData}
 use Rattle.af_server.specs.Order.{ServerState}
 use Rattle.af_stateq.specs.Laws.{pushed_states}
-use Rattle.af_session.specs.Met.{MeetsAway, Spot, SpotMet, TrackMet}
+use Rattle.af_session.specs.Met.{MeetsAway, Spot, SpotMet}
 use Rattle.af_session.specs.NewSession.{IsNewSession, tracks_of}
 use Rattle.af_session.specs.NewTracks.{IsTrackAt}
 use Rattle.af_session.specs.Rounds.{Given, file_at, ops_at}

@@ -1,10 +1,8 @@
 -- The summary of a play is that of its journal alone, where that is legal or cut.
-use Rattle.std.proofs.Common.{◌≡◌, ℕ, suc, Bool, true, false, List, [], ◌∷◌, length, map, option_map, slice_get, Option, Some, Result, Ok, Err, IfErr, IfOk, refl, sym, ap, subst, ◌∙◌, arith}
+use Rattle.std.proofs.Common.{◌≡◌, ℕ, suc, Bool, true, false, List, [], ◌∷◌, length, map, option_map, slice_get, Some, Result, Ok, Err, IfErr, IfOk, refl, sym, ap, subst, ◌∙◌, arith}
 use Rattle.std.proofs.lemmas.List.{length-map}
 use Rattle.std.proofs.lemmas.Option.{same_Some, slice_get-map}
 use Rattle.af_base.specs.declared.frame.Frame.{Frame}
-use Rattle.af_base.specs.declared.state.FastState.{FastState}
-use Rattle.af_client.specs.Order.{IsInOrder as IsClientInOrder}
 use Rattle.af_entry_law.proofs.ClientRuns.{Words, track_words}
 use Rattle.af_model.specs.Journals.{JournalData, entries_of, frames_of}
 use Rattle.af_party.specs.Parties.{PartyState}
@@ -14,13 +12,13 @@ use Rattle.af_runs.specs.Sessions.{Session}
 use Rattle.af_script.specs.Data.{ScriptData}
 use Rattle.af_session.specs.Ends.{EndsState}
 use Rattle.af_session.specs.Rounds.{Given}
-use Rattle.af_session.specs.Shown.{released_by, shows, summary_told}
+use Rattle.af_session.specs.Shown.{released_by, shows}
 use Rattle.af_stateq.specs.Laws.{pushed_states}
 use Rattle.af_tally.specs.Summaries.{summary_of}
 use Rattle.af_rendering.specs.declared.rendering.Played.{Played}
 use Rattle.af_playing.specs.declared.answering.PlayFault.{PlayFault}
 use Rattle.af_playing.specs.declared.answering.PlayFault.TheVariants as fault
-use Rattle.af_playing.specs.PlayedAlone.{IsToldAlone, summary_of_play}
+use Rattle.af_playing.specs.PlayedAlone.{IsToldAlone}
 use Rattle.af_playing.specs.PlayedRuns.{AtLimit, HandedBack, HandsBackRun}
 use Rattle.af_playing.proofs.RunFollows.{Follows, client_words, new_follows, run_follows}
 use Rattle.af_playing.proofs.RunReleased.{AreInOrder, new_order, run_order}

@@ -101,7 +101,7 @@ fn cut_off(stage: Stage, alloc: Global, script: &Script, files: &[Pcm]) -> Resul
     }
 }
 
-/// What a play answers of a stage that was played to its end, or to that of the log. Where all have ended it is Ok, and no memory is taken; what was cut off is judged before it is handed back.
+/// What a play answers of a stage that was played to its end, or to that of the log. Where all have ended it is Ok, and no memory is taken; what was cut off is judged before it is handed back, and there alone it may be Memory.
 pub fn answer(
     stage: Stage,
     alloc: Global,

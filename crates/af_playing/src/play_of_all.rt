@@ -14,15 +14,17 @@ ghost use Rattle.af_audit.specs.Emptied.{PipeIsEmptied};
 ghost use Rattle.af_audit.specs.Fates.{EachFrameHasOneFate};
 ghost use Rattle.af_audit.specs.Settled.{SettledMeansKept};
 ghost use Rattle.af_audit.specs.Spared.{EachLawfulBlockIsSpared};
-ghost use Rattle.af_runs.specs.LegalRuns.{IsCutRun, IsLegalRun};
+ghost use Rattle.af_runs.specs.LegalRuns.{IsCutRun, IsLegalRun, run_of};
 ghost use Rattle.af_playing.specs.PlayedRuns.{AtFault, AtLimit, HandedBack, HandsBackRun, HasStoreCause, LeavesRun, Plays};
 ghost use Rattle.af_playing.specs.PlayKept.{KeepsFiles, KeepsPlay};
 ghost use Rattle.af_rendering.specs.Rendered.{HaveFiles};
 ghost use Rattle.af_session.specs.Shown.{shown_by, summary_told};
+ghost use Rattle.af_told_law.specs.KeptEnds.{KeepsLists};
 ghost use Rattle.af_rendering.specs.Stages.{IsNewStage};
 ghost use Rattle.af_playing.specs.PlayedStages.{HasPlayed};
 ghost use Rattle.af_tally.specs.Sound.{pcm_of};
 ghost use Rattle.af_runs.specs.Pcm.{journal_pcm};
+ghost use Rattle.af_playing.specs.InTime.{EndsInTime};
 ghost use Rattle.af_playing.specs.PlayedAlone.{IsToldAlone};
 ghost use Rattle.af_playing.specs.Spelled.{CallsStandOnce, NoneOlder, PushesStandOnce, ReleasedAsTold};
 
@@ -148,9 +150,9 @@ fn play_with<R: Threads + Sync, S: Store, G: Gate>(
 
 /// Plays a script in rounds. In each every party that has not ended makes one turn, on a thread of its own where one can be made: each client, the normal mixer, and the fast mixer, which makes sixteen cycles, or fewer after one that isn't mixed. Then all parties meet. A party's turn begins at the gate, by its number: the clients' are those of their tracks, and the mixers' come behind. The sound goes to the file of this name, round by round. All blocks, logs and mixers are made before the file is; the rounds are noted as they are played. It makes at most as many rounds as the script has cycles.
 ///
-/// Whatever the threads did, what was played is a run of the script and its files, of rounds of all parties, whose journal is handed back: in it each client's calls and each state pushed stand once, in their order, each client has released as many frames as its calls put there, and no cycle uses a state older than one before it. The summary is that of the journal alone. Where the store tells it the file is the sound of the journal. Whatever clients stored in their words, each track on whose blocks nothing was poked is spared: no call of its client was answered Corrupt, and no look of the normal mixer at its blocks was Shut. Ok says that all parties have ended, CycleLimit that the log is full and some party has not; so after each round but the last some party goes on and the log has room. After a fault no file has changed, or the file holds a front of the sound of some first rounds.
+/// Whatever the threads did, what was played is a run of the script and its files, of rounds of all parties, whose journal is handed back: in it each client's calls and each state pushed stand once, in their order, each client has released as many frames as its calls put there, and no cycle uses a state older than one before it. The summary is that of the journal alone. The lists that the ends handed back keep are those of the run that the journal tells (`kept`): of the clients' proxies, of the queue's mutator, of the report's reader, of the pipe's end, and of the proxies that the normal mixer holds, where no poke was made. Where the store tells it the file is the sound of the journal. Whatever clients stored in their words, each track on whose blocks nothing was poked is spared: no call of its client was answered Corrupt, and no look of the normal mixer at its blocks was Shut. Ok says that all parties have ended, CycleLimit that the log is full and some party has not; so after each round but the last some party goes on and the log has room. After a fault no file has changed, or the file holds a front of the sound of some first rounds.
 ///
-/// By itself, whoever made it, the journal of Ok is that of a legal run of the script and its files (`legal`). In it each frame that a client without a poke released was mixed once, in its place, was discarded by one flush that was noticed, or is still queued (`fates`); nothing of such a track was found shut or corrupt (`unshut`); a track that is reported drained has reached the count of its last stop, at which its client had released so much (`drained`); and what a client releases after it saw a START settled is discarded by a later flush alone (`settled`). All that the normal mixer put into the pipe was taken from it and mixed (`emptied`). The journal after CycleLimit is that of a cut run (`cut_run`), and CycleLimit never comes to a script whose tracks play through and whose cycles are enough by the rule (`enough`). That the journal of Ok is legal is a law on plays, whatever the threads did: nothing judges it. That of CycleLimit is judged before it is handed back: there Memory may also stand for one that was judged not to be that of a cut run, or that is longer than the judge counts (131,072 turns of the normal mixer). No play has come to either.
+/// By itself, whoever made it, the journal of Ok is that of a legal run of the script and its files (`legal`). In it each frame that a client without a poke released was mixed once, in its place, was discarded by one flush that was noticed, or is still queued (`fates`); nothing of such a track was found shut or corrupt (`unshut`); a track that is reported drained has reached the count of its last stop, at which its client had released so much (`drained`); and what a client releases after it saw a START settled is discarded by a later flush alone (`settled`). All that the normal mixer put into the pipe was taken from it and mixed (`emptied`). The journal after CycleLimit is that of a cut run (`cut_run`), and CycleLimit never comes to a script whose tracks play through and whose cycles are enough by the rule (`enough`): whatever its threads do, its rounds can't come to the end of the log with a party still going (`in_time`), so what was played to its end is Ok. That the journal of Ok is legal is a law on plays, whatever the threads did: nothing judges it. That of CycleLimit is judged before it is handed back, so only of a script without enough cycles: there Memory may also stand for one that was judged not to be that of a cut run, or that is longer than the judge counts (131,072 turns of the normal mixer). No play has come to either.
 pub fn play<R: Threads + Sync, S: Store, G: Gate>(
     rt: &R,
     alloc: Global,
@@ -171,6 +173,7 @@ pub fn play<R: Threads + Sync, S: Store, G: Gate>(
     ensures emptied { IfOk result (λ p. PipeIsEmptied script.now files.now p.journal) }
     ensures cut_run { IfErr result (AtLimit (λ journal _. IsCutRun script.now files.now journal)) }
     ensures enough { HasEnoughCycles script.now → IfErr result (AtLimit (λ journal ends. ⊥)) }
+    ensures in_time { EndsInTime script.now files.now }
     ensures summary { IfOk result (λ p. p.summary ≡ summary_told script.now.frames p.journal p.ends) }
     ensures alone { HandedBack (IsToldAlone script.now files.now) result }
     ensures calls { HandedBack CallsStandOnce result }
@@ -178,6 +181,7 @@ pub fn play<R: Threads + Sync, S: Store, G: Gate>(
     ensures pushes { HandedBack PushesStandOnce result }
     ensures never_older { HandedBack (λ journal _. NoneOlder journal) result }
     ensures spared { HandedBack (λ journal ends. PokesSpareOthers (shown_by script.now.frames journal ends.normal.mutator.past.events)) result }
+    ensures kept { HandedBack (λ journal ends. KeepsLists (run_of script.now files.now journal) ends) result }
     ensures written { S.told store.old → IfOk result (λ p. SetsFile (S.files store.old) name.now (Some (journal_pcm script.now.frames p.journal)) (S.files store.new)) }
     ensures cut { S.told store.old → IfErr result (AtLimit (λ journal _. SetsFile (S.files store.old) name.now (Some (journal_pcm script.now.frames journal)) (S.files store.new))) }
     ensures left { S.told store.old → IfErr result (AtFault (LeavesRun script.now files.now name.now (S.files store.old) (S.files store.new))) }
@@ -248,6 +252,7 @@ pub fn play_logged<R: Threads + Sync, S: Store, G: Gate>(
     ensures emptied { IfOk result (λ p. PipeIsEmptied script.now files.now p.journal) }
     ensures cut_run { IfErr result (AtLimit (λ journal _. IsCutRun script.now files.now journal)) }
     ensures enough { HasEnoughCycles script.now → IfErr result (AtLimit (λ journal ends. ⊥)) }
+    ensures in_time { EndsInTime script.now files.now }
     ensures summary { IfOk result (λ p. p.summary ≡ summary_told script.now.frames p.journal p.ends) }
     ensures alone { HandedBack (IsToldAlone script.now files.now) result }
     ensures calls { HandedBack CallsStandOnce result }
@@ -255,6 +260,7 @@ pub fn play_logged<R: Threads + Sync, S: Store, G: Gate>(
     ensures pushes { HandedBack PushesStandOnce result }
     ensures never_older { HandedBack (λ journal _. NoneOlder journal) result }
     ensures spared { HandedBack (λ journal ends. PokesSpareOthers (shown_by script.now.frames journal ends.normal.mutator.past.events)) result }
+    ensures kept { HandedBack (λ journal ends. KeepsLists (run_of script.now files.now journal) ends) result }
     ensures written { S.told store.old → IfOk result (λ p. SetsFile (S.files store.old) name.now (Some (journal_pcm script.now.frames p.journal)) (S.files store.new)) }
     ensures cut { S.told store.old → IfErr result (AtLimit (λ journal _. SetsFile (S.files store.old) name.now (Some (journal_pcm script.now.frames journal)) (S.files store.new))) }
     ensures left { S.told store.old → IfErr result (AtFault (LeavesRun script.now files.now name.now (S.files store.old) (S.files store.new))) }

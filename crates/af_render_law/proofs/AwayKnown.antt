@@ -1,5 +1,5 @@
 -- After the meetings of all parties the hands know what the proxies that missed them had done.
-use Rattle.std.proofs.Common.{◌≡◌, ℕ, ◌<◌, true, List, length, slice_get, Option, Some, None, refl, sym, ap, ◌∙◌, subst, arith}
+use Rattle.std.proofs.Common.{◌≡◌, ℕ, ◌<◌, true, List, length, slice_get, Option, Some, None, sym, ap, ◌∙◌, subst, arith}
 use Rattle.std.proofs.lemmas.Option.{none-some, same_Some, slice_get_within}
 use Rattle.af_base.specs.declared.state.FastState.{FastState}
 use Rattle.af_cblk.specs.Sides.{HandSide, client_made}
@@ -11,7 +11,6 @@ use Rattle.af_model.specs.History.{HasHistory, is_lawful}
 use Rattle.af_normal.specs.Meeting.{MeetsStream}
 use Rattle.af_normal.specs.Mixing.{stream_at}
 use Rattle.af_normal.specs.State.{NormalState}
-use Rattle.af_party.specs.Parties.{PartyState}
 use Rattle.af_server.specs.Order.{ServerState}
 use Rattle.af_session.specs.Met.{MeetsAway, Met, SpotMet, Spot, item_at, proxies_of, slot_for, spot_of}
 use Rattle.af_session.specs.Rounds.{with_ends}

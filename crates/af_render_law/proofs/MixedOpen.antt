@@ -1,5 +1,5 @@
 -- A look that an entry makes at a stream block answers by some front; and where the block's server isn't shut after it, it wasn't before, and the look wasn't Shut.
-use Rattle.std.proofs.Common.{◌≡◌, ℕ, zero, suc, ◌+◌, ◌<◌, ◌==◌, ◌&&◌, not, Bool, true, false, if◌then◌else◌, unwrap_or, is_some, map, List, [], ◌++◌, Option, Some, None, refl, sym, ap, ◌∙◌, subst, eqb-true, arith}
+use Rattle.std.proofs.Common.{◌≡◌, ℕ, zero, suc, ◌+◌, ◌<◌, ◌==◌, ◌&&◌, not, Bool, true, false, if◌then◌else◌, is_some, map, List, [], ◌++◌, Option, Some, None, refl, sym, ap, ◌∙◌, subst, eqb-true, arith}
 use Rattle.std.specs.List.{find, range_with_len}
 use Rattle.std.proofs.lemmas.List.{get_or-replicate}
 use Rattle.af_base.specs.declared.event.ServerEvent.{ServerEvent}
@@ -21,7 +21,6 @@ use Rattle.af_runs.specs.Fronts.{front_of, is_shown}
 use Rattle.af_runs.specs.Rounds.{LegalEntry}
 use Rattle.af_runs.specs.Runs.{Run, TrackTold, mixed_track, no_track, played, plays, slot_for, state_for, told_at}
 use Rattle.af_runs.specs.Sessions.{Session, cycle_frames}
-use Rattle.af_runs.specs.Told.{state_at}
 use Rattle.af_model.proofs.Logic.{both_left, both_right}
 use Rattle.af_judge.proofs.BlocksTold.{server-client}
 use Rattle.af_audit.proofs.Booleans.{no}

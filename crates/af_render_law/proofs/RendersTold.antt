@@ -1,6 +1,6 @@
--- The journal of a render is by itself a turn run, and its summary is that of the journal alone.
+-- The journal of a render is by itself a turn run, its summary is that of the journal alone, and its ends keep the lists of the run.
 use Rattle.af_base.specs.declared.frame.Frame.{Frame}
-use Rattle.std.proofs.Common.{◌≡◌, List}
+use Rattle.std.proofs.Common.{◌≡◌, List, sym, subst}
 use Rattle.af_model.specs.Journals.{JournalData}
 use Rattle.af_runs.specs.Blocks.{Marks}
 use Rattle.af_runs.specs.LegalRuns.{session_of}
@@ -12,9 +12,12 @@ use Rattle.af_session.specs.Ends.{EndsState}
 use Rattle.af_rendering.specs.Rendered.{HandsBack}
 use Rattle.af_session.specs.Shown.{summary_told}
 use Rattle.af_render_law.proofs.Chain.{FastTurnIsAStep, NormalTurnIsAStep}
-use Rattle.af_render_law.specs.RenderLaws.{RendersAreToldAlone, summary_alone}
+use Rattle.af_render_law.specs.Laws.{ToldBy}
+use Rattle.af_render_law.specs.RenderLaws.{RendersAreToldAlone, run_told, summary_alone}
 use Rattle.af_render_law.proofs.FastStep.{fast_turns_step}
 use Rattle.af_render_law.proofs.NormalStep.{normal_turns_step}
+use Rattle.af_told_law.specs.KeptEnds.{KeepsLists}
+use Rattle.af_told_law.proofs.EndsKept.{ends_keep_lists, own_at_home}
 use Rattle.af_told_law.proofs.PartsTold.{parts_told}
 use Rattle.af_render_law.proofs.RenderTold.{parties_counted, parties_told, turn_run}
 use Rattle.af_render_law.proofs.SummaryTold.{summary_is}
@@ -32,8 +35,17 @@ module _ (script : ScriptData) (files : List (List Frame)) (j : JournalData) (en
   pub render_turns : IsTurnRun script files j
   render_turns = turn_run script files form normal fast j ends back
 
+  told : ToldBy s (run_told script files j) back.parties
+  told = parties_told script files form normal fast j ends back
+
   pub render_summed : summary_told script.frames j ends ≡ summary_alone script files j
-  render_summed = summary_is script files j ends back.parties back.ends_are (parties_told script files form normal fast j ends back).told (parties_counted script files form normal fast j ends back)
+  render_summed = summary_is script files j ends back.parties back.ends_are told.told (parties_counted script files form normal fast j ends back)
+
+  pub render_kept : KeepsLists (run_told script files j) ends
+  render_kept =
+      let run = run_told script files j in
+      subst (λ (e : EndsState). KeepsLists run e) (sym back.ends_are)
+      (ends_keep_lists s run told.deeds back.parties told.told (own_at_home s run told.deeds back.parties told.told told.saw))
 
 pub render_told : (script : ScriptData) (files : List (List Frame)) (j : JournalData) (ends : EndsState) → RendersAreToldAlone script files j ends
-render_told script files j ends form back = record { run = render_turns script files j ends form back; summary = render_summed script files j ends form back }
+render_told script files j ends form back = record { run = render_turns script files j ends form back; summary = render_summed script files j ends form back; kept = render_kept script files j ends form back }

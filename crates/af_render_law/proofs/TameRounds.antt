@@ -1,17 +1,15 @@
 -- What is kept of a run between two rounds, so that its next round is one of a turn run: each round of which the lists have histories keeps it.
-use Rattle.std.proofs.Common.{◌≡◌, ℕ, ◌<◌, ◌≤◌, [], Bool, true, false, fold, length, All, Option, Some, None, refl, sym, ap, subst, arith}
+use Rattle.std.proofs.Common.{◌≡◌, ℕ, ◌<◌, ◌≤◌, [], Bool, true, false, fold, length, All, Option, Some, None, refl, sym, subst, arith}
 use Rattle.std.proofs.lemmas.List.FromFn.{length-map-range_with_len}
 use Rattle.std.proofs.lemmas.List.Elements.{All-get_or}
 use Rattle.af_base.specs.Turn.{Turn}
 use Rattle.af_life.specs.declared.kept.Setting.{Setting}
-use Rattle.af_life.specs.Heard.{learnt}
 use Rattle.af_model.specs.ClientCalls as list
 use Rattle.af_model.specs.Journals.{RoundSeen}
 use Rattle.af_script.specs.declared.op.TurnSpec.{TurnSpec}
 use Rattle.af_script.specs.declared.op.TurnSpec.TheVariants as makes
 use Rattle.af_script.specs.Form.{IsScript, IsTrack}
 use Rattle.af_runs.specs.Blocks.{Marks}
-use Rattle.af_runs.specs.Found.{outside_of}
 use Rattle.af_runs.specs.Rounds.{HaveHistories, loaded, turned}
 use Rattle.af_runs.specs.Runs.{Run, new_run, new_track, told_at, with_ends, found_before, met, takes_part}
 use Rattle.af_runs.specs.Sessions.{Session, no_spec, track_count, setup_of}

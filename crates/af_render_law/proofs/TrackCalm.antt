@@ -1,5 +1,5 @@
 -- What holds of a track through each step of a turn run: while its stream block is tame, its server is not shut where it takes part in no meeting.
-use Rattle.std.proofs.Common.{◌≡◌, inl, ℕ, ◌≤◌, Bool, true, false, true≢false, map, List, [], ◌++◌, drop, length, Option, Some, None, refl, sym, ap, ◌∙◌, subst, append-nil}
+use Rattle.std.proofs.Common.{◌≡◌, ℕ, ◌≤◌, Bool, true, false, true≢false, map, List, [], ◌++◌, drop, length, Option, Some, None, refl, sym, ◌∙◌, subst, append-nil}
 use Rattle.af_base.specs.declared.event.ClientCall.{ClientCall}
 use Rattle.af_base.specs.declared.event.HandEvent.{HandEvent}
 use Rattle.af_base.specs.declared.event.ServerEvent.{ServerEvent}

@@ -12,6 +12,7 @@ use Rattle.af_rendering.specs.Rendered.{HandsBack}
 use Rattle.af_session.specs.Shown.{summary_told}
 use Rattle.af_rendering.specs.Alone.{summary_by}
 use Rattle.af_tally.specs.declared.summary.Summary.{Summary}
+use Rattle.af_told_law.specs.KeptEnds.{KeepsLists}
 
 -- the run after all turns of a script, as a journal tells it
 abbrev pub run_told : ScriptData → List (List Frame) → JournalData → Run
@@ -21,10 +22,11 @@ run_told script files j = let s = session_of script files in run_alone s (new_ru
 abbrev pub summary_alone : ScriptData → List (List Frame) → JournalData → Summary
 summary_alone script files j = summary_by script j (run_told script files j)
 
--- What a render hands back: its journal is by itself a turn run of the script and its files, and the summary is that of the journal alone
+-- What a render hands back: its journal is by itself a turn run of the script and its files, the summary is that of the journal alone, and the lists that the ends keep are those of the run that it tells
 pub record IsToldAlone (script : ScriptData) (files : List (List Frame)) (j : JournalData) (ends : EndsState) : Type 0 where
   pub run : IsTurnRun script files j
   pub summary : summary_told script.frames j ends ≡ summary_alone script files j
+  pub kept : KeepsLists (run_told script files j) ends
 
 abbrev pub RendersAreToldAlone : ScriptData → List (List Frame) → JournalData → EndsState → Type 0
 RendersAreToldAlone script files j ends = IsScript script → HandsBack script files j ends → IsToldAlone script files j ends

@@ -79,3 +79,4 @@ pub mod StreamsTurned
 pub mod StreamsEnded
 pub mod PartsTold
 pub mod TakesRise
+pub mod EndsKept

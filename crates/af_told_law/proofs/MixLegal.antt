@@ -1,6 +1,5 @@
 -- An entry of the fast mixer is legal after the run that tells the mixer before it.
-use Rattle.std.proofs.Common.{◌≡◌, ℕ, ◌+◌, ◌<◌, ◌≤◌, true, length, List, ◌++◌, Option, Some, sym, ap, ◌∙◌, subst, arith}
-use Rattle.std.specs.Prelude.{unwrap_or}
+use Rattle.std.proofs.Common.{◌≡◌, ℕ, ◌+◌, ◌<◌, ◌≤◌, true, length, List, ◌++◌, Some, sym, ap, ◌∙◌, subst, arith}
 use Rattle.af_base.specs.declared.event.ServerEvent.{ServerEvent}
 use Rattle.af_base.specs.declared.log.CycleEntry.{CycleEntry}
 use Rattle.af_base.specs.declared.state.FastState.{FastState}
@@ -17,7 +16,6 @@ use Rattle.af_runs.specs.Fronts.{lawful_front}
 use Rattle.af_runs.specs.Rounds.{LegalEntry, found_for}
 use Rattle.af_runs.specs.Runs.{Run, frames_before, state_for, stream_of, with_mix}
 use Rattle.af_runs.specs.Sessions.{Session, cycle_frames}
-use Rattle.af_runs.specs.Told.{state_at}
 use Rattle.af_told_law.specs.Tells.{TellsFast, TellsShared}
 use Rattle.af_runs.proofs.StatesFor.{state_known}
 

@@ -1,6 +1,5 @@
 -- The states that the fast mixer adopted are the first of those that the run tells.
 use Rattle.std.proofs.Common.{◌≡◌, ◌≢◌, ⊎_elim, ℕ, zero, suc, ◌+◌, ◌<◌, ◌≤◌, true≢false, if◌then◌else◌, is_some, fold, List, [], ◌∷◌, ◌++◌, length, length-append, Option, Some, None, refl, sym, ap, subst, ◌∙◌, arith}
-use Rattle.std.specs.Prelude.{unwrap_or}
 use Rattle.std.proofs.lemmas.Bool.{cases_eq, eq-eqb, ne_eqb}
 use Rattle.std.proofs.lemmas.Option.{none-some}
 use Rattle.af_base.specs.declared.log.CycleEntry.{CycleEntry}
@@ -11,7 +10,6 @@ use Rattle.af_model.specs.declared.states.MutatorEvent.TheVariants as mutator
 use Rattle.af_model.specs.declared.states.ObserverEvent.{ObserverEvent}
 use Rattle.af_model.specs.declared.states.ObserverEvent.TheVariants as observer
 use Rattle.af_model.specs.Cycles.{UseUpTo, cold_done, cold_of, is_cold, last_used, state_of}
-use Rattle.af_model.specs.Draft.{initial}
 use Rattle.af_model.specs.Order.{Event, Legal, one, two, twos}
 use Rattle.af_model.specs.StateQueue.{HasHistory, QueuePoint, legal, next, start}
 use Rattle.af_normal.specs.State.{NormalState}

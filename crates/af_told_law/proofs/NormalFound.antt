@@ -26,7 +26,6 @@ use Rattle.af_server.specs.Slot.{listed}
 use Rattle.af_session.specs.Together.{AreTogether, SessionState}
 use Rattle.af_judge.proofs.SoundTurns.{welcomed_at}
 use Rattle.af_told_law.specs.Comers.{ComersTell}
-use Rattle.af_told_law.specs.Marked.{IsMarkedRun}
 use Rattle.af_told_law.specs.Outsides.{AreAlike, FindsBlocks, HeardAlike, IsFound, ListAlike, LooksTold, SawCommands, SawStream, TakeTold}
 use Rattle.af_told_law.specs.Tells.{Tells, TellsServer}
 use Rattle.af_told_law.proofs.AllMeet.{some_at}

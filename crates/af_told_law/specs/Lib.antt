@@ -11,3 +11,4 @@ pub mod Places
 pub mod Outsides
 pub mod Comers
 pub mod NormalLaws
+pub mod KeptEnds

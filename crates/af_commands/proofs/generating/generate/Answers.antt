@@ -1,9 +1,9 @@
 use Rattle.std.proofs.Common.{◌≡◌, ◌∙◌, Err, Ok, ap, subst, sym, rules}
 use Rattle.af_script.specs.Data.{ScriptData}
 use Rattle.af_script.specs.Generated.{generated_script}
-use Rattle.af_commands.specs.Asked.{Loaded, session_of}
-use Rattle.af_commands.specs.Loading.{loaded_view}
-use Rattle.af_commands.specs.Status.{Meets}
+use Rattle.af_offline.specs.Asked.{Loaded, session_of}
+use Rattle.af_offline.specs.Loading.{loaded_view}
+use Rattle.af_offline.specs.Status.{Meets}
 use Rattle.af_commands.proofs.GeneratedSession.{Makes-session, Makes-unloaded}
 use Rattle.af_commands.proofs.generating.generate.Goals as goal
 

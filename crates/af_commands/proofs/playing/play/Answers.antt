@@ -1,12 +1,16 @@
 use Rattle.std.proofs.Common.{◌≡◌, Ok, subst}
 use Rattle.af_playing.specs.PlayKept.{KeepsPlay}
-use Rattle.af_commands.specs.Asked.{Loaded, play_job}
+use Rattle.af_offline.specs.Asked.{Loaded, play_job}
 use Rattle.af_commands.specs.Ends.{Makes}
-use Rattle.af_commands.specs.Loading.{loaded_view}
+use Rattle.af_offline.specs.Loading.{loaded_view}
 use Rattle.af_words.specs.Requests.{Play}
 use Rattle.af_commands.proofs.PlayedFaults.{HasFault-told, SuitsRequest-told}
 use Rattle.af_commands.proofs.PlayedRounds.{Makes-told, some_play_told}
+use Rattle.af_commands.proofs.Served.{files_for}
 use Rattle.af_commands.proofs.playing.play.Goals as goal
+
+pub play-played-requires-after_bounds : goal.play-played-requires-after_bounds
+play-played-requires-after_bounds g c = λ κs lives. files_for c.args.loaded.now c.deref.result.now c.deref.ensures.value c.requires
 
 pub returns-clause-made : goal.returns-clause-made
 returns-clause-made g c = λ told.
@@ -34,6 +38,7 @@ returns-clause-made g c = λ told.
       pushes = p.pushes;
       never_older = p.never_older;
       spared = p.spared;
+      kept = p.kept;
     } in
     subst (λ (l : Loaded). Makes c.tell-told.result (Ok (play_job c.args.target.now c.args.journal.now l)) old new) same
     (Makes-told here c.cycles.result c.cycles.ensures.value c.args.target.now c.args.journal.now old mid new c.play-played.result c.tell-told.result keeps (p.written told) (p.cut told) (p.left told)
@@ -61,6 +66,7 @@ returns-clause-line g c =
       pushes = p.pushes;
       never_older = p.never_older;
       spared = p.spared;
+      kept = p.kept;
     } in
     some_play_told here c.cycles.result c.play-played.result c.tell-told.result keeps c.tell-told.ensures.told
 

@@ -1,10 +1,10 @@
 use Rattle.std.proofs.Common.{◌≡◌, Ok, Result, ap, subst, sym}
 use Rattle.af_io.specs.Files.{Files}
-use Rattle.af_commands.specs.declared.status.Refusal.{Refusal}
-use Rattle.af_commands.specs.Asked.{◌>>=◌, Job, Loaded, play_asked, play_job}
+use Rattle.af_offline.specs.declared.status.Refusal.{Refusal}
+use Rattle.af_offline.specs.Asked.{◌>>=◌, Job, Loaded, play_asked, play_job}
 use Rattle.af_commands.specs.Ends.{Makes}
-use Rattle.af_commands.specs.Loading.{loaded_view}
-use Rattle.af_commands.proofs.Made.{files_are}
+use Rattle.af_offline.specs.Loading.{loaded_view}
+use Rattle.af_offline.proofs.Chains.{files_are}
 use Rattle.af_commands.proofs.playing.play_script.Goals as goal
 
 pub returns-clause-made : goal.returns-clause-made

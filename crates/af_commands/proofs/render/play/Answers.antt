@@ -1,10 +1,14 @@
 use Rattle.std.proofs.Common.{◌≡◌, Ok, subst}
-use Rattle.af_commands.specs.Asked.{Loaded, session_job}
+use Rattle.af_offline.specs.Asked.{Loaded, session_job}
 use Rattle.af_commands.specs.Ends.{Makes}
-use Rattle.af_commands.specs.Loading.{loaded_view}
+use Rattle.af_offline.specs.Loading.{loaded_view}
 use Rattle.af_commands.proofs.Played.{Makes-rendered, some_line_told}
 use Rattle.af_commands.proofs.PlayedFaults.{HasFault-rendered, IsNoUsage-rendered}
+use Rattle.af_commands.proofs.Served.{files_for}
 use Rattle.af_commands.proofs.render.play.Goals as goal
+
+pub render-played-requires : goal.render-played-requires
+render-played-requires g c = files_for c.args.loaded.now c.deref.result.now c.deref.ensures.value c.requires
 
 pub returns-clause-made : goal.returns-clause-made
 returns-clause-made g c = λ told.

@@ -1,10 +1,11 @@
 use Rattle.std.proofs.Common.{◌≡◌, Ok, Result, ap, rules, subst, sym}
 use Rattle.af_io.specs.Files.{Files}
-use Rattle.af_commands.specs.declared.status.Refusal.{Refusal}
-use Rattle.af_commands.specs.Asked.{◌>>=◌, Job, Loaded, loaded_of, render_asked, session_job}
+use Rattle.af_offline.specs.declared.status.Refusal.{Refusal}
+use Rattle.af_offline.specs.Asked.{◌>>=◌, Job, Loaded, loaded_of, render_asked, session_job}
 use Rattle.af_commands.specs.Ends.{Makes}
-use Rattle.af_commands.specs.Loading.{loaded_view}
-use Rattle.af_commands.proofs.Made.{Makes-stopped_before, files_are}
+use Rattle.af_offline.specs.Loading.{loaded_view}
+use Rattle.af_offline.proofs.Chains.{files_are}
+use Rattle.af_commands.proofs.Made.{Makes-stopped_before}
 use Rattle.af_commands.proofs.render.render_script.Goals as goal
 
 pub returns-in_err-loaded-clause-made : goal.returns-in_err-loaded-clause-made

@@ -1,8 +1,8 @@
 use Rattle.std.proofs.Common.{◌≡◌, ◌∙◌, ℕ, List, Ok, Err, Result, Some, String, map, option_map, string_bytes, sym, ap, subst, rules}
 use Rattle.std.specs.declared.alloc.Global.{Global}
 use Rattle.af_io.specs.Causes.{Rose}
-use Rattle.af_commands.specs.declared.status.Refusal.{Refusal}
-use Rattle.af_commands.specs.Asked.{Job, asked_of, job_of}
+use Rattle.af_offline.specs.declared.status.Refusal.{Refusal}
+use Rattle.af_offline.specs.Asked.{Job, asked_of, job_of}
 use Rattle.af_words.specs.Asking.{request_view}
 use Rattle.af_commands.specs.Ends.{Makes, PrintsLine}
 use Rattle.af_words.specs.Requests.{request_of}

@@ -1,13 +1,17 @@
 use Rattle.std.proofs.Common.{◌≡◌, Ok, subst}
 use Rattle.af_playing.specs.PlayKept.{KeepsPlay}
-use Rattle.af_commands.specs.Asked.{Loaded, trace_job}
+use Rattle.af_offline.specs.Asked.{Loaded, trace_job}
 use Rattle.af_commands.specs.Ends.{Makes}
-use Rattle.af_commands.specs.Loading.{loaded_view}
+use Rattle.af_offline.specs.Loading.{loaded_view}
 use Rattle.af_words.specs.Requests.{Trace}
 use Rattle.af_commands.proofs.PlayedFaults.{HasFault-told, SuitsRequest-told}
 use Rattle.af_commands.proofs.PlayedRounds.{some_play_told}
 use Rattle.af_commands.proofs.TracedRounds.{Makes-logged}
+use Rattle.af_commands.proofs.Served.{files_for}
 use Rattle.af_commands.proofs.tracing.trace.Goals as goal
+
+pub play_logged-played-requires-clause-files : goal.play_logged-played-requires-clause-files
+play_logged-played-requires-clause-files g c = λ κs lives. files_for c.args.loaded.now c.deref.result.now c.deref.ensures.value c.requires.files
 
 pub returns-clause-made : goal.returns-clause-made
 returns-clause-made g c = λ told.
@@ -35,6 +39,7 @@ returns-clause-made g c = λ told.
       pushes = p.pushes;
       never_older = p.never_older;
       spared = p.spared;
+      kept = p.kept;
     } in
     subst (λ (l : Loaded). Makes c.tell_with_log-told.result (Ok (trace_job c.args.target.now c.args.journal.now c.args.log.now c.args.room l)) old new) same
     (Makes-logged here c.args.room c.args.target.now c.args.journal.now c.args.log.now old mid new c.deref-2.result.now c.play_logged-played.new.text.items c.new-text.result.items c.deref-2.ensures.value c.new-text.ensures.items
@@ -63,6 +68,7 @@ returns-clause-line g c =
       pushes = p.pushes;
       never_older = p.never_older;
       spared = p.spared;
+      kept = p.kept;
     } in
     some_play_told here c.cycles-cycles.result c.play_logged-played.result c.tell_with_log-told.result keeps c.tell_with_log-told.ensures.told
 

@@ -1,4 +1,4 @@
-use Rattle.std.proofs.Common.{◌≡◌, ◌+◌, ◌<◌, ◌∷◌, List, length, take, drop, string_bytes, subst, sym, rules}
+use Rattle.std.proofs.Common.{◌≡◌, ◌+◌, ◌<◌, ◌∷◌, List, length, take, drop, subst, sym, rules}
 use Rattle.std.specs.List.{flat_map}
 use Rattle.af_base.specs.Log.{entry_at, no_entry}
 use Rattle.af_journal.specs.declared.line.Line.TheVariants as line
@@ -14,8 +14,8 @@ overflow_add-first c = search rules
 pub loop-i-preserved : goal.loop-i-preserved
 loop-i-preserved c = let log = c.args.log.now in let first = c.args.first in let i = c.loop-i.i in let f = logged_entry log.frames in
     let is : c.in-Some.entry.now ≡ entry_at log.entries (first + i) = search rules in
-    let added : GoesOn (string_bytes c.loop-i.text) (f (entry_at log.entries (first + i))) (string_bytes c.add_entry.new.text) = search rules in
+    let added : GoesOn c.loop-i.text.bytes.items (f (entry_at log.entries (first + i))) c.add_entry.new.text.bytes.items = search rules in
     let inside : first + i < length log.entries = search rules in
     let all = numbers line.Fast ∷ flat_map f (take i (drop first log.entries)) in
-    subst (λ (lines : List Written). GoesOn (string_bytes c.args.text.now) (numbers line.Fast ∷ lines) (string_bytes c.add_entry.new.text)) (sym (part-more f log.entries first i no_entry inside))
-    (goes-then (string_bytes c.args.text.now) (string_bytes c.loop-i.text) (string_bytes c.add_entry.new.text) all (f (entry_at log.entries (first + i))) c.loop-i.invariant added)
+    subst (λ (lines : List Written). GoesOn c.args.text.now.bytes.items (numbers line.Fast ∷ lines) c.add_entry.new.text.bytes.items) (sym (part-more f log.entries first i no_entry inside))
+    (goes-then c.args.text.now.bytes.items c.loop-i.text.bytes.items c.add_entry.new.text.bytes.items all (f (entry_at log.entries (first + i))) c.loop-i.invariant added)

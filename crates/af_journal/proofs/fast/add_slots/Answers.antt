@@ -1,4 +1,4 @@
-use Rattle.std.proofs.Common.{◌≡◌, List, string_bytes, subst, sym, rules}
+use Rattle.std.proofs.Common.{◌≡◌, List, subst, sym, rules}
 use Rattle.std.specs.List.{flat_map, range_with_len}
 use Rattle.af_base.specs.Log.{slots}
 use Rattle.af_journal.specs.Lines.{Written}
@@ -9,12 +9,12 @@ use Rattle.af_journal.proofs.fast.add_slots.Goals as goal
 
 pub loop-slot-preserved : goal.loop-slot-preserved
 loop-slot-preserved c = let f = logged_slot c.args.frames.now c.args.entry.now in let i = c.loop-slot.slot in
-    let added : GoesOn (string_bytes c.loop-slot.text) (f i) (string_bytes c.add_slot.new.text) = search rules in
-    subst (λ (lines : List Written). GoesOn (string_bytes c.args.text.now) lines (string_bytes c.add_slot.new.text)) (sym (range-more f i))
-    (goes-then (string_bytes c.args.text.now) (string_bytes c.loop-slot.text) (string_bytes c.add_slot.new.text) (flat_map f (range_with_len 0 i)) (f i) c.loop-slot.invariant added)
+    let added : GoesOn c.loop-slot.text.bytes.items (f i) c.add_slot.new.text.bytes.items = search rules in
+    subst (λ (lines : List Written). GoesOn c.args.text.now.bytes.items lines c.add_slot.new.text.bytes.items) (sym (range-more f i))
+    (goes-then c.args.text.now.bytes.items c.loop-slot.text.bytes.items c.add_slot.new.text.bytes.items (flat_map f (range_with_len 0 i)) (f i) c.loop-slot.invariant added)
 
 pub returns : goal.returns
 unfolding logged_slots
 returns c = let f = logged_slot c.args.frames.now c.args.entry.now in
     let all : c.loop-slot.slot ≡ slots = search rules in
-    subst (λ n. GoesOn (string_bytes c.args.text.now) (flat_map f (range_with_len 0 n)) (string_bytes c.loop-slot.text)) all c.loop-slot.invariant
+    subst (λ n. GoesOn c.args.text.now.bytes.items (flat_map f (range_with_len 0 n)) c.loop-slot.text.bytes.items) all c.loop-slot.invariant

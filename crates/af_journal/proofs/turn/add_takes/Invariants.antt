@@ -1,8 +1,8 @@
-use Rattle.std.proofs.Common.{map, take, string_bytes}
+use Rattle.std.proofs.Common.{map, take}
 use Rattle.std.specs.List.{flat_map}
 use Rattle.af_base.specs.Turn.{take_seen}
 use Rattle.af_journal.specs.Texts.{GoesOn, take_lines}
 use Rattle.af_journal.proofs.turn.add_takes.Given as goal
 
 abbrev pub invariant-loop-take : goal.invariant-loop-take
-invariant-loop-take l = GoesOn (string_bytes l.fn.text) (flat_map take_lines (map take_seen (take l.take-index l.takes))) (string_bytes l.text)
+invariant-loop-take l = GoesOn l.fn.text.bytes.items (flat_map take_lines (map take_seen (take l.take-index l.takes))) l.text.bytes.items

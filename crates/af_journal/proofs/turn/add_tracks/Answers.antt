@@ -1,4 +1,4 @@
-use Rattle.std.proofs.Common.{◌≡◌, ◌<◌, ◌≤◌, ◌∙◌, List, length, map, take, slice_index_or, string_bytes, ap, sym, subst, rules, arith}
+use Rattle.std.proofs.Common.{◌≡◌, ◌<◌, ◌≤◌, ◌∙◌, List, length, map, take, slice_index_or, ap, sym, subst, rules, arith}
 use Rattle.std.proofs.lemmas.List.{get_or-map, length-map, take_all}
 use Rattle.af_base.specs.Turn.{TrackSeen, track_seen}
 use Rattle.af_journal.specs.Lines.{Written}
@@ -12,13 +12,13 @@ loop-i-preserved c = let tracks = c.args.tracks.now in let seen = map track_seen
     let there : i < length seen = let e = length-map tracks track_seen in omega arith in
     let is : here ≡ slice_index_or tracks i here = search rules in
     let same : track_seen here ≡ slice_index_or seen i (track_seen here) = ap track_seen is ∙ sym (get_or-map track_seen tracks i here (track_seen here) inside) in
-    let added : GoesOn (string_bytes c.loop-i.text) (track_lines i (track_seen here)) (string_bytes c.add_track.new.text) = search rules in
-    let at : GoesOn (string_bytes c.loop-i.text) (track_lines i (slice_index_or seen i (track_seen here))) (string_bytes c.add_track.new.text) =
-    subst (λ (t : TrackSeen). GoesOn (string_bytes c.loop-i.text) (track_lines i t) (string_bytes c.add_track.new.text)) same added in
-    subst (λ (lines : List Written). GoesOn (string_bytes c.args.text.now) lines (string_bytes c.add_track.new.text)) (sym (each-next track_lines seen i (track_seen here) there))
-    (goes-then (string_bytes c.args.text.now) (string_bytes c.loop-i.text) (string_bytes c.add_track.new.text) (each_from track_lines 0 (take i seen)) (track_lines i (slice_index_or seen i (track_seen here))) c.loop-i.invariant at)
+    let added : GoesOn c.loop-i.text.bytes.items (track_lines i (track_seen here)) c.add_track.new.text.bytes.items = search rules in
+    let at : GoesOn c.loop-i.text.bytes.items (track_lines i (slice_index_or seen i (track_seen here))) c.add_track.new.text.bytes.items =
+    subst (λ (t : TrackSeen). GoesOn c.loop-i.text.bytes.items (track_lines i t) c.add_track.new.text.bytes.items) same added in
+    subst (λ (lines : List Written). GoesOn c.args.text.now.bytes.items lines c.add_track.new.text.bytes.items) (sym (each-next track_lines seen i (track_seen here) there))
+    (goes-then c.args.text.now.bytes.items c.loop-i.text.bytes.items c.add_track.new.text.bytes.items (each_from track_lines 0 (take i seen)) (track_lines i (slice_index_or seen i (track_seen here))) c.loop-i.invariant at)
 
 pub returns : goal.returns
 returns c = let tracks = c.args.tracks.now in let seen = map track_seen tracks in
     let all : length seen ≤ c.loop-i.i = let e = length-map tracks track_seen in let f : length tracks ≤ c.loop-i.i = search rules in omega arith in
-    subst (λ (l : List TrackSeen). GoesOn (string_bytes c.args.text.now) (each_from track_lines 0 l) (string_bytes c.loop-i.text)) (take_all c.loop-i.i seen all) c.loop-i.invariant
+    subst (λ (l : List TrackSeen). GoesOn c.args.text.now.bytes.items (each_from track_lines 0 l) c.loop-i.text.bytes.items) (take_all c.loop-i.i seen all) c.loop-i.invariant

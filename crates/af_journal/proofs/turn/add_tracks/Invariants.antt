@@ -1,7 +1,7 @@
-use Rattle.std.proofs.Common.{map, take, string_bytes}
+use Rattle.std.proofs.Common.{map, take}
 use Rattle.af_base.specs.Turn.{track_seen}
 use Rattle.af_journal.specs.Texts.{GoesOn, each_from, track_lines}
 use Rattle.af_journal.proofs.turn.add_tracks.Given as goal
 
 abbrev pub invariant-loop-i : goal.invariant-loop-i
-invariant-loop-i l = GoesOn (string_bytes l.fn.text) (each_from track_lines 0 (take l.i (map track_seen l.tracks))) (string_bytes l.text)
+invariant-loop-i l = GoesOn l.fn.text.bytes.items (each_from track_lines 0 (take l.i (map track_seen l.tracks))) l.text.bytes.items

@@ -1,15 +1,13 @@
-use Rattle.std.proofs.Common.{All, length}
+use Rattle.std.proofs.Common.{◌≡◌, All, List, length, take}
 use Rattle.std.specs.List.{flat_map}
+use Rattle.af_base.specs.declared.turn.CommandLook.{CommandLook}
 use Rattle.af_model.specs.JournalForm.{IsCommandLook}
 use Rattle.af_journal.specs.Taken.{Leaves}
 use Rattle.af_journal.specs.Texts.{look_lines}
 use Rattle.af_journal.proofs.turn_reading.read_looks.Given as goal
 
 abbrev pub invariant-looks : goal.invariant-looks
-invariant-looks l = record {
-  lines : Leaves l.initial.left.rest.now (flat_map (look_lines l.track) l.looks.items) l.left.rest.now;
-  form : All IsCommandLook l.looks.items;
-}
+invariant-looks l = (all : List CommandLook) × (l.looks.items ≡ take l.most all) × All IsCommandLook all × Leaves l.initial.left.rest.now (flat_map (look_lines l.track) all) l.left.rest.now
 
 abbrev pub decreases-looks : goal.decreases-looks
 decreases-looks l = length l.left.rest.now

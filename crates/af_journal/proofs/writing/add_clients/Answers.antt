@@ -1,4 +1,4 @@
-use Rattle.std.proofs.Common.{◌<◌, List, [], length, take, slice_index_or, string_bytes, sym, subst, rules}
+use Rattle.std.proofs.Common.{◌<◌, List, [], length, take, slice_index_or, sym, subst, rules}
 use Rattle.af_model.specs.Journals.{round_at}
 use Rattle.af_journal.specs.Lines.{Written}
 use Rattle.af_journal.specs.Texts.{GoesOn, client_lines, each_from}
@@ -8,6 +8,6 @@ use Rattle.af_journal.proofs.writing.add_clients.Goals as goal
 pub loop-track-preserved : goal.loop-track-preserved
 loop-track-preserved c = let calls = (round_at c.args.journal.now c.args.round).calls in let i = c.loop-track.track in
     let inside : i < length calls = search rules in
-    let added : GoesOn (string_bytes c.loop-track.text) (client_lines i (slice_index_or calls i [])) (string_bytes c.add_client.new.text) = search rules in
-    subst (λ (lines : List Written). GoesOn (string_bytes c.args.text.now) lines (string_bytes c.add_client.new.text)) (sym (each-next client_lines calls i [] inside))
-    (goes-then (string_bytes c.args.text.now) (string_bytes c.loop-track.text) (string_bytes c.add_client.new.text) (each_from client_lines 0 (take i calls)) (client_lines i (slice_index_or calls i [])) c.loop-track.invariant added)
+    let added : GoesOn c.loop-track.text.bytes.items (client_lines i (slice_index_or calls i [])) c.add_client.new.text.bytes.items = search rules in
+    subst (λ (lines : List Written). GoesOn c.args.text.now.bytes.items lines c.add_client.new.text.bytes.items) (sym (each-next client_lines calls i [] inside))
+    (goes-then c.args.text.now.bytes.items c.loop-track.text.bytes.items c.add_client.new.text.bytes.items (each_from client_lines 0 (take i calls)) (client_lines i (slice_index_or calls i [])) c.loop-track.invariant added)

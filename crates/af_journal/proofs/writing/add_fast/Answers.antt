@@ -1,4 +1,4 @@
-use Rattle.std.proofs.Common.{◌≡◌, ◌∙◌, ℕ, List, [], length, take, drop, string_bytes, sym, ap, subst, rules, refl, arith, All}
+use Rattle.std.proofs.Common.{◌≡◌, ◌∙◌, ℕ, List, [], length, take, drop, sym, ap, subst, rules, refl, arith, All}
 use Rattle.std.proofs.lemmas.List.{length-map}
 use Rattle.af_base.specs.declared.frame.Frame.{Frame}
 use Rattle.af_base.specs.declared.log.CycleEntry.{CycleEntry}
@@ -33,5 +33,5 @@ returns c = let j = c.args.journal.now in let log = c.log-log.result.now in let 
     ∙ ap (λ l. at l (length (entries_of (take c.args.round j.rounds))) (length (round_at j c.args.round).entries)) c.log-log.ensures.entries
     ∙ ap (λ n. at log.entries n (length (round_at j c.args.round).entries)) (sym c.cycles-first.ensures.first)
     ∙ ap (λ n. at log.entries c.cycles-first.result.0 n) (sym c.cycles-first.ensures.count) in
-    let added : GoesOn (string_bytes c.args.text.now) (at log.entries c.cycles-first.result.0 c.cycles-first.result.1) (string_bytes c.add_entries.new.text) = search rules in
-    subst (λ (lines : List Written). GoesOn (string_bytes c.args.text.now) lines (string_bytes c.add_entries.new.text)) (sym same) added
+    let added : GoesOn c.args.text.now.bytes.items (at log.entries c.cycles-first.result.0 c.cycles-first.result.1) c.add_entries.new.text.bytes.items = search rules in
+    subst (λ (lines : List Written). GoesOn c.args.text.now.bytes.items lines c.add_entries.new.text.bytes.items) (sym same) added

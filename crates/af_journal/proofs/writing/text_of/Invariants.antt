@@ -1,7 +1,7 @@
-use Rattle.std.proofs.Common.{◌≡◌, take, string_bytes}
+use Rattle.std.proofs.Common.{◌≡◌, take}
 use Rattle.std.specs.List.{flat_map}
 use Rattle.af_journal.specs.Texts.{round_lines, text_of_lines}
 use Rattle.af_journal.proofs.writing.text_of.Given as goal
 
 abbrev pub invariant-loop-round : goal.invariant-loop-round
-invariant-loop-round l = string_bytes l.text ≡ text_of_lines (flat_map round_lines (take l.round l.journal.rounds))
+invariant-loop-round l = l.text.bytes.items ≡ text_of_lines (flat_map round_lines (take l.round l.journal.rounds))

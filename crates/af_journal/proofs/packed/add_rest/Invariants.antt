@@ -1,0 +1,8 @@
+use Rattle.std.proofs.Common.{◌≡◌, ◌++◌, map, take}
+use Rattle.std.specs.List.{flat_map}
+use Rattle.af_base.specs.Sample.{packed_word}
+use Rattle.af_journal.specs.Lines.{hex_word}
+use Rattle.af_journal.proofs.packed.add_rest.Given as goal
+
+abbrev pub invariant-loop-frame : goal.invariant-loop-frame
+invariant-loop-frame l = l.text.bytes.items ≡ l.fn.text.bytes.items ++ flat_map hex_word (map packed_word (take l.frame-index l.frames))

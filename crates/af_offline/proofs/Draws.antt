@@ -1,0 +1,65 @@
+-- One draw after another.
+use Rattle.std.proofs.Common.{◌≡◌, ℕ, zero, suc, ◌+◌, ◌*◌, List, [], ◌++◌, length, refl, sym, ap, ◌∙◌, arith, append_assoc, append-nil, add-one}
+use Rattle.af_base.specs.Sample.{sample_bytes}
+use Rattle.af_offline.specs.Generated.{next_draw, drawn, sample_of, drawn_bytes, samples_of, samples_before, generated_file}
+
+drawn-more : (x count : ℕ) → drawn x (suc count) ≡ next_draw (drawn x count)
+unfolding drawn
+drawn-more x zero = refl
+drawn-more x (suc count) = drawn-more (next_draw x) count
+
+-- one more draw
+pub drawn_next : (x count : ℕ) → drawn x (count + 1) ≡ next_draw (drawn x count)
+drawn_next x count = ap (drawn x) (add-one count) ∙ drawn-more x count
+
+pub drawn_none : (x : ℕ) → drawn x 0 ≡ x
+unfolding drawn
+drawn_none x = refl
+
+-- some draws, and then others
+pub drawn_behind : (x first count : ℕ) → drawn (drawn x first) count ≡ drawn x (first + count)
+unfolding drawn
+drawn_behind x zero count = ap (drawn x) (let same : count ≡ 0 + count = omega arith in same)
+drawn_behind x (suc first) count = drawn_behind (next_draw x) first count ∙ ap (drawn x) (let same : suc (first + count) ≡ suc first + count = omega arith in same)
+
+drawn_bytes-more : (x count : ℕ) → drawn_bytes x (suc count) ≡ drawn_bytes x count ++ sample_bytes (sample_of (next_draw (drawn x count)))
+unfolding drawn drawn_bytes
+drawn_bytes-more x zero = append-nil (sample_bytes (sample_of (next_draw x)))
+drawn_bytes-more x (suc count) =
+    let first : List ℕ = sample_bytes (sample_of (next_draw x)) in
+    ap (λ (bytes : List ℕ). first ++ bytes) (drawn_bytes-more (next_draw x) count)
+    ∙ sym (append_assoc first (drawn_bytes (next_draw x) count) (sample_bytes (sample_of (next_draw (drawn (next_draw x) count)))))
+
+pub drawn_bytes_next : (x count : ℕ) → drawn_bytes x (count + 1) ≡ drawn_bytes x count ++ sample_bytes (sample_of (next_draw (drawn x count)))
+drawn_bytes_next x count = ap (drawn_bytes x) (add-one count) ∙ drawn_bytes-more x count
+
+pub drawn_bytes_none : (x : ℕ) → drawn_bytes x 0 ≡ []
+unfolding drawn_bytes
+drawn_bytes_none x = refl
+
+-- each sample has two bytes
+drawn_length : (x count : ℕ) → length (drawn_bytes x count) ≡ 2 * count
+unfolding drawn_bytes
+drawn_length x zero = omega arith
+drawn_length x (suc count) =
+    let more : length (drawn_bytes (next_draw x) count) ≡ 2 * count = drawn_length (next_draw x) count in
+    omega (arith, more)
+
+pub file_length : (number track : ℕ) → length (generated_file number track) ≡ 2 * samples_of track
+unfolding generated_file
+file_length number track = drawn_length (drawn number (samples_before track)) (samples_of track)
+
+-- where a track's file ends the next one begins
+drawn_track : (number track : ℕ) → drawn (drawn number (samples_before track)) (samples_of track) ≡ drawn number (samples_before (track + 1))
+drawn_track number track =
+    drawn_behind number (samples_before track) (samples_of track)
+    ∙ ap (drawn number) (let same : samples_before track + samples_of track ≡ samples_before (track + 1) = omega arith in same)
+
+-- what is drawn where the files before it ended is the track's file
+pub file_is : (number track state : ℕ) (bytes : List ℕ) → state ≡ drawn number (samples_before track) → bytes ≡ drawn_bytes state (samples_of track) → bytes ≡ generated_file number track
+unfolding generated_file
+file_is number track state bytes at is = is ∙ ap (λ (x : ℕ). drawn_bytes x (samples_of track)) at
+
+-- and the state behind it is where the next one begins
+pub state_is : (number track state after : ℕ) → state ≡ drawn number (samples_before track) → after ≡ drawn state (samples_of track) → after ≡ drawn number (samples_before (track + 1))
+state_is number track state after at is = is ∙ ap (λ (x : ℕ). drawn x (samples_of track)) at ∙ drawn_track number track

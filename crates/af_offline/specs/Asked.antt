@@ -1,0 +1,215 @@
+-- What the words ask for, of the files that are there: what is to be made, or the first refusal in order.
+use Rattle.std.specs.Prelude.{ℕ, ◌+◌, ◌%◌, ◌^◌, nat_le, ◌==◌, Bool, false, List, [], ◌∷◌, length, Option, Some, None, ok_or, Result, Ok, Err, if◌then◌else◌}
+use Rattle.af_base.specs.declared.frame.Frame.{Frame}
+use Rattle.af_base.specs.Sample.{pcm_bytes}
+use Rattle.af_io.specs.Files.{Files}
+use Rattle.af_io.specs.Outputs.{NamedFile}
+use Rattle.af_io.specs.Pcm.{frames_from, frame_width}
+use Rattle.af_script.specs.Data.{ScriptData}
+use Rattle.af_script.specs.Generated.{generated_script}
+use Rattle.af_script.specs.Reading.{script_of}
+use Rattle.af_script.specs.declared.track.TrackSpec.{TrackSpec}
+use Rattle.af_script.specs.declared.fault.ScriptFault.{ScriptFault}
+use Rattle.af_party.specs.Works.{frames_to_come}
+use Rattle.af_offline.specs.declared.status.Refusal.{Refusal}
+use Rattle.af_offline.specs.declared.status.Refusal.TheVariants.{Usage, Script, File}
+use Rattle.af_offline.specs.declared.status.Role.{Role}
+use Rattle.af_offline.specs.declared.status.Role.TheVariants as role
+use Rattle.af_offline.specs.declared.status.Why.TheVariants.{Missing, Long, Ragged, Short, Total}
+use Rattle.af_words.specs.declared.request.Sizes.{Sizes}
+use Rattle.af_words.specs.declared.request.Turns.{Turns}
+use Rattle.af_words.specs.Requests.{Request, Render, Record, Loop, Generate, Play, Verify, Trace, request_of}
+use Rattle.af_offline.specs.Recorded.{heard, recorded, counts_of}
+use Rattle.af_offline.specs.Looped.{most_buffer, looped, rolls_of}
+use Rattle.af_offline.specs.Generated.{generated_files, generated_frames}
+use Rattle.af_offline.specs.Line.{counts_text, rolls_text}
+
+-- one step and then another, up to the first refusal
+infixl 10 ◌>>=◌
+abbrev pub ◌>>=◌ : {X Y : Type 0} → Result X Refusal → (X → Result Y Refusal) → Result Y Refusal
+Ok x >>= next = next x
+Err refusal >>= next = Err refusal
+
+-- one more value before those of the steps that follow
+abbrev pub then_cons : {X : Type 0} → X → Result (List X) Refusal → Result (List X) Refusal
+then_cons x rest = rest >>= (λ xs. Ok (x ∷ xs))
+
+-- what is to be made: these bytes and this line, or what the turns of a script come to with the frames of its tracks' files, or what its parties come to in rounds, with the journal in a file of this name; or the same with the log, which has this room, in another; or a sound and the text of its journal are judged by a script and the frames of its tracks' files, and nothing is made
+pub data Work : Type 0 where
+  Exact : List ℕ → List ℕ → Work
+  Session : ScriptData → List (List Frame) → Work
+  Rounds : ScriptData → List (List Frame) → List ℕ → Work
+  Judge : ScriptData → List (List Frame) → List ℕ → List ℕ → Work
+  Traced : ScriptData → List (List Frame) → List ℕ → List ℕ → ℕ → Work
+
+-- the files that are made first, the output's name, and what is to be made
+pub record Job : Type 0 where
+  pub first : List NamedFile
+  pub target : List ℕ
+  pub work : Work
+
+-- ## Files
+
+-- the limits of a script, of a file and of all files, in bytes
+abbrev pub most_script : ℕ
+most_script = 2 ^ 20
+
+abbrev pub most_file : ℕ
+most_file = 2 ^ 23
+
+abbrev pub most_files : ℕ
+most_files = 2 ^ 24
+
+-- the limit of a journal
+abbrev pub most_journal : ℕ
+most_journal = 2 ^ 30
+
+-- a file of at most so many bytes
+abbrev pub loaded : Role → ℕ → Option (List ℕ) → Result (List ℕ) Refusal
+loaded part limit None = Err (File (record { role = part; why = Missing }))
+loaded part limit (Some bytes) = if nat_le (length bytes) limit then Ok bytes else Err (File (record { role = part; why = Long }))
+
+-- a file's bytes, where those of the files so far are not too many
+abbrev pub counted : ℕ → ℕ → List ℕ → Result (List ℕ) Refusal
+counted number total bytes =
+    if nat_le (total + length bytes) most_files then Ok bytes else Err (File (record { role = role.Track number; why = Total (total + length bytes) }))
+
+-- the frames of a track's file that is no part of a frame too long
+abbrev pub frames_in : ℕ → Bool → List ℕ → Result (List Frame) Refusal
+frames_in number mono bytes =
+    if length bytes % frame_width mono == 0 then Ok (frames_from mono bytes) else Err (File (record { role = role.Track number; why = Ragged (length bytes) }))
+
+-- the frames of a track's file, where they are as many as its client writes
+abbrev pub enough_of : ℕ → ℕ → List Frame → Result (List Frame) Refusal
+enough_of number asked frames =
+    if nat_le asked (length frames) then Ok frames else Err (File (record { role = role.Track number; why = Short (length frames) asked }))
+
+-- ## Scripts
+
+-- a script, or the line of its first fault
+abbrev pub script_or : Result ScriptData ScriptFault → Result ScriptData Refusal
+script_or (Ok script) = Ok script
+script_or (Err fault) = Err (Script fault)
+
+-- the frames of the file of a track with a number, behind files of so many bytes, and the bytes of the files up to it
+abbrev pub track_in : Files → ℕ → ℕ → TrackSpec → Result (List Frame × ℕ) Refusal
+track_in files number total track =
+    loaded (role.Track number) most_file (files track.file) >>= counted number total >>= (λ bytes. frames_in number track.mono bytes >>= enough_of number (frames_to_come track.ops) >>= (λ frames.
+    Ok (frames, total + length bytes)))
+
+-- the frames of the files of tracks, from a number on
+abbrev pub tracks_in : Files → ℕ → ℕ → List TrackSpec → Result (List (List Frame)) Refusal
+tracks_in files number total [] = Ok []
+tracks_in files number total (track ∷ rest) = track_in files number total track >>= (λ one. then_cons one.0 (tracks_in files (number + 1) one.1 rest))
+
+-- a script, with the frames of its tracks' files
+pub record Loaded : Type 0 where
+  pub script : ScriptData
+  pub files : List (List Frame)
+
+abbrev pub session_of : Files → ScriptData → Result Loaded Refusal
+session_of files script = tracks_in files 0 0 script.tracks >>= (λ frames. Ok (record { script = script; files = frames }))
+
+-- the script in a file, with the frames of its tracks' files
+abbrev pub loaded_of : Files → List ℕ → Result Loaded Refusal
+loaded_of files name = loaded role.Script most_script (files name) >>= (λ bytes. script_or (script_of bytes) >>= session_of files)
+
+-- a script is played
+abbrev pub session_job : List ℕ → Loaded → Job
+session_job target l = record { first = []; target = target; work = Session l.script l.files }
+
+-- a script is played in rounds, with its journal in a file of this name
+abbrev pub play_job : List ℕ → List ℕ → Loaded → Job
+play_job target journal l = record { first = []; target = target; work = Rounds l.script l.files journal }
+
+-- a sound and the text of its journal, with the script and the files that they are judged by
+pub record Case : Type 0 where
+  pub loaded : Loaded
+  pub pcm : List ℕ
+  pub text : List ℕ
+
+-- they are judged
+abbrev pub verify_job : List ℕ → Case → Job
+verify_job sound c = record { first = []; target = sound; work = Judge c.loaded.script c.loaded.files c.pcm c.text }
+
+-- the same, with its log in a file of another
+abbrev pub trace_job : List ℕ → List ℕ → List ℕ → ℕ → Loaded → Job
+trace_job target journal log room l = record { first = []; target = target; work = Traced l.script l.files journal log room }
+
+-- ## Recordings and loops
+
+-- the frames of a file that is recorded
+abbrev pub recorded_from : Files → List ℕ → Result (List Frame) Refusal
+recorded_from files input = loaded (role.Track 0) most_file (files input) >>= frames_in 0 false
+
+-- one frame or more
+abbrev pub some_frames : List Frame → Result (List Frame) Refusal
+some_frames [] = Err (File (record { role = role.Track 0; why = Short 0 1 }))
+some_frames (frame ∷ frames) = Ok (frame ∷ frames)
+
+-- the frames of a stereo file that has some
+abbrev pub buffer_in : List ℕ → Result (List Frame) Refusal
+buffer_in bytes = frames_in 0 false bytes >>= some_frames
+
+-- frames are recorded
+abbrev pub record_job : List ℕ → Sizes → List Frame → Job
+record_job target sizes frames = record { first = []; target = target; work = Exact (pcm_bytes (heard (recorded sizes frames))) (counts_text (counts_of sizes frames)) }
+
+-- the frames of a file that is looped
+abbrev pub looped_from : Files → List ℕ → Result (List Frame) Refusal
+looped_from files input = loaded (role.Track 0) most_buffer (files input) >>= (λ bytes. buffer_in bytes)
+
+-- frames are looped
+abbrev pub loop_job : List ℕ → Turns → List Frame → Job
+loop_job target turns frames = record { first = []; target = target; work = Exact (pcm_bytes (looped turns frames)) (rolls_text (rolls_of turns frames)) }
+
+-- ## Sessions that are generated
+
+-- the session of a number is played, once its tracks' files and its script are written
+abbrev pub generated_job : ℕ → List ℕ → List ℕ → Job
+generated_job number script target = record { first = generated_files number script; target = target; work = Session generated_script (generated_frames number) }
+
+-- ## Requests
+
+-- what is made of a script, for an output of this name
+abbrev pub render_asked : Files → List ℕ → List ℕ → Result Job Refusal
+render_asked files script target = loaded_of files script >>= (λ l. Ok (session_job target l))
+
+-- what is made of a script that is played, for an output and a journal of these names
+abbrev pub play_asked : Files → List ℕ → List ℕ → List ℕ → Result Job Refusal
+play_asked files script target journal = loaded_of files script >>= (λ l. Ok (play_job target journal l))
+
+-- what is judged: a sound and a journal in files of these names, behind the script and its tracks' files
+abbrev pub case_of : Files → List ℕ → List ℕ → List ℕ → Result Case Refusal
+case_of files script sound journal =
+    loaded_of files script >>= (λ l. loaded role.Pcm most_file (files sound) >>= (λ pcm. loaded role.Journal most_journal (files journal) >>= (λ text.
+    Ok (record { loaded = l; pcm = pcm; text = text }))))
+
+abbrev pub verify_asked : Files → List ℕ → List ℕ → List ℕ → Result Job Refusal
+verify_asked files script sound journal = case_of files script sound journal >>= (λ c. Ok (verify_job sound c))
+
+-- the same with a log, of this name and this room
+abbrev pub trace_asked : Files → List ℕ → List ℕ → List ℕ → List ℕ → ℕ → Result Job Refusal
+trace_asked files script target journal log room = loaded_of files script >>= (λ l. Ok (trace_job target journal log room l))
+
+-- what is made of a file that is recorded
+abbrev pub record_asked : Files → List ℕ → List ℕ → Sizes → Result Job Refusal
+record_asked files input target sizes = recorded_from files input >>= (λ frames. Ok (record_job target sizes frames))
+
+-- what is made of a file that is looped
+abbrev pub loop_asked : Files → List ℕ → List ℕ → Turns → Result Job Refusal
+loop_asked files input target turns = looped_from files input >>= (λ frames. Ok (loop_job target turns frames))
+
+-- what a request asks for
+abbrev pub job_of : Files → Request → Result Job Refusal
+job_of files (Render script target) = render_asked files script target
+job_of files (Record input target sizes) = record_asked files input target sizes
+job_of files (Loop input target turns) = loop_asked files input target turns
+job_of files (Generate number script target) = Ok (generated_job number script target)
+job_of files (Play script target journal) = play_asked files script target journal
+job_of files (Verify script sound journal) = verify_asked files script sound journal
+job_of files (Trace script target journal log room) = trace_asked files script target journal log room
+
+-- what the words ask for
+abbrev pub asked_of : Files → List (List ℕ) → Result Job Refusal
+asked_of files words = ok_or (request_of words) Usage >>= job_of files

@@ -1,0 +1,11 @@
+pub mod Asking
+pub mod Recorded
+pub mod Captured
+pub mod Looped
+pub mod Rolled
+pub mod Line
+pub mod Generated
+pub mod Asked
+pub mod Loading
+pub mod Status
+pub mod Verified

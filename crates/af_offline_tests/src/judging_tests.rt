@@ -1,0 +1,303 @@
+//! What is found of journals and their sounds: legal ones, and each kind of damage.
+use crate::shared::numbered;
+use af_io::MemStore;
+use af_offline::{Stop, judge, load_case};
+use std::alloc::Global;
+use std::process::Abort;
+use std::test::Fail;
+
+/// One track that plays two frames to their end, with more cycles than it can take.
+const WHOLE: &str =
+    "version = 1\nframes = 2\nnormal = 1\ncycles = 2000\n[[track]]\nkind = \"fast\"\nframes = 8\nchannels = 2\nfile = \"in.pcm\"\nops = [\"open\", \"start\", \"write 2\", \"stop\", \"drain\", \"remove\"]\n";
+
+/// What is found in a store, or what stopped it.
+fn verified(alloc: Global, mut store: MemStore) -> Result<String, Stop> {
+    let case = load_case(alloc, &mut store, "one.toml", "out.pcm", "out.txt")?;
+    judge(alloc, &case)
+}
+
+/// The line of what was found.
+fn line_told(alloc: Global, found: Result<String, Stop>) -> Result<String, Fail> {
+    match found {
+        Ok(line) => Ok(line),
+        Err(Stop::Over(ending)) => Ok(format!(in alloc; "{ending}")?),
+        Err(_) => Ok(String::new(alloc)),
+    }
+}
+
+/// Verifies what is in a store.
+fn expect_verdict<R: Abort>(
+    rt: &R,
+    alloc: Global,
+    store: MemStore,
+    line: &str,
+) -> Result<(), Fail> {
+    let told = line_told(alloc, verified(alloc, store))?;
+    assert!(rt; told.as_str() == line, "{line}");
+    Ok(())
+}
+
+/// A journal of a play of that script: up to its first cycle, one quiet cycle of fifteen, what comes before eight more, and what comes behind them.
+const FIRST: &str =
+    "R\nC 0\ns 0 1 0\ns 0 2 0\nt 0\nN 8 1 1\nq 0 0 0 e\nP 0\nF\ny 0 1\nR\nC 0\nt 514\np 0 2\nk 0\ns 4 4 2\nt 514\nN 8 1 2\nq 0 0 4 f 2\nh 0000000100000000\nq 0 0 4 f 2\nh 0000000200000000\nq 0 0 4 e\na 0 514\nP 1 1\nF\ny 0 1\nR\nC 0\nt 514\nN 8 1 7\nq 0 0 6 f 2\nh 0000000400000002\nq 0 0 6 e\na 0 791\nP 0\nF\ny 1 0\nz 0 4096 0 268439552 0 0 e\nz 1 4096 0 268439552 0 2 f 2\nh 0001000100020002\n";
+
+const QUIET: &str = "y 1 0\nz 0 4096 0 268439552 0 0 e\nz 1 4096 0 268439552 0 2 e\n";
+
+const MIDDLE: &str = "R\nC 0\nt 792\ns 6 6 0\nN 8 1 25\nq 0 0 6 e\na 0 792\nP 1 2\nF\n";
+
+const LAST: &str =
+    "y 2 2\nR\nN 8 1 28\nq 0 0 8 f 2\nh 0000000600000000\nq 0 0 8 e\na 0 1048\nP 1 3\nF\ny 2 1\nR\nN 8 0 28\nP 0\nF\ny 3 3\nR\nE\n";
+
+/// What comes before sixteen silent cycles in a journal of a track without frames, one of them, and what comes behind them.
+const BEGUN: &str =
+    "R\nC 0\ns 0 1 0\ns 0 2 0\nt 0\nN 8 1 0\nq 0 0 2 f 2\nh 0000000100000000\nq 0 0 4 f 2\nh 0000000200000000\nq 0 0 4 e\na 0 514\nP 1 1\nF\ny 0 1\nR\nC 0\nt 514\ns 4 4 0\nt 514\nN 8 1 1\nq 0 0 6 f 2\nh 0000000400000000\nq 0 0 6 e\na 0 791\nP 0\nF\n";
+
+const STILL: &str = "y 1 0\nz 0 4096 0 268439552 0 0 e\nz 1 4096 0 268439552 0 0 e\n";
+
+const ENDED: &str =
+    "R\nC 0\nt 792\ns 6 6 0\nN 8 1 17\nq 0 0 6 e\na 0 792\nP 1 2\nF\ny 2 2\nR\nN 8 1 18\nq 0 0 8 f 2\nh 0000000600000000\nq 0 0 8 e\na 0 1048\nP 1 3\nF\ny 3 3\nR\nE\n";
+
+/// Its script.
+const EMPTY: &str =
+    "version = 1\nframes = 2\nnormal = 1\ncycles = 1024\n[[track]]\nkind = \"fast\"\nframes = 8\nchannels = 2\nfile = \"in.pcm\"\nops = [\"open\", \"start\", \"stop\", \"drain\", \"remove\"]\n";
+
+/// A script of two tracks, of which one starts a turn later.
+const LATE: &str =
+    "version = 1\nframes = 2\nnormal = 1\ncycles = 300\n[[track]]\nkind = \"fast\"\nframes = 4\nchannels = 2\nfile = \"in.pcm\"\nops = [\"open\", \"start\"]\n[[track]]\nkind = \"fast\"\nframes = 4\nchannels = 2\nfile = \"in.pcm\"\nops = [\"open\", \"yield\", \"start\", \"write 1\", \"stop\", \"drain\"]\n";
+
+/// A journal of it that no order of a play makes. The later track is attached in round 1, whose push is Busy; the normal mixer's turn of round 2 pushes its state, and loads the report of the entries behind that push. What comes before sixteen silent cycles, before fifteen more, and behind them.
+const ATTACHED: &str =
+    "R\nC 0\ns 0 1 0\ns 0 2 0\nt 0\nC 1\ns 0 1 0\nN 8 1 1\nq 0 0 4 f 2\nh 0000000100000000\nq 0 0 4 f 2\nh 0000000200000000\nq 0 0 4 e\na 0 514\nq 1 0 2 f 2\nh 0000000100000000\nq 1 0 2 e\na 1 257\nP 1 1\nF\ny 0 1\nR\nC 0\nt 514\ns 4 6 0\nC 1\ns 2 2 0\nt 257\nN 8 0 1\nq 0 0 6 f 2\nh 0000000600000000\nq 0 0 6 e\na 0 770\nq 1 0 4 f 2\nh 0000000200000000\nq 1 0 4 e\na 1 514\nP 2 0 1\nF\n";
+
+const LOADED: &str =
+    "R\nC 1\nt 514\np 0 1\nk 0\ns 4 4 1\nt 514\nN 8 1 33\nq 1 0 6 f 2\nh 0000000400000001\nq 1 0 6 e\na 1 791\nP 1 2\nF\ny 2 0\nz 0 4096 0 268439552 0 0 e\nz 2 4096 0 268439552 0 1 f 1\nh 00010001\n";
+
+const TAKEN: &str = "y 2 0\nz 0 4096 0 268439552 0 0 e\nz 2 4096 0 268439552 0 1 e\n";
+
+const LEFT: &str =
+    "R\nC 1\nt 791\nN 8 1 33\nq 1 0 6 e\na 1 792\nP 1 3\nF\ny 3 2\nR\nC 1\nt 792\ns 6 6 0\nN 8 1 34\nq 1 0 8 f 2\nh 0000000600000000\nq 1 0 8 e\na 1 1048\nP 1 4\nF\ny 4 3\nR\nE\n";
+
+/// A played session: its script, the bytes of its file, the silent bytes of its sound that come before them, and all bytes of its sound.
+type Session<'a> = (&'a str, usize, usize, usize);
+
+const HEARD_SESSION: Session<'static> = (WHOLE, 8, 0, 192);
+
+const UNHEARD_SESSION: Session<'static> = (EMPTY, 0, 0, 128);
+
+const LATE_SESSION: Session<'static> = (LATE, 4, 128, 256);
+
+/// So many bytes of a journal, from a place on, replaced by a text, and what is found then.
+type Damage<'a> = (usize, usize, &'a str, &'a str);
+
+/// Adds a text so many times.
+fn add(text: &mut Vec<u8>, part: &str, times: usize) -> Result<(), Fail> {
+    for _ in 0..times {
+        text.extend_from_slice(part.as_bytes())?;
+    }
+    Ok(())
+}
+
+/// A text of parts, each so many times.
+fn text_of(alloc: Global, parts: &[(&str, usize)]) -> Result<Vec<u8>, Fail> {
+    let mut text = Vec::new(alloc);
+    for (part, times) in parts {
+        add(&mut text, part, *times)?;
+    }
+    Ok(text)
+}
+
+/// The parts of the journal.
+const WHOLE_PARTS: &[(&str, usize)] = &[
+    (FIRST, 1),
+    (QUIET, 15),
+    (MIDDLE, 1),
+    (QUIET, 8),
+    (LAST, 1),
+];
+
+/// The parts of the other journal.
+const SILENT_PARTS: &[(&str, usize)] = &[(BEGUN, 1), (STILL, 16), (ENDED, 1)];
+
+/// The parts of the journal of two tracks.
+const LATE_PARTS: &[(&str, usize)] = &[
+    (ATTACHED, 1),
+    (STILL, 16),
+    (LOADED, 1),
+    (TAKEN, 15),
+    (LEFT, 1),
+];
+
+/// A text in which bytes are replaced.
+fn damaged(
+    alloc: Global,
+    whole: &[u8],
+    (place, length, new, _): Damage<'_>,
+) -> Result<Vec<u8>, Fail> {
+    let mut text = Vec::new(alloc);
+    for (at, byte) in whole.iter().enumerate() {
+        if at == place {
+            add(&mut text, new, 1)?;
+        }
+        if at < place || at - place >= length {
+            text.push(*byte)?;
+        }
+    }
+    Ok(text)
+}
+
+/// The sound of a session: its frames, and before and behind them silence.
+fn sound_of(alloc: Global, (_, length, before, bytes): Session<'_>) -> Result<Vec<u8>, Fail> {
+    let frames = numbered(alloc, length)?;
+    let mut sound = Vec::new(alloc);
+    add(&mut sound, "\0", before)?;
+    sound.extend_from_slice(&frames)?;
+    let made = sound.len();
+    for _ in made..bytes {
+        sound.push(0)?;
+    }
+    Ok(sound)
+}
+
+/// A store with a session, its sound and a journal.
+fn judged(alloc: Global, session: Session<'_>, journal: &[u8]) -> Result<MemStore, Fail> {
+    let sound = sound_of(alloc, session)?;
+    let file = numbered(alloc, session.1)?;
+    let mut store = MemStore::new(alloc, Vec::new(alloc));
+    store.put("one.toml", session.0.as_bytes())?;
+    store.put("in.pcm", &file)?;
+    store.put("out.pcm", &sound)?;
+    store.put("out.txt", journal)?;
+    Ok(store)
+}
+
+/// A sound and a journal, with what is found.
+const SOUNDS: &[(Session<'static>, &[(&str, usize)], &str)] = &[
+    (HEARD_SESSION, WHOLE_PARTS, "legal\n"),
+    ((WHOLE, 8, 0, 193), WHOLE_PARTS, "refused: pcm 192\n"),
+    (UNHEARD_SESSION, SILENT_PARTS, "legal\n"),
+    ((EMPTY, 0, 0, 129), SILENT_PARTS, "refused: pcm 128\n"),
+];
+
+/// The journals are legal, and with one byte more a sound is refused at its end.
+#[test]
+fn journals_are_legal(rt: HostRuntime) -> Result<(), Fail> {
+    let alloc = rt.alloc();
+    for (session, parts, line) in SOUNDS {
+        let journal = text_of(alloc, parts)?;
+        let store = judged(alloc, *session, &journal)?;
+        expect_verdict(&rt, alloc, store, line)?;
+    }
+    Ok(())
+}
+
+/// Each kind of line damaged, one left out, and cuts before each round and behind the last; and what a damage that no reader can tell leaves: a legal journal.
+const DAMAGES: &[Damage<'static>] = &[
+    (0, 2, "", "line 1"),
+    (2, 4, "C 1\n", "line 2"),
+    (6, 8, "s 0 3 0\n", "round 0 party 0"),
+    (14, 8, "s 0 2 1\n", "round 0 party 0"),
+    (14, 8, "", "round 0 party 0"),
+    (62, 6, "t 2\n", "round 1 party 0"),
+    (68, 6, "p 0 1\n", "round 1 party 0"),
+    (74, 4, "k 1\n", "legal"),
+    (74, 4, "", "round 1 party 0"),
+    (26, 8, "N 7 1 1\n", "round 0 party 1"),
+    (92, 8, "N 8 0 2\n", "round 1 party 1"),
+    (206, 8, "N 8 1 8\n", "legal"),
+    (1270, 9, "N 8 1 1\n", "round 3 party 1"),
+    (100, 12, "q 0 0 4 e\n", "line 20"),
+    (112, 19, "h 0000000200000000\n", "round 1 party 0"),
+    (331, 19, "h 0001000100030003\n", "round 2 party 0"),
+    (172, 8, "a 0 515\n", "round 1 party 0"),
+    (180, 6, "P 0\n", "round 1 party 1"),
+    (1297, 6, "P 1 3\n", "round 3 party 1"),
+    (48, 2, "", "line 9"),
+    (50, 6, "y 0 2\n", "round 0 party 2"),
+    (269, 6, "y 2 0\n", "round 2 party 1"),
+    (1883, 6, "y 3 1\n", "round 5 party 2"),
+    (275, 27, "z 0 4096 0 268439552 0 0 f 1\n", "line 40"),
+    (383, 27, "z 1 4096 0 268439552 0 4 e\n", "round 2 party 0"),
+    (383, 27, "", "round 2 party 2"),
+    (1891, 2, "", "round 6 party 1"),
+    (1891, 2, "N 8 1 28\nP 0\n", "round 6 party 1"),
+    (1889, 4, "", "round 6 party 1"),
+    (1892, 1, "", "line 136"),
+    (56, 1837, "", "round 1 party 0"),
+    (194, 1699, "", "round 2 party 0"),
+    (1250, 643, "", "round 3 party 0"),
+    (1791, 102, "", "round 4 party 1"),
+    (1866, 27, "", "round 5 party 1"),
+];
+
+/// The other journal, cut before each round and in its last line, and with another kind of its last entry.
+const CUTS: &[Damage<'static>] = &[
+    (0, 1317, "", "round 0 party 0"),
+    (128, 1189, "", "round 1 party 0"),
+    (1177, 140, "", "round 2 party 0"),
+    (1238, 79, "", "round 3 party 1"),
+    (1313, 4, "", "round 4 party 1"),
+    (1307, 6, "y 3 1\n", "round 3 party 2"),
+    (1316, 1, "", "line 96"),
+];
+
+/// The journal of two tracks, with other reports that its turn loads, and with other words of the status that it stores: it hears of the frame by the track that its draft has in the slot.
+const REPORTS: &[Damage<'static>] = &[
+    (0, 0, "", "legal"),
+    (1339, 9, "N 8 1 18\n", "legal"),
+    (1339, 9, "N 8 1 17\n", "round 2 party 2"),
+    (1339, 9, "N 8 1 34\n", "round 2 party 2"),
+    (1389, 8, "a 1 774\n", "round 2 party 2"),
+    (1389, 8, "a 1 775\n", "round 2 party 2"),
+];
+
+/// The line of a verdict.
+fn line_of(alloc: Global, found: &str) -> Result<String, Fail> {
+    if found == "legal" {
+        return Ok(String::from_str(alloc, "legal\n")?);
+    }
+    Ok(format!(in alloc; "refused: {found}\n")?)
+}
+
+/// What is found in a session's journal with a damage.
+fn expect_damage<R: Abort>(
+    rt: &R,
+    alloc: Global,
+    session: Session<'_>,
+    whole: &[u8],
+    damage: Damage<'_>,
+) -> Result<(), Fail> {
+    let line = line_of(alloc, damage.3)?;
+    let text = damaged(alloc, whole, damage)?;
+    let store = judged(alloc, session, &text)?;
+    expect_verdict(rt, alloc, store, line.as_str())
+}
+
+/// The same with each of some damages.
+fn expect_found<R: Abort>(
+    rt: &R,
+    alloc: Global,
+    session: Session<'_>,
+    parts: &[(&str, usize)],
+    damages: &[Damage<'_>],
+) -> Result<(), Fail> {
+    let whole = text_of(alloc, parts)?;
+    for damage in damages {
+        expect_damage(rt, alloc, session, &whole, *damage)?;
+    }
+    Ok(())
+}
+
+#[test]
+fn damaged_journals(rt: HostRuntime) -> Result<(), Fail> {
+    expect_found(&rt, rt.alloc(), HEARD_SESSION, WHOLE_PARTS, DAMAGES)
+}
+
+#[test]
+fn silent_journals_that_are_cut(rt: HostRuntime) -> Result<(), Fail> {
+    expect_found(&rt, rt.alloc(), UNHEARD_SESSION, SILENT_PARTS, CUTS)
+}
+
+#[test]
+fn reports_of_a_later_track(rt: HostRuntime) -> Result<(), Fail> {
+    expect_found(&rt, rt.alloc(), LATE_SESSION, LATE_PARTS, REPORTS)
+}

@@ -1,0 +1,29 @@
+-- The rounds that the parties of a new session played are those that their journal tells.
+use Rattle.std.proofs.Common.{◌≡◌, List, ap, subst}
+use Rattle.af_base.specs.declared.frame.Frame.{Frame}
+use Rattle.af_fast.specs.Mixer.{MixerState}
+use Rattle.af_model.specs.Journals.{EntrySeen, RoundNoted, RoundSeen, entries_seen, rounds_seen}
+use Rattle.af_runs.specs.LegalRuns.{marks_of, session_of}
+use Rattle.af_runs.specs.Sessions.{Session}
+use Rattle.af_script.specs.Data.{ScriptData}
+use Rattle.af_session.specs.Together.{SessionState}
+use Rattle.af_told_law.proofs.LogMore.{entries_grown}
+use Rattle.af_told_law.proofs.MarkedRuns.{marks_free}
+use Rattle.af_play_law.specs.PlayRuns.{PlaysOn}
+use Rattle.af_playing.specs.PlayedRuns.{Plays}
+use Rattle.af_playing.proofs.PlayedOn.{plays_on}
+
+module _ (script : ScriptData) (files : List (List Frame)) (noted : List RoundNoted) (t : SessionState) (p : Plays script files noted t) where
+  abbrev s : Session
+  s = session_of script files
+
+  abbrev pub seen : List RoundSeen
+  seen = rounds_seen (entries_seen t.fast.log.frames t.fast.log.entries) noted
+
+  -- a new session's log has nothing, so it grew to the whole log
+  all_grown : entries_grown p.start.fast.log t.fast.log ≡ entries_seen t.fast.log.frames t.fast.log.entries
+  all_grown = ap (λ (m : MixerState). entries_grown m.log t.fast.log) p.new.fast
+
+  pub rounds_told : PlaysOn s (marks_of seen) p.start seen t
+  rounds_told = subst (λ (es : List EntrySeen). PlaysOn s (marks_of seen) p.start (rounds_seen es noted) t) all_grown
+      (plays_on s (marks_of seen) noted p.start p.bytes t p.run (marks_free (marks_of seen) (entries_seen t.fast.log.frames t.fast.log.entries) noted (λ i. (λ on. on, λ on. on))))
