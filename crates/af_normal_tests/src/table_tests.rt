@@ -164,11 +164,11 @@ pub(crate) fn begin(
         × (length r.1.tracks.settings ≡ length kinds.now) × All (λ setting. setting.scale ≤ 4096) r.1.tracks.settings
         × AreOthers links r.1.others.observer r.1.others.writer r.1.others.pipe r.1.others.report r.1.others.streams.items r.1.others.commands.items) }
 {
+    let (report, writer, reader) = report(alloc)?;
+    let (pipe, from, to) = pipe(alloc, 4 * (normal * frames))?;
     let lines = make_lines(alloc, kinds)?;
     let names = stream_names(&lines.streams);
     let (queue, mutator, observer) = queue::<Server, StreamNames>(alloc, frames, names)?;
-    let (pipe, from, to) = pipe(alloc, 4 * (normal * frames))?;
-    let (report, writer, reader) = report(alloc)?;
     let shared = Shared {
         queue,
         pipe,
