@@ -1,15 +1,16 @@
 -- No journal of an accepted script whose tracks play through, and whose cycles are enough, is that of a run that was cut off.
 use Rattle.std.proofs.Common.{◌≡◌, ℕ, ◌+◌, ◌≤◌, ◌<◌, true, List, length, take, arith}
+use Rattle.std.proofs.lemmas.Bool.{true_from_ne_false}
 use Rattle.af_base.specs.declared.frame.Frame.{Frame}
 use Rattle.af_model.specs.Journals.{RoundSeen, JournalData}
 use Rattle.af_script.specs.Data.{ScriptData}
 use Rattle.af_script.specs.Form.{IsScript}
 use Rattle.af_runs.specs.Blocks.{Marks}
 use Rattle.af_runs.specs.LegalRuns.{marks_of, session_of, run_from, IsCutRun}
-use Rattle.af_runs.specs.Runs.{new_run}
+use Rattle.af_runs.specs.Runs.{all_ended, new_run}
 use Rattle.af_runs.specs.Sessions.{Session}
 use Rattle.af_enough.specs.Enough.{enough_rounds, HasEnoughCycles}
-use Rattle.af_enough_law.specs.Ending.{AreCutOff, StillGoes}
+use Rattle.af_enough_law.specs.Ending.{AreCutOff, RoundsEndInTime, StillGoes}
 use Rattle.af_enough_law.specs.Ends.{AllOver}
 use Rattle.af_enough_law.proofs.LongRuns as long_runs
 use Rattle.af_enough_law.proofs.NearSums.{near_costs}
@@ -34,6 +35,12 @@ never-going script files marks is enough lawful goes =
 pub never-cut-off : (script : ScriptData) (files : List (List Frame)) (marks : Marks) (rounds : List RoundSeen) → IsScript script → HasEnoughCycles script → ((i : ℕ) → i < length script.tracks → marks.commands i ≡ true)
     → AreCutOff script files marks rounds → ⊥
 never-cut-off script files marks rounds is enough lawful cut = never-going script files marks is enough lawful (long_runs.long script files marks rounds enough cut)
+
+-- and once the log is full all parties have ended
+pub rounds_end_in_time : (script : ScriptData) (files : List (List Frame)) (marks : Marks) (rounds : List RoundSeen) → RoundsEndInTime script files marks rounds
+rounds_end_in_time script files marks rounds is enough lawful legal full =
+    let s = session_of script files in
+    true_from_ne_false (all_ended s (run_from s (new_run s) rounds)) (λ going. never-cut-off script files marks rounds is enough lawful (record { legal = legal; full = full; going = going }))
 
 -- no run of such a script is cut off
 pub never-cut : (script : ScriptData) (files : List (List Frame)) (j : JournalData) → IsScript script → HasEnoughCycles script → IsCutRun script files j → ⊥

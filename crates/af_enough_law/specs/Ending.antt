@@ -26,6 +26,13 @@ pub record StillGoes (script : ScriptData) (files : List (List Frame)) (marks : 
 abbrev pub CutRunsAreLong : ScriptData → List (List Frame) → JournalData → Type 0
 CutRunsAreLong script files j = HasEnoughCycles script → IsCutRun script files j → StillGoes script files (marks_of j.rounds)
 
+-- In rounds of an accepted script with enough cycles, each legal after those before it by marks that call each command block lawful, whatever they call the streams: once the log is full all parties have ended
+abbrev pub RoundsEndInTime : ScriptData → List (List Frame) → Marks → List RoundSeen → Type 0
+RoundsEndInTime script files marks rounds =
+    let s = session_of script files in
+    IsScript script → HasEnoughCycles script → ((i : ℕ) → i < length script.tracks → marks.commands i ≡ true) → LegalRounds true s marks (new_run s) rounds
+    → length (run_from s (new_run s) rounds).entries ≡ script.cycles → all_ended s (run_from s (new_run s) rounds) ≡ true
+
 -- In legal rounds of a script whose tracks play through no client has poked its stream block, nor its command block
 abbrev pub NoClientPokes : Bool → ScriptData → List (List Frame) → Marks → List RoundSeen → ℕ → Type 0
 NoClientPokes cut script files marks rounds track =

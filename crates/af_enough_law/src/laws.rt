@@ -18,7 +18,7 @@ ghost use Rattle.af_script.specs.Data.{ScriptData};
 ghost use Rattle.af_script.specs.Form.{IsScript};
 ghost use Rattle.af_runs.specs.LegalRuns.{IsCutRun};
 ghost use Rattle.af_enough.specs.Enough.{HasEnoughCycles};
-ghost use Rattle.af_enough_law.specs.Ending.{CutRunsAreLong, NoClientPokes};
+ghost use Rattle.af_enough_law.specs.Ending.{CutRunsAreLong, NoClientPokes, RoundsEndInTime};
 ghost use Rattle.af_enough_law.specs.Seen.{AckIsSeen, NextIsSeen, LoadIsSeen, RoomIsSeen, RearIsSeen, FrontIsSeen, StatusIsSeen, BlockRearIsSeen};
 
 /// Each end of a queue sees all that it had learnt of the other one at a meeting, and maybe more.
@@ -58,4 +58,9 @@ pub fn no_client_that_plays_through_pokes()
 /// No journal of an accepted script whose tracks play through, and whose cycles are enough, is that of a run that was cut off.
 pub fn enough_cycles_are_enough()
     ensures { (script : ScriptData) (files : List (List Frame)) (j : JournalData) → IsScript script → HasEnoughCycles script → IsCutRun script files j → ⊥ }
+{}
+
+/// In rounds of an accepted script whose tracks play through, and whose cycles are enough, all parties have ended once the log is full. The rounds are legal by marks that call each command block lawful; nothing is asked of the fronts of the streams.
+pub fn enough_cycles_end_all()
+    ensures { (script : ScriptData) (files : List (List Frame)) (marks : Marks) (rounds : List RoundSeen) → RoundsEndInTime script files marks rounds }
 {}

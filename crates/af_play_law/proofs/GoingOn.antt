@@ -1,4 +1,4 @@
--- Where some party of a session goes on, some party of the run that tells it does.
+-- Where some party of a session goes on, some party of the run that tells it does; so where all of the run have ended, all of the session have.
 use Rattle.std.proofs.Common.{◌≡◌, ℕ, zero, suc, ◌+◌, ◌<◌, ◌==◌, ◌&&◌, nat_lt, Bool, true, false, true≢false, if◌then◌else◌, List, [], ◌∷◌, Some, slice_get, refl, sym, ap, ◌∙◌, arith}
 use Rattle.std.specs.List.{list_all, range_with_len}
 use Rattle.std.proofs.lemmas.Bool.{and_parts, false_from_ne_true}
@@ -55,7 +55,7 @@ module _ (s : Session) (run : Run) (d : Deeds) (x : SessionState) (told : Tells 
         sym (ap (λ (t : Track). t.client.ended) (told.tracks i p is).client)
         ∙ sym (ap (λ (b : Bool). choice b (i == track_count s) i) below) ∙ party i (omega (arith, low))
 
-    over : all_over x ≡ true
+    pub over : all_over x ≡ true
     over = λ j. normal_over j && (fast_over j && clients_pass x.clients client_over j)
 
   pub still_going : all_over x ≡ false → all_ended s run ≡ false

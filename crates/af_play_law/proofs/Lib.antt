@@ -32,6 +32,7 @@ pub mod Foretold
 pub mod ForetoldRound
 pub mod CarriedRound
 pub mod Foreseen
+pub mod InTime
 pub mod PlayEnds
 pub mod PlayTold
 pub mod KeptTold

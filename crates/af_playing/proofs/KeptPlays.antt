@@ -11,7 +11,7 @@ use Rattle.af_audit.proofs.SettledTold.{settled}
 use Rattle.af_audit.proofs.SparedTold.{lawful-blocks-are-spared}
 use Rattle.af_base.specs.declared.frame.Frame.{Frame}
 use Rattle.af_base.specs.declared.want.Memory.{Memory}
-use Rattle.af_enough_law.proofs.NeverCut.{never-cut}
+use Rattle.af_playing.proofs.InTime.{never_cut_off}
 use Rattle.af_io.specs.Files.{Files, SetsFile}
 use Rattle.af_io.specs.Causes.{HasCause}
 use Rattle.af_model.specs.Journals.{JournalData, RoundsNoted, journal_of}
@@ -125,7 +125,7 @@ module _ (script : ScriptData) (files : List (List Frame)) (s : Stage) (r : Resu
     settled = lawful (λ (p : Played). SettledMeansKept script files p.journal) (λ p legal. settled script files p.journal is legal);
     emptied = lawful (λ (p : Played). PipeIsEmptied script files p.journal) (λ p legal. pipe-is-emptied script files p.journal is legal);
     cut_run = a.cut_run;
-    enough = (λ enough. never_limited r (cut_by script files) (λ journal e cut. never-cut script files journal is enough cut) a.cut_run);
+    enough = (λ enough. never_limited r (HandsBackRun false script files) (never_cut_off script files is enough) limited);
     summary = a.summary;
     alone = alone_kept script files r played_on limited a.legal a.cut_run;
     calls = handed_on CallsStandOnce (calls_stand_once (all_ended t) script files j (ends_from t) back);

@@ -1,5 +1,6 @@
 pub mod PlayedRuns
 pub mod Spelled
 pub mod PlayedAlone
+pub mod InTime
 pub mod PlayedStages
 pub mod PlayKept

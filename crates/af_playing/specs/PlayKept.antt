@@ -12,6 +12,7 @@ use Rattle.af_io.specs.Files.{Files, SetsFile}
 use Rattle.af_runs.specs.LegalRuns.{IsCutRun, IsLegalRun, run_of}
 use Rattle.af_runs.specs.Pcm.{journal_pcm}
 use Rattle.af_script.specs.Data.{ScriptData}
+use Rattle.af_script.specs.Form.{IsScript}
 use Rattle.af_playing.specs.declared.answering.PlayFault.{PlayFault}
 use Rattle.af_playing.specs.declared.answering.PlayFault.TheVariants as fault
 use Rattle.af_rendering.specs.declared.rendering.Played.{Played}
@@ -28,6 +29,7 @@ use Rattle.af_playing.specs.Spelled.{CallsStandOnce, NoneOlder, PushesStandOnce,
 pub record Answers (script : ScriptData) (files : List (List Frame)) (s : Stage) (result : Result Played PlayFault) : Type 0 where
   pub ended : IfOk result (λ _. all_ended s.parties ≡ true)
   pub journal : IfOk result (λ p. p.journal ≡ journal_of s.rounds s.parties.fast.log)
+  pub enough : IsScript script → HasEnoughCycles script → IfErr result (λ _. ⊥)
   pub ends : IfOk result (λ p. p.ends ≡ ends_from s.parties)
   pub summary : IfOk result (λ p. p.summary ≡ summary_told script.frames p.journal p.ends)
   pub legal : IfOk result (λ p. IsLegalRun script files p.journal)

@@ -24,6 +24,7 @@ ghost use Rattle.af_rendering.specs.Stages.{IsNewStage};
 ghost use Rattle.af_playing.specs.PlayedStages.{HasPlayed};
 ghost use Rattle.af_tally.specs.Sound.{pcm_of};
 ghost use Rattle.af_runs.specs.Pcm.{journal_pcm};
+ghost use Rattle.af_playing.specs.InTime.{EndsInTime};
 ghost use Rattle.af_playing.specs.PlayedAlone.{IsToldAlone};
 ghost use Rattle.af_playing.specs.Spelled.{CallsStandOnce, NoneOlder, PushesStandOnce, ReleasedAsTold};
 
@@ -151,7 +152,7 @@ fn play_with<R: Threads + Sync, S: Store, G: Gate>(
 ///
 /// Whatever the threads did, what was played is a run of the script and its files, of rounds of all parties, whose journal is handed back: in it each client's calls and each state pushed stand once, in their order, each client has released as many frames as its calls put there, and no cycle uses a state older than one before it. The summary is that of the journal alone. The lists that the ends handed back keep are those of the run that the journal tells (`kept`): of the clients' proxies, of the queue's mutator, of the report's reader, of the pipe's end, and of the proxies that the normal mixer holds, where no poke was made. Where the store tells it the file is the sound of the journal. Whatever clients stored in their words, each track on whose blocks nothing was poked is spared: no call of its client was answered Corrupt, and no look of the normal mixer at its blocks was Shut. Ok says that all parties have ended, CycleLimit that the log is full and some party has not; so after each round but the last some party goes on and the log has room. After a fault no file has changed, or the file holds a front of the sound of some first rounds.
 ///
-/// By itself, whoever made it, the journal of Ok is that of a legal run of the script and its files (`legal`). In it each frame that a client without a poke released was mixed once, in its place, was discarded by one flush that was noticed, or is still queued (`fates`); nothing of such a track was found shut or corrupt (`unshut`); a track that is reported drained has reached the count of its last stop, at which its client had released so much (`drained`); and what a client releases after it saw a START settled is discarded by a later flush alone (`settled`). All that the normal mixer put into the pipe was taken from it and mixed (`emptied`). The journal after CycleLimit is that of a cut run (`cut_run`), and CycleLimit never comes to a script whose tracks play through and whose cycles are enough by the rule (`enough`). That the journal of Ok is legal is a law on plays, whatever the threads did: nothing judges it. That of CycleLimit is judged before it is handed back: there Memory may also stand for one that was judged not to be that of a cut run, or that is longer than the judge counts (131,072 turns of the normal mixer). No play has come to either.
+/// By itself, whoever made it, the journal of Ok is that of a legal run of the script and its files (`legal`). In it each frame that a client without a poke released was mixed once, in its place, was discarded by one flush that was noticed, or is still queued (`fates`); nothing of such a track was found shut or corrupt (`unshut`); a track that is reported drained has reached the count of its last stop, at which its client had released so much (`drained`); and what a client releases after it saw a START settled is discarded by a later flush alone (`settled`). All that the normal mixer put into the pipe was taken from it and mixed (`emptied`). The journal after CycleLimit is that of a cut run (`cut_run`), and CycleLimit never comes to a script whose tracks play through and whose cycles are enough by the rule (`enough`): whatever its threads do, its rounds can't come to the end of the log with a party still going (`in_time`), so what was played to its end is Ok. That the journal of Ok is legal is a law on plays, whatever the threads did: nothing judges it. That of CycleLimit is judged before it is handed back, so only of a script without enough cycles: there Memory may also stand for one that was judged not to be that of a cut run, or that is longer than the judge counts (131,072 turns of the normal mixer). No play has come to either.
 pub fn play<R: Threads + Sync, S: Store, G: Gate>(
     rt: &R,
     alloc: Global,
@@ -172,6 +173,7 @@ pub fn play<R: Threads + Sync, S: Store, G: Gate>(
     ensures emptied { IfOk result (λ p. PipeIsEmptied script.now files.now p.journal) }
     ensures cut_run { IfErr result (AtLimit (λ journal _. IsCutRun script.now files.now journal)) }
     ensures enough { HasEnoughCycles script.now → IfErr result (AtLimit (λ journal ends. ⊥)) }
+    ensures in_time { EndsInTime script.now files.now }
     ensures summary { IfOk result (λ p. p.summary ≡ summary_told script.now.frames p.journal p.ends) }
     ensures alone { HandedBack (IsToldAlone script.now files.now) result }
     ensures calls { HandedBack CallsStandOnce result }
@@ -250,6 +252,7 @@ pub fn play_logged<R: Threads + Sync, S: Store, G: Gate>(
     ensures emptied { IfOk result (λ p. PipeIsEmptied script.now files.now p.journal) }
     ensures cut_run { IfErr result (AtLimit (λ journal _. IsCutRun script.now files.now journal)) }
     ensures enough { HasEnoughCycles script.now → IfErr result (AtLimit (λ journal ends. ⊥)) }
+    ensures in_time { EndsInTime script.now files.now }
     ensures summary { IfOk result (λ p. p.summary ≡ summary_told script.now.frames p.journal p.ends) }
     ensures alone { HandedBack (IsToldAlone script.now files.now) result }
     ensures calls { HandedBack CallsStandOnce result }

@@ -1,5 +1,6 @@
 use Rattle.std.proofs.Common.{None, inl, refl}
 use Rattle.af_playing.specs.declared.answering.PlayFault.TheVariants as fault
+use Rattle.af_playing.proofs.InTime.{ends_in_time}
 use Rattle.af_playing.proofs.KeptPlays.{files_none, keeps_none}
 use Rattle.af_playing.proofs.PlayCauses.{cause_memory}
 use Rattle.af_playing.proofs.play_of_all.play.Goals as goal
@@ -22,6 +23,7 @@ returns-in_err-logging g c =
       emptied = keeps.emptied;
       cut_run = keeps.cut_run;
       enough = keeps.enough;
+      in_time = ends_in_time c.args.script.now c.args.files.now;
       summary = keeps.summary;
       alone = keeps.alone;
       calls = keeps.calls;
@@ -52,6 +54,7 @@ returns g c =
       emptied = keeps.emptied;
       cut_run = keeps.cut_run;
       enough = keeps.enough;
+      in_time = ends_in_time c.args.script.now c.args.files.now;
       summary = keeps.summary;
       alone = keeps.alone;
       calls = keeps.calls;

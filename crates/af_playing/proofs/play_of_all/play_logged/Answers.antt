@@ -3,6 +3,7 @@ use Rattle.std.proofs.lemmas.Result.{IfOk-from_err}
 use Rattle.af_playing.specs.declared.answering.PlayFault.TheVariants as fault
 use Rattle.af_rendering.specs.declared.rendering.Played.{Played}
 use Rattle.af_side_by_side.specs.Logging.{BeginsLog, HasLogOf}
+use Rattle.af_playing.proofs.InTime.{ends_in_time}
 use Rattle.af_playing.proofs.KeptPlays.{IsHandedOn, cause_on, files_none, files_on, handed_by, keeps_none, keeps_on, kept_by, told_by}
 use Rattle.af_rendering.proofs.Outgoing.{on_err}
 use Rattle.af_playing.proofs.PlayCauses.{cause_memory}
@@ -39,6 +40,7 @@ returns-in_err-logging g c =
       emptied = keeps.emptied;
       cut_run = keeps.cut_run;
       enough = keeps.enough;
+      in_time = ends_in_time c.args.script.now c.args.files.now;
       summary = keeps.summary;
       alone = keeps.alone;
       calls = keeps.calls;
@@ -76,6 +78,7 @@ returns g c =
       emptied = keeps.emptied;
       cut_run = keeps.cut_run;
       enough = keeps.enough;
+      in_time = ends_in_time c.args.script.now c.args.files.now;
       summary = keeps.summary;
       alone = keeps.alone;
       calls = keeps.calls;
