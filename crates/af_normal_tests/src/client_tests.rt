@@ -18,6 +18,7 @@ use af_server::Server;
 use af_stateq::{Queue, queue};
 use std::alloc::Global;
 use std::marker::Brand;
+use std::mem::drop;
 use std::slice::from_ref;
 use std::sync::ledger::{Blank, Ledger};
 use std::test::*;
@@ -230,6 +231,26 @@ fn make_joints(alloc: Global, streams: &[Block]) -> Result<Joints, Memory> {
     })
 }
 
+// The sides of a client, and what its links have besides.
+#[derive(Drop)]
+struct Stage {
+    sides: Sides,
+    joints: Joints,
+}
+
+// New sides with new joints, with what new sides ensure.
+fn new_stage(alloc: Global, frames: u32) -> Result<Stage, Memory>
+    requires { (1 ≤ frames) × (frames ≤ 65536) }
+    ensures track { IfOk result (λ s. s.sides.party.track ≡ 0) }
+    ensures clients { IfOk result (λ s. IsClientOf s.sides.stream s.sides.party.stream × IsClientOf s.sides.command s.sides.party.command) }
+    ensures servers { IfOk result (λ s. IsServerOf s.sides.stream s.sides.servers.0 × IsServerOf s.sides.command s.sides.servers.1) }
+    ensures work { (ops : List OpSeen) (count : ℕ) → frames_to_come ops ≤ count → count ≤ 4194304 → flushes_to_come ops ≤ 4294967294 → ((stream command : ℕ) → All (IsFittingOp stream command) ops) → IfOk result (λ s. CanWork ops count s.sides.party) }
+{
+    let sides = new_sides(alloc, frames)?;
+    let joints = make_joints(alloc, from_ref(&sides.stream))?;
+    Ok(Stage { sides, joints })
+}
+
 // The same of a new client on new blocks, with so many frames in the stream's.
 fn plays_in<L: Ledger>(
     blank: Blank,
@@ -245,28 +266,29 @@ fn plays_in<L: Ledger>(
     requires fits { (stream command : ℕ) → All (IsFittingOp stream command) ops.now }
 {
     let mut steps = Steps::<L>::start(blank);
-    let mut sides = new_sides(alloc, frames)?;
-    let streams = from_ref(&sides.stream);
-    let commands = from_ref(&sides.command);
-    let joints = make_joints(alloc, streams)?;
+    let mut stage = new_stage(alloc, frames)?;
+    let streams = from_ref(&stage.sides.stream);
+    let commands = from_ref(&stage.sides.command);
     let links = Links {
-        queue: &joints.queue,
+        queue: &stage.joints.queue,
         streams,
         commands,
-        pipe: &joints.pipe,
-        report: &joints.report,
+        pipe: &stage.joints.pipe,
+        report: &stage.joints.report,
     };
-    Ok(all_do(
-        &mut sides.party,
-        &mut sides.servers,
+    let told = all_do(
+        &mut stage.sides.party,
+        &mut stage.sides.servers,
         &links,
-        &sides.stream,
-        &sides.command,
+        &stage.sides.stream,
+        &stage.sides.command,
         ops,
         file,
         table,
         &mut steps,
-    ))
+    );
+    drop(stage);
+    Ok(told)
 }
 
 fn plays(
