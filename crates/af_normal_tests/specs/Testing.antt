@@ -5,14 +5,13 @@ use Rattle.af_base.specs.declared.report.Report.{Report}
 use Rattle.af_cblk.specs.Sides.{Made}
 use Rattle.af_client.specs.Order.{ClientState, IsClientOf}
 use Rattle.af_server.specs.Order.{ServerState, IsServerOf}
-use Rattle.af_stateq.specs.Mutates.{Mutates}
 use Rattle.af_stateq.specs.Observes.{Observes, InOrder}
 use Rattle.af_link.specs.Names.{IsStreamOf}
-use Rattle.af_link.specs.PipeEnds.{InSide, OutSide, out_made}
-use Rattle.af_link.specs.Reports.{ReaderSide, WriterSide, last_cycle}
+use Rattle.af_link.specs.PipeEnds.{OutSide, out_made}
+use Rattle.af_link.specs.Reports.{WriterSide, last_cycle}
 use Rattle.af_link.specs.declared.links.Links.{Links}
 use Rattle.af_link.specs.declared.names.StreamNames.{StreamNames}
-use Rattle.af_normal.specs.Making.{AreNew, TrackList}
+use Rattle.af_normal.specs.Making.{TrackList}
 use Rattle.af_normal.specs.Mixing.{stream_at}
 use Rattle.af_normal.specs.Order.{IsInOrder}
 use Rattle.af_normal.specs.State.{NormalState}

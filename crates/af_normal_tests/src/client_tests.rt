@@ -1,5 +1,7 @@
 //! A client alone, by its turns, against servers of its two blocks that the test moves.
-ghost use Rattle.std.specs.Prelude.{◌≡◌, ℕ, ◌<◌, ◌≤◌, All, length};
+ghost use Rattle.std.specs.Prelude.{◌≡◌, ℕ, ◌<◌, ◌≤◌, All, IfOk, List, length};
+ghost use Rattle.af_client.specs.Order.{IsClientOf};
+ghost use Rattle.af_script.specs.declared.op.Op.{Op as OpSeen};
 ghost use Rattle.af_server.specs.Order.{IsServerOf};
 ghost use Rattle.af_normal.specs.Meeting.{AreClientsOf};
 ghost use Rattle.af_party.specs.Works.{CanWork, IsFittingOp, flushes_to_come, frames_to_come};
@@ -16,6 +18,8 @@ use af_server::Server;
 use af_stateq::{Queue, queue};
 use std::alloc::Global;
 use std::marker::Brand;
+use std::mem::drop;
+use std::slice::from_ref;
 use std::sync::ledger::{Blank, Ledger};
 use std::test::*;
 
@@ -122,8 +126,8 @@ fn does<L: Ledger>(
 
 // Whether each step of a table does what it says.
 fn all_do<L: Ledger>(
-    mut party: Party,
-    mut servers: (Server, Server),
+    party: &mut Party,
+    servers: &mut (Server, Server),
     links: &Links<'_>,
     stream: &Block,
     command: &Block,
@@ -132,26 +136,79 @@ fn all_do<L: Ledger>(
     table: &[Step],
     steps: &mut Steps<L>,
 ) -> bool
-    requires clients { AreClientsOf links.now party.track party.stream party.command }
-    requires work { CanWork ops.now (length file.now) party }
-    requires servers { IsServerOf stream.now servers.0 × IsServerOf command.now servers.1 }
+    requires clients { AreClientsOf links.now party.old.track party.old.stream party.old.command }
+    requires work { CanWork ops.now (length file.now) party.old }
+    requires servers { IsServerOf stream.now servers.old.0 × IsServerOf command.now servers.old.1 }
 {
     for step in table {
         if !does(
-            &mut party,
-            &mut servers,
-            links,
-            stream,
-            command,
-            ops,
-            file,
-            step,
-            steps,
+            party, servers, links, stream, command, ops, file, step, steps,
         ) {
             return false;
         }
     }
     true
+}
+
+// A block with its two proxies.
+#[derive(Drop)]
+struct Line {
+    block: Block,
+    client: Proxy,
+    server: Server,
+}
+
+// A new block of so many frames, on which nothing was done.
+fn new_line(alloc: Global, frames: u32) -> Result<Line, Memory>
+    requires { (1 ≤ frames) × (frames ≤ 65536) }
+    ensures sizes { IfOk result (λ l. (l.block.shape.frames ≡ frames) × (l.block.shape.base ≡ 0) × (l.block.shape.wrap ≡ 0)) }
+    ensures client { IfOk result (λ l. IsClientOf l.block l.client) }
+    ensures kept { IfOk result (λ l. (l.client.flushes ≡ 0) × (l.client.released ≡ 0)) }
+    ensures server { IfOk result (λ l. IsServerOf l.block l.server) }
+{
+    let (block, client, server) = Block::make(alloc, frames, 0)?;
+    let client = Proxy::with(client, &block);
+    let server = Server::with(server, &block);
+    Ok(Line {
+        block,
+        client,
+        server,
+    })
+}
+
+// A client on two blocks, and the servers of both.
+#[derive(Drop)]
+struct Sides {
+    stream: Block,
+    command: Block,
+    party: Party,
+    servers: (Server, Server),
+}
+
+// A new client on new blocks, with so many frames in the stream's. It can do the work of ops for which its file and its block have room.
+fn new_sides(alloc: Global, frames: u32) -> Result<Sides, Memory>
+    requires { (1 ≤ frames) × (frames ≤ 65536) }
+    ensures track { IfOk result (λ s. s.party.track ≡ 0) }
+    ensures clients { IfOk result (λ s. IsClientOf s.stream s.party.stream × IsClientOf s.command s.party.command) }
+    ensures servers { IfOk result (λ s. IsServerOf s.stream s.servers.0 × IsServerOf s.command s.servers.1) }
+    ensures work { (ops : List OpSeen) (count : ℕ) → frames_to_come ops ≤ count → count ≤ 4194304 → flushes_to_come ops ≤ 4294967294 → ((stream command : ℕ) → All (IsFittingOp stream command) ops) → IfOk result (λ s. CanWork ops count s.party) }
+{
+    let calls = Items::with_room(alloc, 64)?;
+    let stream = new_line(alloc, frames)?;
+    let command = new_line(alloc, 128)?;
+    let party = Party {
+        track: 0,
+        client: Client::new(),
+        stream: stream.client,
+        command: command.client,
+        calls,
+    };
+    Ok(Sides {
+        stream: stream.block,
+        command: command.block,
+        party,
+        servers: (stream.server, command.server),
+    })
 }
 
 // What a client's links have besides its blocks.
@@ -174,6 +231,26 @@ fn make_joints(alloc: Global, streams: &[Block]) -> Result<Joints, Memory> {
     })
 }
 
+// The sides of a client, and what its links have besides.
+#[derive(Drop)]
+struct Stage {
+    sides: Sides,
+    joints: Joints,
+}
+
+// New sides with new joints, with what new sides ensure.
+fn new_stage(alloc: Global, frames: u32) -> Result<Stage, Memory>
+    requires { (1 ≤ frames) × (frames ≤ 65536) }
+    ensures track { IfOk result (λ s. s.sides.party.track ≡ 0) }
+    ensures clients { IfOk result (λ s. IsClientOf s.sides.stream s.sides.party.stream × IsClientOf s.sides.command s.sides.party.command) }
+    ensures servers { IfOk result (λ s. IsServerOf s.sides.stream s.sides.servers.0 × IsServerOf s.sides.command s.sides.servers.1) }
+    ensures work { (ops : List OpSeen) (count : ℕ) → frames_to_come ops ≤ count → count ≤ 4194304 → flushes_to_come ops ≤ 4294967294 → ((stream command : ℕ) → All (IsFittingOp stream command) ops) → IfOk result (λ s. CanWork ops count s.sides.party) }
+{
+    let sides = new_sides(alloc, frames)?;
+    let joints = make_joints(alloc, from_ref(&sides.stream))?;
+    Ok(Stage { sides, joints })
+}
+
 // The same of a new client on new blocks, with so many frames in the stream's.
 fn plays_in<L: Ledger>(
     blank: Blank,
@@ -189,40 +266,29 @@ fn plays_in<L: Ledger>(
     requires fits { (stream command : ℕ) → All (IsFittingOp stream command) ops.now }
 {
     let mut steps = Steps::<L>::start(blank);
-    let calls = Items::with_room(alloc, 64)?;
-    let (stream, client, server) = Block::make(alloc, frames, 0)?;
-    let (command, sender, obeyer) = Block::make(alloc, 128, 0)?;
-    let party = Party {
-        track: 0,
-        client: Client::new(),
-        stream: Proxy::with(client, &stream),
-        command: Proxy::with(sender, &command),
-        calls,
-    };
-    let servers = (
-        Server::with(server, &stream),
-        Server::with(obeyer, &command),
-    );
-    let (streams, commands) = ([stream], [command]);
-    let joints = make_joints(alloc, &streams)?;
+    let mut stage = new_stage(alloc, frames)?;
+    let streams = from_ref(&stage.sides.stream);
+    let commands = from_ref(&stage.sides.command);
     let links = Links {
-        queue: &joints.queue,
-        streams: &streams,
-        commands: &commands,
-        pipe: &joints.pipe,
-        report: &joints.report,
+        queue: &stage.joints.queue,
+        streams,
+        commands,
+        pipe: &stage.joints.pipe,
+        report: &stage.joints.report,
     };
-    Ok(all_do(
-        party,
-        servers,
+    let told = all_do(
+        &mut stage.sides.party,
+        &mut stage.sides.servers,
         &links,
-        &streams[0],
-        &commands[0],
+        &stage.sides.stream,
+        &stage.sides.command,
         ops,
         file,
         table,
         &mut steps,
-    ))
+    );
+    drop(stage);
+    Ok(told)
 }
 
 fn plays(
