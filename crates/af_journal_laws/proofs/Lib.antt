@@ -1,0 +1,5 @@
+pub mod Steps
+pub mod Looks
+pub mod Rounds
+pub mod AtMeetings
+pub mod SparedMet
