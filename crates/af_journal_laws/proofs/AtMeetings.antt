@@ -1,18 +1,17 @@
 -- What is known of a track's block at a meeting of both its proxies: it has a history, so neither proxy is shut.
-use Rattle.std.specs.List.{list_any}
-use Rattle.std.proofs.Common.{◌≡◌, inl, ℕ, ◌<◌, Bool, true, false, if◌then◌else◌, List, [], ◌∷◌, length, refl, sym, ap, ◌∙◌, subst, arith}
+use Rattle.std.proofs.Common.{◌≡◌, inl, ℕ, ◌<◌, Bool, true, false, if◌then◌else◌, List, length, refl, sym, ap, subst, arith}
 use Rattle.std.proofs.lemmas.List.Elements.{All-get_or}
 use Rattle.af_model.proofs.RoomKept.{never_corrupt, never_shut}
 use Rattle.af_model.specs.ClientCalls as list
 use Rattle.af_model.specs.declared.shape.Shape.{Shape}
 use Rattle.af_runs.specs.Blocks.{BlockTold, HasBlockHistory, is_tame}
 use Rattle.af_runs.specs.Clients.{ends}
-use Rattle.af_runs.specs.Runs.{Run, TrackTold, each_track, new_run, new_track, sides_of, takes_part, told_at, with_ends}
+use Rattle.af_runs.specs.Runs.{Run, TrackTold, each_track, new_run, sides_of, told_at, with_ends}
 use Rattle.af_runs.specs.Sessions.{Session, command_shape, file_words, no_spec, spec_of, stream_shape, track_count}
 use Rattle.af_script.specs.Form.{IsScript, IsTrack}
 use Rattle.af_judge.proofs.EachTrack.{told_each}
 use Rattle.af_audit.specs.RunKept.{IsFit}
-use Rattle.af_audit.proofs.FatesTold.{new_history, new_there, told_new}
+use Rattle.af_audit.proofs.FatesTold.{new_history, told_new}
 use Rattle.af_audit.proofs.FileReleased.{begins_none}
 use Rattle.af_audit.proofs.RearsSeen.{server_unshut}
 use Rattle.af_audit.proofs.SparedTold.{new_trim}

@@ -3,3 +3,5 @@ pub mod Looks
 pub mod Rounds
 pub mod AtMeetings
 pub mod SparedMet
+pub mod Turns
+pub mod FatesMet

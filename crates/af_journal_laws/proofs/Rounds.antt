@@ -1,7 +1,7 @@
 -- What holds of a track through legal rounds, by their steps.
 use Rattle.std.specs.Prelude.{MatchBool, MatchOption}
 use Rattle.std.specs.List.{list_any, prefix_len}
-use Rattle.std.proofs.Common.{◌≡◌, inl, inr, ℕ, ◌<◌, ◌&&◌, Bool, true, false, if◌then◌else◌, is_some, List, [], ◌∷◌, ◌++◌, length, take, drop, All, Option, Some, None, refl, sym, ap, ◌∙◌, subst, arith}
+use Rattle.std.proofs.Common.{◌≡◌, inl, inr, ℕ, ◌<◌, ◌&&◌, Bool, true, false, is_some, List, [], ◌∷◌, ◌++◌, length, take, drop, All, Option, Some, None, refl, sym, ap, ◌∙◌, subst}
 use Rattle.std.proofs.lemmas.List.Elements.{All-head, All-tail}
 use Rattle.af_base.specs.Turn.{Turn}
 use Rattle.af_model.proofs.Logic.{both_are}
@@ -10,16 +10,14 @@ use Rattle.af_model.specs.Journals.{EntrySeen, RoundSeen}
 use Rattle.af_runs.specs.Blocks.{Marks}
 use Rattle.af_runs.specs.Found.{LegalTurnBy}
 use Rattle.af_runs.specs.LegalRuns.{LegalRounds, is_poke_on, run_from}
-use Rattle.af_runs.specs.Rounds.{is_early, fills, IsFastTurn, LegalEntries, LegalEntry, LegalRound, after_round, after_turn, all_played, before_turn, early_of, found_in, late_of, loaded, met_after, turned}
-use Rattle.af_runs.specs.Runs.{Run, calls_in, each_track, fast_ended, mixed_track, most_cycles, state_for, told_at, with_calls, with_cycle, with_cycles, with_mix, with_poll}
+use Rattle.af_runs.specs.Rounds.{is_early, fills, IsFastTurn, LegalEntries, LegalRound, after_round, after_turn, all_played, before_turn, early_of, found_in, late_of, met_after, turned}
+use Rattle.af_runs.specs.Runs.{Run, calls_in, fast_ended, most_cycles, with_calls, with_cycle, with_cycles, with_poll}
 use Rattle.af_runs.specs.Sessions.{Session, setup_of, track_count}
-use Rattle.af_judge.proofs.EachTrack.{each_long, told_each}
 use Rattle.af_judge.proofs.EntriesFollow.{cycles_beside}
 use Rattle.af_audit.specs.Fates.{recorded, recorded_by, recorded_by_all, recorded_by_turn, recorded_in}
-use Rattle.af_audit.specs.Spared.{IsSpared, IsSparedIn, is_spared_by, is_spared_by_all, is_spared_by_turn, none_corrupt_on}
+use Rattle.af_audit.specs.Spared.{IsSpared, IsSparedIn, is_spared_by, is_spared_by_all, is_spared_by_turn}
 use Rattle.af_audit.proofs.Booleans.{neither, no}
-use Rattle.af_journal_laws.proofs.Looks.{entry_looks}
-use Rattle.af_journal_laws.proofs.Steps.{Goes, goes_as, goes_both, goes_by, goes_called, goes_ended, goes_loaded, goes_met, goes_mixed, goes_polled, goes_same, goes_then, goes_turned}
+use Rattle.af_journal_laws.proofs.Steps.{Goes, goes_as, goes_both, goes_called, goes_ended, goes_loaded, goes_met, goes_mixed, goes_polled, goes_same, goes_then, goes_turned}
 
 -- ## What a legal round has
 

@@ -1,6 +1,6 @@
 -- What holds of a track through each step of a run: its client keeps to its calls and its file, its servers drop by flushes alone, the frames taken are those recorded; and where the proxies of one of its blocks aren't shut after the step, they weren't before it, and the step spared the block.
 use Rattle.std.specs.List.{list_any}
-use Rattle.std.proofs.Common.{◌≡◌, ℕ, ◌<◌, ◌≤◌, not, Bool, true, false, if◌then◌else◌, List, [], ◌∷◌, ◌++◌, map, length, Option, Some, None, refl, sym, ap, ◌∙◌, subst, append-nil, append_assoc, arith}
+use Rattle.std.proofs.Common.{◌≡◌, ℕ, ◌<◌, ◌≤◌, not, Bool, true, false, if◌then◌else◌, List, [], ◌++◌, map, length, Option, Some, None, refl, sym, ap, ◌∙◌, subst, append-nil, append_assoc, arith}
 use Rattle.af_base.specs.declared.event.ClientCall.{ClientCall}
 use Rattle.af_base.specs.declared.state.FastState.{FastState}
 use Rattle.af_base.specs.Log.{entry_slot}
@@ -11,9 +11,9 @@ use Rattle.af_life.specs.Obeys.{is_shut}
 use Rattle.af_model.specs.Cycles.{LooksBy}
 use Rattle.af_model.specs.JournalForm.{TracksRise}
 use Rattle.af_model.specs.Journals.{EntrySeen, RoundSeen, slot_frames}
-use Rattle.af_runs.specs.Blocks.{BlockTold, Marks, listed, meets}
+use Rattle.af_runs.specs.Blocks.{BlockTold, Marks, listed}
 use Rattle.af_runs.specs.Clients.{ends}
-use Rattle.af_runs.specs.ClientTurns.{LegalClientTurn, Track, after_calls}
+use Rattle.af_runs.specs.ClientTurns.{LegalClientTurn, Track}
 use Rattle.af_runs.specs.Found.{LegalTurnBy, TurnFound, outside_of}
 use Rattle.af_runs.specs.LegalRuns.{is_poke_on}
 use Rattle.af_runs.specs.Rounds.{LegalEntry, loaded}
@@ -49,7 +49,7 @@ pub record Goes (commands : Bool) (s : Session) (n : ℕ) (a b : Run) (words : L
 
 module _ (commands : Bool) (s : Session) (n : ℕ) where
   -- nothing is done
-  track_same : (t : TrackTold) → TrackGoes commands s n t t [] (Unit {0})
+  pub track_same : (t : TrackTold) → TrackGoes commands s n t t [] (Unit {0})
   track_same t = record { fit = λ h. h; trim = λ h. h; stands = λ off h. h; taken = sym (append-nil t.stream.taken); unshut = λ h fine. (fine, tt) }
 
   pub goes_same : (a b : Run) → n < length b.tracks → told_at b n ≡ told_at a n → Goes commands s n a b [] (Unit {0})
@@ -104,7 +104,7 @@ fit_called s n t calls legal h =
 
 module _ (commands : Bool) (s : Session) (n : ℕ) where
   -- the calls of its client
-  track_called : (calls : List ClientCall) (t : TrackTold) → list_any (is_poke_on commands) calls ≡ false → LegalClientTurn (sides_of t) calls → TrackGoes commands s n t (called calls t) [] (none_corrupt_on commands calls ≡ true)
+  pub track_called : (calls : List ClientCall) (t : TrackTold) → list_any (is_poke_on commands) calls ≡ false → LegalClientTurn (sides_of t) calls → TrackGoes commands s n t (called calls t) [] (none_corrupt_on commands calls ≡ true)
   track_called calls t calm legal = record {
     fit = fit_called s n t calls legal;
     trim = trim_called commands calls t (λ on. subst (λ (b : Bool). list_any (is_poke_on b) calls ≡ false) on calm);

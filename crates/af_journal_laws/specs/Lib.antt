@@ -1,2 +1,4 @@
 pub mod Meetings
 pub mod Spared
+pub mod Alone
+pub mod Fates
