@@ -66,4 +66,3 @@ module _ (s : Session) (marks : Marks) (r : Run) (e : EntrySeen) (legal : LegalE
       let here = both-true (plays x e.entry i) ((slot_of x i).track == n) at.holds in
       let plays_it = both-true (carries x i) (is_shown (entry_slot e.entry i).seen) here.0 in
       slot_looks (let h = at.high in omega (arith, h)) plays_it.0 plays_it.1 (eqb-true (slot_of x i).track n here.1)
-
