@@ -22,15 +22,20 @@ const TEXTS: [(&str, usize, u64); 8] = [
     ("R\nF\ny 1 0\nR\n", 0, 4),
 ];
 
-// Texts, with whether all of them is kept, and the number of rounds kept, of which the last one is made up where it isn't.
-const FRONTS: [(&str, bool, usize); 7] = [
+// Texts, with whether nothing made their reader stop, and the number of rounds kept, of which the last one is made up where something did.
+const FRONTS: [(&str, bool, usize); 8] = [
     ("", true, 0),
-    ("R\nR\n", true, 2),
+    ("R\nR\n", false, 3),
     ("R\nR\nR\n", false, 3),
     ("R\nR\nR\nR\nR\n", false, 3),
     ("R\nR\nR\nC 1\no 1 0 7\n", false, 3),
     ("R\nF\ny 0 1\ny 0 1\ny 0 1\ny 0 1\ny 0 1\nR\n", false, 2),
     ("R\nF\ny 0 1\ny 0 1\ny 0 1\ny 0 1\nR\nR\n", false, 3),
+    (
+        "R\nN 8 1 0\nq 1 0 0 e\nq 1 0 0 e\nq 1 0 0 e\nq 1 0 0 e\nq 1 0 0 e\nq 1 0 0 e\nq 1 0 0 e\nq 1 0 0 e\nq 1 0 0 e\nq 1 0 0 e\nq 1 0 0 e\nq 1 0 0 e\nq 1 0 0 e\nq 1 0 0 e\nq 1 0 0 e\nq 1 0 0 e\nq 1 0 0 e\nq 1 0 0 e\nq 1 0 0 e\nq 1 0 0 e\nq 1 0 0 e\nq 1 0 0 e\nq 1 0 0 e\nq 1 0 0 e\nq 1 0 0 e\nq 1 0 0 e\nq 1 0 0 e\nq 1 0 0 e\nq 1 0 0 e\nq 1 0 0 e\nq 1 0 0 e\nq 1 0 0 e\nq 1 0 0 e\nq 1 0 0 e\nq 1 0 0 e\nq 1 0 0 e\nq 1 0 0 e\nq 1 0 0 e\nq 1 0 0 e\nq 1 0 0 e\nq 1 0 0 e\nq 1 0 0 e\nq 1 0 0 e\nq 1 0 0 e\nq 1 0 0 e\nq 1 0 0 e\nq 1 0 0 e\nq 1 0 0 e\nq 1 0 0 e\nq 1 0 0 e\nq 1 0 0 e\nq 1 0 0 e\nq 1 0 0 e\nq 1 0 0 e\nq 1 0 0 e\nq 1 0 0 e\nq 1 0 0 e\nq 1 0 0 e\nq 1 0 0 e\nq 1 0 0 e\nq 1 0 0 e\nq 1 0 0 e\nq 1 0 0 e\nq 1 0 0 e\nq 1 0 0 e\nP 0\nR\n",
+        false,
+        2,
+    ),
 ];
 
 // Whether a text is read for two tracks, and written as it was.

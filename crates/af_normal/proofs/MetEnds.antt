@@ -1,5 +1,5 @@
 -- A mixer whose hand told something is in order.
-use Rattle.std.proofs.Common.{◌≡◌, ◌≢◌, ℕ, zero, suc, true≢false, is_some, List, length, length-set, slice_set, slice_get, slice_index_or, Some, ⊎_elim, refl, sym, ap, subst, ◌∙◌, arith}
+use Rattle.std.proofs.Common.{◌≡◌, ◌≢◌, ℕ, zero, suc, true≢false, is_some, List, length-set, slice_set, slice_get, slice_index_or, Some, ⊎_elim, refl, sym, ap, subst, ◌∙◌, arith}
 use Rattle.std.proofs.lemmas.Bool.{cases_eq}
 use Rattle.std.proofs.lemmas.Option.{slice_get_within, get_or_from_slice_get}
 use Rattle.af_cblk.specs.Sides.{HandSide, Made, hand_made}

@@ -166,8 +166,8 @@ fn fifty_underruns(alloc: Global) -> Result<bool, Memory> {
         sends(0, START, 0),
         turns(0, pushed(3), Some(770)),
     ];
-    for row in last {
-        rows.push(row)?;
+    for row in &last {
+        rows.push(*row)?;
     }
     plays(alloc, &[FAST], 1, 1, &rows)
 }
@@ -316,8 +316,8 @@ fn full_house(alloc: Global) -> Result<bool, Memory> {
         has_slot(31, true, 30, 1),
         heard([1, 2, 3, 4]),
     ];
-    for row in last {
-        rows.push(row)?;
+    for row in &last {
+        rows.push(*row)?;
     }
     plays(alloc, &[FAST; 32], 4, 1, &rows)
 }

@@ -240,9 +240,9 @@ fn the_command_follows_this_turn(rt: HostRuntime) {
 // A flush that drops nothing is seen all the same, and counts as no underrun: the START that waits for it is settled in the next turn.
 #[test]
 fn a_flush_of_nothing_is_seen(rt: HostRuntime) {
-    for positional in [false, true] {
+    for positional in &[false, true] {
         let kind = Kind {
-            positional,
+            positional: *positional,
             ..NORMAL
         };
         let rows = [
@@ -262,12 +262,12 @@ fn a_flush_of_nothing_is_seen(rt: HostRuntime) {
 // A flush and a rear out of reach are seen by one look: it finds the block shut where a flush carries its position, and else the flush, which drops all up to that rear.
 #[test]
 fn a_flush_comes_before_the_rear_or_after_it(rt: HostRuntime) {
-    for (positional, status) in [(true, Some(527)), (false, None)] {
+    for (positional, status) in &[(true, Some(527)), (false, None)] {
         let kind = Kind {
-            positional,
+            positional: *positional,
             ..NORMAL
         };
-        let last = turned_to(0, !positional, Push::Clean, status);
+        let last = turned_to(0, !*positional, Push::Clean, *status);
         let rows = [
             sends(0, OPEN, 0),
             sends(0, START, 0),

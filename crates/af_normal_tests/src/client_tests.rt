@@ -189,6 +189,7 @@ fn plays_in<L: Ledger>(
     requires fits { (stream command : ℕ) → All (IsFittingOp stream command) ops.now }
 {
     let mut steps = Steps::<L>::start(blank);
+    let calls = Items::with_room(alloc, 64)?;
     let (stream, client, server) = Block::make(alloc, frames, 0)?;
     let (command, sender, obeyer) = Block::make(alloc, 128, 0)?;
     let party = Party {
@@ -196,7 +197,7 @@ fn plays_in<L: Ledger>(
         client: Client::new(),
         stream: Proxy::with(client, &stream),
         command: Proxy::with(sender, &command),
-        calls: Items::with_room(alloc, 64)?,
+        calls,
     };
     let servers = (
         Server::with(server, &stream),

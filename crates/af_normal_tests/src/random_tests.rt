@@ -277,20 +277,20 @@ fn moves<L: Ledger>(
 
 // Some turns; whether each was that of the plain mixer.
 fn run<L: Ledger>(
-    mut world: World,
-    mut beside: Beside,
+    world: &mut World,
+    beside: &mut Beside,
     links: &Links<'_>,
     steps: &mut Steps<L>,
 ) -> bool
-    requires world { IsWorld links.now world.mixer world.others.observer world.others.writer world.others.pipe world.others.report world.others.streams.items world.others.commands.items }
-    requires plain { IsSmall beside.plain.turns beside.plain.setup beside.plain.kept }
+    requires world { IsWorld links.now world.old.mixer world.old.others.observer world.old.others.writer world.old.others.pipe world.old.others.report world.old.others.streams.items world.old.others.commands.items }
+    requires plain { IsSmall beside.old.plain.turns beside.old.plain.setup beside.old.plain.kept }
 {
     let mut source = Source { seed: 1 };
     for turn in 0..TURNS {
-        moves(&mut world, &mut source, links, turn, steps);
+        moves(world, &mut source, links, turn, steps);
         let polled = beside.was_polled(&world.others);
         world.does(links, Step::Turn { track: 0 }, steps);
-        if !polled || !beside.turn(&world) {
+        if !polled || !beside.turn(world) {
             return false;
         }
     }
@@ -301,7 +301,7 @@ fn run<L: Ledger>(
 // How many slots were attached more than once.
 fn attached_again(draft: &FastState) -> u32 {
     let mut again = 0u32;
-    for slot in draft.slots {
+    for slot in &draft.slots {
         if slot.generation >= 2 {
             again = again.wrapping_add(1);
         }
@@ -339,15 +339,15 @@ fn runs_in<L: Ledger>(alloc: Global, blank: Blank) -> Result<bool, Memory>
 {
     let mut steps = Steps::<L>::start(blank);
     let kinds = all_kinds();
-    let beside = Beside {
+    let mut beside = Beside {
         plain: new_plain(alloc, &kinds)?,
         own: [NOTHING; TRACKS],
         last: first_state(2),
     };
     let (shared, parts) = begin(alloc, &kinds, 2, 2)?;
     let links = shared.links();
-    let world = parts.join(alloc, &links, 2, 2)?;
-    Ok(run(world, beside, &links, &mut steps))
+    let mut world = parts.join(alloc, &links, 2, 2)?;
+    Ok(run(&mut world, &mut beside, &links, &mut steps))
 }
 
 #[test]

@@ -164,31 +164,31 @@ pub(crate) fn begin(
         × (length r.1.tracks.settings ≡ length kinds.now) × All (λ setting. setting.scale ≤ 4096) r.1.tracks.settings
         × AreOthers links r.1.others.observer r.1.others.writer r.1.others.pipe r.1.others.report r.1.others.streams.items r.1.others.commands.items) }
 {
+    let report = report(alloc)?;
+    let pipe = pipe(alloc, 4 * (normal * frames))?;
     let lines = make_lines(alloc, kinds)?;
     let names = stream_names(&lines.streams);
-    let (queue, mutator, observer) = queue::<Server, StreamNames>(alloc, frames, names)?;
-    let (pipe, from, to) = pipe(alloc, 4 * (normal * frames))?;
-    let (report, writer, reader) = report(alloc)?;
+    let queue = queue::<Server, StreamNames>(alloc, frames, names)?;
     let shared = Shared {
-        queue,
-        pipe,
-        report,
+        queue: queue.0,
+        pipe: pipe.0,
+        report: report.0,
         streams: lines.streams,
         commands: lines.commands,
     };
     let others = Others {
-        observer,
-        writer,
-        pipe: to,
+        observer: queue.2,
+        writer: report.1,
+        pipe: pipe.2,
         report: first_report(),
         streams: lines.clients,
         commands: lines.senders,
     };
     let parts = Parts {
         tracks: lines.tracks,
-        mutator,
-        reader,
-        from,
+        mutator: queue.1,
+        reader: report.2,
+        from: pipe.1,
         others,
     };
     Ok((shared, parts))

@@ -105,7 +105,7 @@ pub(crate) enum Step {
 }
 
 /// What a step told.
-#[derive(Clone, Copy, Debug, PartialEq, Eq)]
+#[derive(Clone, Copy, PartialEq, Eq)]
 pub(crate) enum Told {
     Done,
     Is {

@@ -1,6 +1,6 @@
 //! The turns of all parties at once: each on a thread of its own where threads can be made.
 ghost use Rattle.std.specs.Prelude.{◌≡◌, ◌+◌, ◌*◌, ◌<◌, ◌≤◌, ◌^◌, ℕ, length, All};
-ghost use Rattle.std.specs.List.{AllZip};
+ghost use Rattle.std.specs.List.{AllZip, list_all};
 ghost use Rattle.std.specs.Thread.{IsSync};
 ghost use Rattle.af_side_by_side.specs.Logging.{HasAudited, HasBothLogged, HasLogged, IsAuditor, IsScribe};
 ghost use Rattle.af_side_by_side.specs.SideBySide.{CanCycle, CanMixOn, CanTurn, HasCycledOn, HasMixedOn, HasNotedOn, HasTurned};
@@ -143,7 +143,14 @@ fn fast_turn<G: Gate>(
     );
 }
 
-// The turns of some clients, on threads of their own.
+// Whether all of these clients have ended.
+fn have_ended(clients: &[Party]) -> bool
+    ensures { result ≡ list_all (λ p. p.client.ended) clients.now }
+{
+    clients.iter().all(|client| client.has_ended())
+}
+
+// The turns of some clients, on threads of their own. Those that have ended need none: where a half has only such clients, both halves go on one thread.
 #[cycle(clients)]
 fn clients_turns<R: Threads + Sync, G: Gate>(
     rt: &R,
@@ -161,6 +168,11 @@ fn clients_turns<R: Threads + Sync, G: Gate>(
         [client] => client_turn(client, links, tracks, files, gate),
         _ => {
             let (front, back) = clients.split_at_mut(clients.len() / 2);
+            if have_ended(front) || have_ended(back) {
+                clients_turns(rt, front, links, tracks, files, gate);
+                clients_turns(rt, back, links, tracks, files, gate);
+                return;
+            }
             join_mut(
                 rt,
                 &mut ||

@@ -38,6 +38,7 @@ returns-clause-made g c = λ told.
       pushes = p.pushes;
       never_older = p.never_older;
       spared = p.spared;
+      kept = p.kept;
     } in
     subst (λ (l : Loaded). Makes c.tell-told.result (Ok (play_job c.args.target.now c.args.journal.now l)) old new) same
     (Makes-told here c.cycles.result c.cycles.ensures.value c.args.target.now c.args.journal.now old mid new c.play-played.result c.tell-told.result keeps (p.written told) (p.cut told) (p.left told)
@@ -65,6 +66,7 @@ returns-clause-line g c =
       pushes = p.pushes;
       never_older = p.never_older;
       spared = p.spared;
+      kept = p.kept;
     } in
     some_play_told here c.cycles.result c.play-played.result c.tell-told.result keeps c.tell-told.ensures.told
 

@@ -39,6 +39,7 @@ returns-clause-made g c = λ told.
       pushes = p.pushes;
       never_older = p.never_older;
       spared = p.spared;
+      kept = p.kept;
     } in
     subst (λ (l : Loaded). Makes c.tell_with_log-told.result (Ok (trace_job c.args.target.now c.args.journal.now c.args.log.now c.args.room l)) old new) same
     (Makes-logged here c.args.room c.args.target.now c.args.journal.now c.args.log.now old mid new c.deref-2.result.now c.play_logged-played.new.text.items c.new-text.result.items c.deref-2.ensures.value c.new-text.ensures.items
@@ -67,6 +68,7 @@ returns-clause-line g c =
       pushes = p.pushes;
       never_older = p.never_older;
       spared = p.spared;
+      kept = p.kept;
     } in
     some_play_told here c.cycles-cycles.result c.play_logged-played.result c.tell_with_log-told.result keeps c.tell_with_log-told.ensures.told
 
