@@ -92,6 +92,10 @@ module _ (commands : Bool) (s : Session) (script : IsScript s.script) (n : ℕ) 
     server = server_unshut t.stream fit.stream history fit.spelled.stream h.rears;
   }
 
-  -- and was spared by all steps up to here
+  -- neither of its proxies is shut
+  pub unshut_met_so : IsUnshut commands t
+  unshut_met_so = unshut_by commands trim has_history
+
+  -- and it was spared by all steps up to here
   pub spared_so : S
-  spared_so = (goes.track.unshut (new_trim s script n low commands) (unshut_by commands trim has_history)).1
+  spared_so = (goes.track.unshut (new_trim s script n low commands) unshut_met_so).1

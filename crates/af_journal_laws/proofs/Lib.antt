@@ -5,3 +5,10 @@ pub mod AtMeetings
 pub mod SparedMet
 pub mod Turns
 pub mod FatesMet
+pub mod FlagsCalm
+pub mod CallsAlive
+pub mod TrackAlive
+pub mod Lives
+pub mod AliveMet
+pub mod AllHolds
+pub mod MeetsLast

@@ -22,7 +22,7 @@ use Rattle.af_journal_laws.proofs.Steps.{Goes, goes_as, goes_both, goes_called, 
 -- ## What a legal round has
 
 -- both parts of its entries are legal, those before the turn and those behind it; where there are none too
-legal_parts : (b full : Bool) (s : Session) (marks : Marks) (run : Run) (round : RoundSeen) → MatchBool b (round.entries ≡ []) (IsFastTurn most_cycles full round.entries × LegalEntries s marks (with_calls round run) (early_of run round) × LegalEntries s marks (after_turn s run round) (late_of run round))
+pub legal_parts : (b full : Bool) (s : Session) (marks : Marks) (run : Run) (round : RoundSeen) → MatchBool b (round.entries ≡ []) (IsFastTurn most_cycles full round.entries × LegalEntries s marks (with_calls round run) (early_of run round) × LegalEntries s marks (after_turn s run round) (late_of run round))
     → LegalEntries s marks (with_calls round run) (early_of run round) × LegalEntries s marks (after_turn s run round) (late_of run round)
 legal_parts false full s marks run round h = (h.1, h.2)
 legal_parts true full s marks run round none = (subst (LegalEntries s marks (with_calls round run)) (sym (ap (λ l. take (prefix_len (is_early run) l) l) none)) tt, subst (LegalEntries s marks (after_turn s run round)) (sym (ap (λ l. drop (prefix_len (is_early run) l) l) none)) tt)
@@ -36,9 +36,9 @@ turn_rises tracks round e form is = by_form (subst (λ (o : Option Turn). MatchO
     by_form (inr open_turn) = open_turn.rise
 
 -- where it may have one, it is legal
-pub turn_legal : (s : Session) (marks : Marks) (ended : Bool) (May : Turn → Type 0) (o : Option Turn) (e : Turn) → MatchBool ended (o ≡ None) (MatchOption o ⊥ May) → o ≡ Some e → May e
-turn_legal s marks true May o e none is = no (sym (ap is_some none) ∙ ap is_some is)
-turn_legal s marks false May o e turn is = subst (λ (o : Option Turn). MatchOption o ⊥ May) is turn
+pub turn_legal : (ended : Bool) (May : Turn → Type 0) (o : Option Turn) (e : Turn) → MatchBool ended (o ≡ None) (MatchOption o ⊥ May) → o ≡ Some e → May e
+turn_legal true May o e none is = no (sym (ap is_some none) ∙ ap is_some is)
+turn_legal false May o e turn is = subst (λ (o : Option Turn). MatchOption o ⊥ May) is turn
 
 -- ## Entries
 
@@ -67,7 +67,7 @@ module _ (commands cut : Bool) (s : Session) (marks : Marks) (run : Run) (round 
   turned_so (Some e) is low =
       let beside = cycles_beside s (early_of run round) (with_calls round run) in
       goes_turned commands s n marks (found_in s run round e) e run.normal (before_turn s run round) low refl (sym (beside.commands n)) beside.normal (turn_rises tracks round e form is)
-      (turn_legal s marks run.normal.ended (λ e. LegalTurnBy (setup_of s) marks (found_in s run round e) run.normal e) round.turn e legal.turns.normal is)
+      (turn_legal run.normal.ended (λ e. LegalTurnBy (setup_of s) marks (found_in s run round e) run.normal e) round.turn e legal.turns.normal is)
 
   pub goes_round : n < track_count s → n < length run.tracks → list_any (is_poke_on commands) (calls_in round n) ≡ false → Goes commands s n run (after_round s run round) (recorded_in s run round n) (IsSparedIn commands s run round n)
   goes_round track low calm =

@@ -55,7 +55,7 @@ module _ (commands : Bool) (s : Session) (marks : Marks) (n : ℕ) where
   -- ## Calls
 
   -- one client made its calls, and no other did
-  goes_calls : (track : ℕ) (round : RoundSeen) (run : Run) → n < length run.tracks → OnlyCalls (λ t. t ≡ track) round → list_any (is_poke_on commands) (calls_in round n) ≡ false → LegalClientTurn (sides_of (told_at run track)) (calls_in round track)
+  pub goes_calls : (track : ℕ) (round : RoundSeen) (run : Run) → n < length run.tracks → OnlyCalls (λ t. t ≡ track) round → list_any (is_poke_on commands) (calls_in round n) ≡ false → LegalClientTurn (sides_of (told_at run track)) (calls_in round track)
       → Goes commands s n run (calls_alone track round run) [] (none_corrupt_on commands (calls_in round n) ≡ true)
   goes_calls track round run low only calm legal = by_number (n == track) refl
     where
@@ -87,20 +87,20 @@ module _ (commands : Bool) (s : Session) (marks : Marks) (n : ℕ) where
   goes_turn None round tracks run low form is legal = goes_as commands s n run run [] [] (Unit {0}) _ refl (λ u. refl) (goes_same commands s n run run low refl)
   goes_turn (Some e) round tracks run low form is legal =
       let after = turned s (found_before s run []) (Some e) run in
-      let one = goes_turned commands s n marks (found_before s run [] e) e run.normal run low refl refl refl (turn_rises tracks round e form is) (turn_legal s marks run.normal.ended (λ e. LegalTurnBy (setup_of s) marks (found_before s run [] e) run.normal e) (Some e) e legal refl) in
+      let one = goes_turned commands s n marks (found_before s run [] e) e run.normal run low refl refl refl (turn_rises tracks round e form is) (turn_legal run.normal.ended (λ e. LegalTurnBy (setup_of s) marks (found_before s run [] e) run.normal e) (Some e) e legal refl) in
       goes_then commands s n run after (loaded (Some e) after) (recorded_by_turn (Some e) n) _ one (goes_loaded commands s n (Some e) after one.there)
 
   -- ## A round
 
   -- no client made a call
-  none_called : (round : RoundSeen) → OnlyCalls (λ t. ⊥) round → calls_in round n ≡ []
+  pub none_called : (round : RoundSeen) → OnlyCalls (λ t. ⊥) round → calls_in round n ≡ []
   none_called round only = by_only (only n)
     where
       by_only : ⊥ ⊎ (calls_in round n ≡ []) → calls_in round n ≡ []
       by_only (inl never) = absurd never
       by_only (inr none) = none
 
-  entries_legal : (b : Bool) (run : Run) (round : RoundSeen) (F : Type 0) → MatchBool b (round.entries ≡ []) (F × LegalAlone s marks run round.entries) → LegalAlone s marks run round.entries
+  pub entries_legal : (b : Bool) (run : Run) (round : RoundSeen) (F : Type 0) → MatchBool b (round.entries ≡ []) (F × LegalAlone s marks run round.entries) → LegalAlone s marks run round.entries
   entries_legal true run round F none = subst (LegalAlone s marks run) (sym none) tt
   entries_legal false run round F legal = legal.1
 

@@ -2,3 +2,5 @@ pub mod Meetings
 pub mod Spared
 pub mod Alone
 pub mod Fates
+pub mod Alive
+pub mod Laws
