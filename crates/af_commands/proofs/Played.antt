@@ -5,6 +5,7 @@ use Rattle.af_model.specs.Journals.{JournalData}
 use Rattle.af_io.specs.Files.{Files, SetsFile}
 use Rattle.af_io.specs.declared.store.StoreError.{StoreError}
 use Rattle.af_tally.specs.declared.summary.Summary.{Summary}
+use Rattle.af_journal_laws.proofs.AllHolds.{holds-at-meetings-alone}
 use Rattle.af_one_turn_run.proofs.OneTurnRun.{one_turn_run}
 use Rattle.af_render_law.proofs.RendersTold.{render_told}
 use Rattle.af_script.specs.Form.{IsScript}
@@ -31,6 +32,7 @@ module _ (l : Loaded) (journal : JournalData) (ends : EndsState) (back : HandsBa
     told = (let told = render_told l.script l.files journal ends accepted back in record {
       run = told.run;
       line_is = ap summary_line (summary_is ∙ told.summary);
+      met = holds-at-meetings-alone l.script l.files journal accepted told.run;
       alone = (λ plain met other run also. one_turn_run l.script l.files other journal accepted plain run told.run also met);
     });
     kept = (render_told l.script l.files journal ends accepted back).kept;

@@ -3,6 +3,9 @@ use Rattle.std.proofs.Common.{◌≡◌, ◌∙◌, ℕ, Bool, true, false, List
 use Rattle.std.specs.declared.alloc.Global.{Global}
 use Rattle.af_io.specs.Files.{Files, SameFiles, SetsFile, LeavesFront}
 use Rattle.af_io.specs.Outputs.{with_file}
+use Rattle.af_journal_laws.specs.Laws.{HoldsAtMeetings}
+use Rattle.af_journal_laws.proofs.AllHolds.{holds-at-meetings}
+use Rattle.af_script.specs.Form.{IsScript}
 use Rattle.af_journal.specs.Readings.{IsOneReading}
 use Rattle.af_journal.specs.Texts.{text_of}
 use Rattle.af_journal.proofs.OneJournal.{read-back}
@@ -30,24 +33,32 @@ use Rattle.af_commands.specs.Told.{Tells, TellsText}
 use Rattle.af_offline.specs.Verified.{IsTextFor}
 use Rattle.af_offline.proofs.Chains.{files_are}
 
+-- a legal journal, and what follows of it up to the meetings
+pub record IsKept (ended : Bool) (l : Loaded) (journal : JournalData) : Type 0 where
+  pub legal : IsLegalJournal ended l.script l.files journal
+  pub met : HoldsAtMeetings l.script l.files journal
+
 -- the promises of a journal
-pub promises : (l : Loaded) (p : Played) → KeepsPlay l.script l.files (Ok p) → IsLegalJournal true l.script l.files p.journal
-promises l p keeps = record { legal = keeps.legal; fates = keeps.fates; unshut = keeps.unshut; drained = keeps.drained; settled = keeps.settled; emptied = keeps.emptied }
+pub promises : (l : Loaded) (accepted : IsScript l.script) (p : Played) → KeepsPlay l.script l.files (Ok p) → IsKept true l p.journal
+promises l accepted p keeps = record {
+  legal = record { legal = keeps.legal; fates = keeps.fates; unshut = keeps.unshut; drained = keeps.drained; settled = keeps.settled; emptied = keeps.emptied };
+  met = holds-at-meetings false l.script l.files p.journal accepted keeps.legal.rounds;
+}
 
 -- and those of one that was cut off
-pub cut_short : (l : Loaded) (journal : JournalData) (ends : EndsState) → KeepsPlay l.script l.files (Err (fault.CycleLimit journal ends)) → IsLegalJournal false l.script l.files journal
-cut_short l journal ends keeps = (keeps.cut_run, keeps.enough)
+pub cut_short : (l : Loaded) (accepted : IsScript l.script) (journal : JournalData) (ends : EndsState) → KeepsPlay l.script l.files (Err (fault.CycleLimit journal ends)) → IsKept false l journal
+cut_short l accepted journal ends keeps = record { legal = (keeps.cut_run, keeps.enough); met = holds-at-meetings true l.script l.files journal accepted keeps.cut_run.rounds }
 
 -- the text of a run's journal is read as this journal alone
 pub read_alone : (ended : Bool) (l : Loaded) (journal : JournalData) (ends : EndsState) → HandsBackRun ended l.script l.files journal ends → IsTextFor l.script (text_of journal) journal
 read_alone ended l journal ends back = subst (λ (tracks : ℕ). IsOneReading tracks (text_of journal) journal) (ap (λ (j : JournalData). j.tracks) back.journal_is) (read-back journal back.form)
 
-module _ (ended : Bool) (l : Loaded) (journal : JournalData) (ends : EndsState) (back : HandsBackRun ended l.script l.files journal ends) (legal : IsLegalJournal ended l.script l.files journal) where
+module _ (ended : Bool) (l : Loaded) (journal : JournalData) (ends : EndsState) (back : HandsBackRun ended l.script l.files journal ends) (legal : IsKept ended l journal) where
   abbrev bytes : List ℕ
   bytes = journal_pcm l.script.frames journal
 
-  is_play : (line : List ℕ) → line ≡ run_line ended l.script l.files journal → IsPlay ended l.script l.files bytes (text_of journal) line
-  is_play line is = record { journal = journal; ends = ends; run = back; legal = legal; kept = lists_kept ended l.script l.files journal ends back; bytes_are = refl; text_is = refl; read = read_alone ended l journal ends back; line_is = is }
+  abbrev pub is_play : (line : List ℕ) → line ≡ run_line ended l.script l.files journal → IsPlay ended l.script l.files bytes (text_of journal) line
+  is_play line is = record { journal = journal; ends = ends; run = back; legal = legal.legal; met = legal.met; kept = lists_kept ended l.script l.files journal ends back; bytes_are = refl; text_is = refl; read = read_alone ended l journal ends back; line_is = is }
 
   module _ (target name : List ℕ) (old mid : Files) (set : SetsFile old target (Some bytes) mid) where
     made : with_file old (record { name = target; bytes = bytes }) ≡ mid
@@ -71,7 +82,7 @@ module _ (ended : Bool) (l : Loaded) (journal : JournalData) (ends : EndsState) 
 
 -- ## A run in which all parties have ended
 
-module _ (l : Loaded) (journal : JournalData) (ends : EndsState) (back : HandsBackRun true l.script l.files journal ends) (legal : IsLegalJournal true l.script l.files journal) (summary : Summary) (summary_is : summary ≡ summary_of_play l.script l.files journal) where
+module _ (l : Loaded) (journal : JournalData) (ends : EndsState) (back : HandsBackRun true l.script l.files journal ends) (legal : IsKept true l journal) (summary : Summary) (summary_is : summary ≡ summary_of_play l.script l.files journal) where
   pub line_told : (line : List ℕ) → line ≡ summary_line summary → line ≡ run_line true l.script l.files journal
   line_told line is = is ∙ ap summary_line summary_is
 
@@ -84,7 +95,7 @@ module _ (l : Loaded) (journal : JournalData) (ends : EndsState) (back : HandsBa
 
 -- ## A run that was cut off
 
-pub Makes-cut : (l : Loaded) (journal : JournalData) (ends : EndsState) → HandsBackRun false l.script l.files journal ends → IsLegalJournal false l.script l.files journal → (target name : List ℕ) (old mid new : Files)
+pub Makes-cut : (l : Loaded) (journal : JournalData) (ends : EndsState) → HandsBackRun false l.script l.files journal ends → IsKept false l journal → (target name : List ℕ) (old mid new : Files)
     → SetsFile old target (Some (journal_pcm l.script.frames journal)) mid → SetsFile mid name (Some (text_of journal)) new
     → (cycles : ℕ) → cycles ≡ l.script.cycles → Makes (Err (Over (Limit cycles))) (Ok (play_job target name l)) old new
 Makes-cut l journal ends back legal target name old mid new set text cycles is =
@@ -96,9 +107,9 @@ Makes-cut l journal ends back legal target name old mid new set text cycles is =
 pub LeavesRun-stays : (l : Loaded) (target : List ℕ) (old mid new : Files) → LeavesRun l.script l.files target old mid → SameFiles mid new → LeavesRun l.script l.files target old new
 LeavesRun-stays l target old mid new left same = subst (λ (files : Files). LeavesRun l.script l.files target old files) (sym (files_are mid new same)) left
 
-module _ (l : Loaded) (cycles : ℕ) where
+module _ (l : Loaded) (accepted : IsScript l.script) (cycles : ℕ) where
   pub some_play_told : (played : Result Played PlayFault) (result : Result (String Global) Stop) → KeepsPlay l.script l.files played → Tells cycles played result → IfOk result (λ line. IsSomePlayLine (string_bytes line))
-  some_play_told (Ok p) (Ok line) keeps told = some_play_line l p.journal p.ends keeps.played (promises l p keeps) p.summary (keeps.summary ∙ keeps.alone) (string_bytes line) told
+  some_play_told (Ok p) (Ok line) keeps told = some_play_line l p.journal p.ends keeps.played (promises l accepted p keeps) p.summary (keeps.summary ∙ keeps.alone) (string_bytes line) told
   some_play_told (Err (fault.CycleLimit journal ends)) (Ok line) keeps none = absurd none
   some_play_told (Err fault.Store) (Ok line) keeps clash = let none : ⊥ = cc in absurd none
   some_play_told (Err fault.Memory) (Ok line) keeps clash = let none : ⊥ = cc in absurd none
@@ -110,18 +121,18 @@ module _ (l : Loaded) (cycles : ℕ) where
         → IfErr played (AtLimit (λ journal _. SetsFile old target (Some (journal_pcm l.script.frames journal)) mid))
         → IfErr played (AtFault (LeavesRun l.script l.files target old mid))
         → Tells cycles played result → TellsText name played result mid new → Makes result (Ok (play_job target name l)) old new
-    Makes-told (Ok p) (Ok line) keeps set cut left told text = Makes-rounds l p.journal p.ends keeps.played (promises l p keeps) p.summary (keeps.summary ∙ keeps.alone) target name old mid new set text line told
+    Makes-told (Ok p) (Ok line) keeps set cut left told text = Makes-rounds l p.journal p.ends keeps.played (promises l accepted p keeps) p.summary (keeps.summary ∙ keeps.alone) target name old mid new set text line told
     Makes-told (Ok p) (Err (Refused refusal)) keeps set cut left none text = absurd none
     Makes-told (Ok p) (Err (Over over)) keeps set cut left none text = absurd none
-    Makes-told (Ok p) (Err Store) keeps set cut left told text = inl (inr (inr (text_left true l p.journal p.ends keeps.played (promises l p keeps) target name old mid set new text)))
-    Makes-told (Ok p) (Err Memory) keeps set cut left told text = inl (inr (inr (text_left true l p.journal p.ends keeps.played (promises l p keeps) target name old mid set new text)))
+    Makes-told (Ok p) (Err Store) keeps set cut left told text = inl (inr (inr (text_left true l p.journal p.ends keeps.played (promises l accepted p keeps) target name old mid set new text)))
+    Makes-told (Ok p) (Err Memory) keeps set cut left told text = inl (inr (inr (text_left true l p.journal p.ends keeps.played (promises l accepted p keeps) target name old mid set new text)))
     Makes-told (Err (fault.CycleLimit journal ends)) (Ok line) keeps set cut left none text = absurd none
     Makes-told (Err (fault.CycleLimit journal ends)) (Err (Refused refusal)) keeps set cut left none text = absurd none
     Makes-told (Err (fault.CycleLimit journal ends)) (Err (Over over)) keeps set cut left is text =
         subst (λ (o : Ending). Makes (Err (Over o)) (Ok (play_job target name l)) old new) (sym is)
-        (Makes-cut l journal ends keeps.limit (cut_short l journal ends keeps) target name old mid new cut text cycles cycles_are)
-    Makes-told (Err (fault.CycleLimit journal ends)) (Err Store) keeps set cut left told text = inl (inr (inr (text_left false l journal ends keeps.limit (cut_short l journal ends keeps) target name old mid cut new text)))
-    Makes-told (Err (fault.CycleLimit journal ends)) (Err Memory) keeps set cut left told text = inl (inr (inr (text_left false l journal ends keeps.limit (cut_short l journal ends keeps) target name old mid cut new text)))
+        (Makes-cut l journal ends keeps.limit (cut_short l accepted journal ends keeps) target name old mid new cut text cycles cycles_are)
+    Makes-told (Err (fault.CycleLimit journal ends)) (Err Store) keeps set cut left told text = inl (inr (inr (text_left false l journal ends keeps.limit (cut_short l accepted journal ends keeps) target name old mid cut new text)))
+    Makes-told (Err (fault.CycleLimit journal ends)) (Err Memory) keeps set cut left told text = inl (inr (inr (text_left false l journal ends keeps.limit (cut_short l accepted journal ends keeps) target name old mid cut new text)))
     Makes-told (Err fault.Store) result keeps set cut left is same =
         subst (λ (r : Result (String Global) Stop). Makes r (Ok (play_job target name l)) old new) (sym is) (inl (inr (inl (LeavesRun-stays l target old mid new left same))))
     Makes-told (Err fault.Memory) result keeps set cut left is same =

@@ -7,6 +7,7 @@ use Rattle.af_journal.specs.Texts.{text_of}
 use Rattle.af_model.specs.Journals.{JournalData}
 use Rattle.af_nblog.specs.declared.entries.Note.{Note}
 use Rattle.af_nblog.specs.LogText.{log_text}
+use Rattle.af_script.specs.Form.{IsScript}
 use Rattle.af_runs.specs.Pcm.{journal_pcm}
 use Rattle.af_tally.specs.declared.summary.Summary.{Summary}
 use Rattle.af_playing.specs.declared.answering.PlayFault.{PlayFault}
@@ -14,10 +15,9 @@ use Rattle.af_playing.specs.declared.answering.PlayFault.TheVariants as fault
 use Rattle.af_rendering.specs.declared.rendering.Played.{Played}
 use Rattle.af_session.specs.Ends.{EndsState}
 use Rattle.af_side_by_side.specs.Logging.{IsLogOf}
-use Rattle.af_playing.specs.PlayedRuns.{AtFault, AtLimit, HandsBackRun, IsLegalJournal, LeavesRun}
+use Rattle.af_playing.specs.PlayedRuns.{AtFault, AtLimit, HandsBackRun, LeavesRun}
 use Rattle.af_playing.specs.PlayKept.{KeepsPlay}
 use Rattle.af_playing.specs.PlayedAlone.{summary_of_play}
-use Rattle.af_playing.proofs.ListsKept.{lists_kept}
 use Rattle.af_offline.specs.declared.status.Stop.{Stop}
 use Rattle.af_offline.specs.declared.status.Stop.TheVariants.{Refused, Over, Store, Memory}
 use Rattle.af_offline.specs.declared.status.Ending.{Ending}
@@ -30,13 +30,13 @@ use Rattle.af_commands.specs.Sessions.{summary_line}
 use Rattle.af_commands.specs.Told.{Tells, TellsTexts}
 use Rattle.af_commands.specs.Traces.{IsTrace, IsTraced, LeavesLog, LeavesTrace}
 use Rattle.af_offline.proofs.Chains.{files_are}
-use Rattle.af_commands.proofs.PlayedRounds.{LeavesRun-stays, cut_short, line_told, played, promises, read_alone, text_left}
+use Rattle.af_commands.proofs.PlayedRounds.{IsKept, LeavesRun-stays, cut_short, is_play, line_told, played, promises, text_left}
 
 -- what a list that was empty holds behind what was appended
 appended : (held new empty more : List ℕ) → held ≡ new → new ≡ empty ++ more → empty ≡ [] → held ≡ more
 appended held new empty more is grown none = is ∙ grown ∙ ap (λ (xs : List ℕ). xs ++ more) none
 
-module _ (l : Loaded) (room : ℕ) (journal : JournalData) (ends : EndsState) (back : HandsBackRun true l.script l.files journal ends) (legal : IsLegalJournal true l.script l.files journal) (notes : List Note) (refused : ℕ) (log_of : IsLogOf l.script.frames room journal notes refused) (kept : 32 ≤ room → refused ≡ 0) where
+module _ (l : Loaded) (room : ℕ) (journal : JournalData) (ends : EndsState) (back : HandsBackRun true l.script l.files journal ends) (legal : IsKept true l journal) (notes : List Note) (refused : ℕ) (log_of : IsLogOf l.script.frames room journal notes refused) (kept : 32 ≤ room → refused ≡ 0) where
   abbrev bytes : List ℕ
   bytes = journal_pcm l.script.frames journal
 
@@ -44,7 +44,7 @@ module _ (l : Loaded) (room : ℕ) (journal : JournalData) (ends : EndsState) (b
   told = log_text notes refused
 
   is_trace : (line : List ℕ) → line ≡ run_line true l.script l.files journal → IsTrace l.script l.files room bytes (text_of journal) told line
-  is_trace line is = record { play = record { journal = journal; ends = ends; run = back; legal = legal; kept = lists_kept true l.script l.files journal ends back; bytes_are = refl; text_is = refl; read = read_alone true l journal ends back; line_is = is }; notes = notes; refused = refused; log_of = log_of; log_is = refl; all_kept = kept }
+  is_trace line is = record { play = is_play true l journal ends back legal line is; notes = notes; refused = refused; log_of = log_of; log_is = refl; all_kept = kept }
 
   module _ (target name log : List ℕ) (old mid next : Files) (set : SetsFile old target (Some bytes) mid) (text : SetsFile mid name (Some (text_of journal)) next) where
     both : with_files old (record { name = target; bytes = bytes } ∷ record { name = name; bytes = text_of journal } ∷ []) ≡ next
@@ -73,7 +73,7 @@ module _ (l : Loaded) (room : ℕ) (journal : JournalData) (ends : EndsState) (b
 -- ## Where no log is written
 
 -- a run that was cut off
-pub Makes-cut_log : (l : Loaded) (room : ℕ) (journal : JournalData) (ends : EndsState) → HandsBackRun false l.script l.files journal ends → IsLegalJournal false l.script l.files journal → (target name log : List ℕ) (old mid new : Files)
+pub Makes-cut_log : (l : Loaded) (room : ℕ) (journal : JournalData) (ends : EndsState) → HandsBackRun false l.script l.files journal ends → IsKept false l journal → (target name log : List ℕ) (old mid new : Files)
     → SetsFile old target (Some (journal_pcm l.script.frames journal)) mid → SetsFile mid name (Some (text_of journal)) new
     → (cycles : ℕ) → cycles ≡ l.script.cycles → Makes (Err (Over (Limit cycles))) (Ok (trace_job target name log room l)) old new
 Makes-cut_log l room journal ends back legal target name log old mid new set text cycles is =
@@ -85,14 +85,14 @@ Makes-cut_log l room journal ends back legal target name log old mid new set tex
 abbrev HasLog : Loaded → ℕ → JournalData → List ℕ → List ℕ → Type 0
 HasLog l room journal grown empty = (notes : List Note) × (refused : ℕ) × IsLogOf l.script.frames room journal notes refused × (grown ≡ empty ++ log_text notes refused) × (32 ≤ room → refused ≡ 0)
 
-module _ (l : Loaded) (room : ℕ) (target name log : List ℕ) (old mid new : Files) where
+module _ (l : Loaded) (accepted : IsScript l.script) (room : ℕ) (target name log : List ℕ) (old mid new : Files) where
   -- the journal is not whole, or the log
   trace_left : (p : Played) → KeepsPlay l.script l.files (Ok p) → SetsFile old target (Some (journal_pcm l.script.frames p.journal)) mid → (notes : List Note) (refused : ℕ) → IsLogOf l.script.frames room p.journal notes refused → (32 ≤ room → refused ≡ 0) → (held : List ℕ) → held ≡ log_text notes refused
       → LeavesFront mid name (text_of p.journal) new ⊎ ((next : Files) × SetsFile mid name (Some (text_of p.journal)) next × LeavesFront next log held new)
       → LeavesTrace l.script l.files room target name log old new
-  trace_left p keeps set notes refused log_of kept held is (inl left) = inl (inr (text_left true l p.journal p.ends keeps.played (promises l p keeps) target name old mid set new left))
+  trace_left p keeps set notes refused log_of kept held is (inl left) = inl (inr (text_left true l p.journal p.ends keeps.played (promises l accepted p keeps) target name old mid set new left))
   trace_left p keeps set notes refused log_of kept held is (inr (next, text, left)) =
-      inr (log_left l room p.journal p.ends keeps.played (promises l p keeps) notes refused log_of kept target name log old mid next set text new
+      inr (log_left l room p.journal p.ends keeps.played (promises l accepted p keeps) notes refused log_of kept target name log old mid next set text new
       (subst (λ (xs : List ℕ). LeavesFront next log xs new) is left))
 
   module _ (held grown empty : List ℕ) (held_is : held ≡ grown) (none : empty ≡ []) (cycles : ℕ) (cycles_are : cycles ≡ l.script.cycles) where
@@ -103,7 +103,7 @@ module _ (l : Loaded) (room : ℕ) (target name log : List ℕ) (old mid new : F
         → IfOk played (λ p. HasLog l room p.journal grown empty)
         → Tells cycles played result → TellsTexts name log held played result mid new → Makes result (Ok (trace_job target name log room l)) old new
     Makes-logged (Ok p) (Ok line) keeps set cut left logged line_is (next, text, wrote) =
-        Makes-traced l room p.journal p.ends keeps.played (promises l p keeps) logged.0 logged.1 logged.2 logged.4 target name log old mid next set text p.summary (keeps.summary ∙ keeps.alone) new
+        Makes-traced l room p.journal p.ends keeps.played (promises l accepted p keeps) logged.0 logged.1 logged.2 logged.4 target name log old mid next set text p.summary (keeps.summary ∙ keeps.alone) new
         (subst (λ (xs : List ℕ). SetsFile next log (Some xs) new) (appended held grown empty (log_text logged.0 logged.1) held_is logged.3 none) wrote) line line_is
     Makes-logged (Ok p) (Err (Refused refusal)) keeps set cut left logged wrong texts = absurd wrong
     Makes-logged (Ok p) (Err (Over over)) keeps set cut left logged wrong texts = absurd wrong
@@ -115,11 +115,11 @@ module _ (l : Loaded) (room : ℕ) (target name log : List ℕ) (old mid new : F
     Makes-logged (Err (fault.CycleLimit journal ends)) (Err (Refused refusal)) keeps set cut left logged wrong text = absurd wrong
     Makes-logged (Err (fault.CycleLimit journal ends)) (Err (Over over)) keeps set cut left logged is text =
         subst (λ (o : Ending). Makes (Err (Over o)) (Ok (trace_job target name log room l)) old new) (sym is)
-        (Makes-cut_log l room journal ends keeps.limit (cut_short l journal ends keeps) target name log old mid new cut text cycles cycles_are)
+        (Makes-cut_log l room journal ends keeps.limit (cut_short l accepted journal ends keeps) target name log old mid new cut text cycles cycles_are)
     Makes-logged (Err (fault.CycleLimit journal ends)) (Err Store) keeps set cut left logged stopped text =
-        inl (inr (inl (inr (text_left false l journal ends keeps.limit (cut_short l journal ends keeps) target name old mid cut new text))))
+        inl (inr (inl (inr (text_left false l journal ends keeps.limit (cut_short l accepted journal ends keeps) target name old mid cut new text))))
     Makes-logged (Err (fault.CycleLimit journal ends)) (Err Memory) keeps set cut left logged stopped text =
-        inl (inr (inl (inr (text_left false l journal ends keeps.limit (cut_short l journal ends keeps) target name old mid cut new text))))
+        inl (inr (inl (inr (text_left false l journal ends keeps.limit (cut_short l accepted journal ends keeps) target name old mid cut new text))))
     Makes-logged (Err fault.Store) result keeps set cut left logged is same =
         subst (λ (r : Result (String Global) Stop). Makes r (Ok (trace_job target name log room l)) old new) (sym is) (inl (inr (inl (inl (LeavesRun-stays l target old mid new left same)))))
     Makes-logged (Err fault.Memory) result keeps set cut left logged is same =

@@ -4,6 +4,7 @@ use Rattle.af_base.specs.declared.frame.Frame.{Frame}
 use Rattle.af_io.specs.Files.{Files, LeavesFront}
 use Rattle.af_io.specs.Outputs.{SetsFiles, with_file}
 use Rattle.af_journal.specs.Texts.{text_of}
+use Rattle.af_journal_laws.specs.Laws.{HoldsAtMeetings}
 use Rattle.af_model.specs.Journals.{JournalData}
 use Rattle.af_script.specs.Data.{ScriptData}
 use Rattle.af_playing.specs.PlayedAlone.{summary_of_play}
@@ -23,12 +24,13 @@ abbrev pub run_line : Bool → ScriptData → List (List Frame) → JournalData 
 run_line true script files journal = summary_line (summary_of_play script files journal)
 run_line false script files journal = limit_text script.cycles
 
--- These bytes, this text and this line are of one run of all parties, in which all have ended, or which was cut off where the log was full: the sound of its journal, the text of the same journal, which is its one reading, and its line. By itself that journal is a legal run in which each frame of a lawful client has one fate and each lawful track is spared, or else a cut run; and the lists that the parties keep are those of the run that it tells
+-- These bytes, this text and this line are of one run of all parties, in which all have ended, or which was cut off where the log was full: the sound of its journal, the text of the same journal, which is its one reading, and its line. By itself that journal is a legal run in which each frame of a lawful client has one fate and each lawful track is spared, or else a cut run. In either, up to each meeting of its two proxies, a block without a poke is spared, each frame released on such a stream block has one fate, and no write of a track without a poke is answered Dead; and the lists that the parties keep are those of the run that it tells
 pub record IsPlay (ended : Bool) (script : ScriptData) (files : List (List Frame)) (bytes text line : List ℕ) : Type 0 where
   pub journal : JournalData
   pub ends : EndsState
   pub run : HandsBackRun ended script files journal ends
   pub legal : IsLegalJournal ended script files journal
+  pub met : HoldsAtMeetings script files journal
   pub kept : KeepsLists (run_of script files journal) ends
   pub bytes_are : bytes ≡ journal_pcm script.frames journal
   pub text_is : text ≡ text_of journal

@@ -11,7 +11,7 @@ ghost use Rattle.af_words.specs.Requests.{Play};
 ghost use Rattle.af_offline.specs.Status.{HasFault, SuitsRequest};
 ghost use Rattle.af_commands.specs.Told.{Tells, TellsCause, TellsEnded, TellsLimit, TellsText, WritesText};
 
-use crate::render::line_of;
+use crate::render::{is_accepted, line_of};
 use af_base::Memory;
 use af_io::{Gate, Store, StoreError};
 use af_model::Journal;
@@ -118,6 +118,7 @@ fn play<R: Threads + Sync, S: Store, G: Gate>(
     ensures cause { HasFault (S.faults store.old) (S.faults store.new) result }
     ensures words { (script : List ℕ) → SuitsRequest result (Play script target.now journal.now) }
 {
+    is_accepted(&loaded.script);
     let played = af_playing::play(
         rt,
         alloc,

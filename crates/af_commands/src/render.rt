@@ -39,8 +39,8 @@ fn tell(alloc: Global, played: &Result<Played, StoreError>) -> Result<String, St
     }
 }
 
-// What was read as a script keeps the rules of a script: its type says so.
-fn is_accepted(script: &Script)
+/// What was read as a script keeps the rules of a script: its type says so.
+pub(crate) fn is_accepted(script: &Script)
     ensures { IsScript script.now }
 {
     let _version = script.version();

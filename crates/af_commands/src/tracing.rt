@@ -9,6 +9,7 @@ ghost use Rattle.af_offline.specs.Status.{HasFault, SuitsRequest};
 ghost use Rattle.af_commands.specs.Told.{Tells, TellsCause, TellsTexts};
 
 use crate::playing::tell;
+use crate::render::is_accepted;
 use af_io::{Gate, Store};
 use af_offline::{Loaded, Stop, load_script, write_file};
 use af_playing::PlayFault;
@@ -54,6 +55,7 @@ fn trace<R: Threads + Sync, S: Store, G: Gate>(
     ensures cause { HasFault (S.faults store.old) (S.faults store.new) result }
     ensures words { (script : List ℕ) → SuitsRequest result (Trace script target.now journal.now log.now room) }
 {
+    is_accepted(&loaded.script);
     let mut text = Vec::new(alloc);
     let played = af_playing::play_logged(
         rt,

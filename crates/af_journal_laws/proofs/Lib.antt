@@ -1,0 +1,14 @@
+pub mod Steps
+pub mod Looks
+pub mod Rounds
+pub mod AtMeetings
+pub mod SparedMet
+pub mod Turns
+pub mod FatesMet
+pub mod FlagsCalm
+pub mod CallsAlive
+pub mod TrackAlive
+pub mod Lives
+pub mod AliveMet
+pub mod AllHolds
+pub mod MeetsLast

@@ -1,0 +1,122 @@
+-- Where both blocks of a track are spared, no step sets INVALID on its stream block; and where its client sees none by the end, none of its writes was answered Dead.
+use Rattle.std.proofs.Common.{◌≡◌, ℕ, ◌<◌, Bool, true, false, if◌then◌else◌, List, [], length, Option, Some, None, refl, sym, ◌∙◌, subst, arith}
+use Rattle.std.specs.List.{list_any}
+use Rattle.af_base.specs.declared.state.FastState.{FastState}
+use Rattle.af_base.specs.Turn.{Turn}
+use Rattle.af_life.specs.Kept.{NormalKept}
+use Rattle.af_model.specs.JournalForm.{TracksRise}
+use Rattle.af_model.specs.Journals.{EntrySeen, RoundSeen}
+use Rattle.af_runs.specs.Blocks.{Marks}
+use Rattle.af_runs.specs.Clients.{ends}
+use Rattle.af_runs.specs.ClientTurns.{LegalClientTurn}
+use Rattle.af_runs.specs.Found.{LegalTurnBy, TurnFound, outside_of}
+use Rattle.af_runs.specs.LegalRuns.{is_poke_on}
+use Rattle.af_runs.specs.Rounds.{LegalEntry, loaded}
+use Rattle.af_runs.specs.Runs.{Run, TrackTold, called, calls_in, each_track, met, mixed_track, no_track, sides_of, state_for, takes_part, told_at, track_met, turned_track, with_calls, with_ends, with_load, with_mix, with_poll, with_turn}
+use Rattle.af_runs.specs.Sessions.{Session, setup_of}
+use Rattle.af_judge.proofs.BlocksMeet.{met_at}
+use Rattle.af_judge.proofs.EachTrack.{each_at, told_each}
+use Rattle.af_audit.specs.Spared.{is_spared_by, is_spared_in_turn}
+use Rattle.af_audit.proofs.SidesKept.{sides_mixed, sides_turned}
+use Rattle.af_audit.proofs.TrackUnshut.{IsTrim, IsUnshut}
+use Rattle.af_journal_laws.specs.Alive.{none_dead}
+use Rattle.af_journal_laws.proofs.CallsAlive.{IsValid}
+use Rattle.af_journal_laws.proofs.Steps.{Goes, goes_called, goes_ended, goes_met, goes_mixed, goes_same, goes_turned}
+use Rattle.af_journal_laws.proofs.TrackAlive.{IsCalm, alive_called, alive_met, calm_called, calm_met, calm_mixed, calm_turned}
+
+-- From one run to another the track is kept trim. Where the proxies of its stream block aren't shut in the second, they aren't in the first, and nobody set INVALID on the block; and where its client's list shows no INVALID in the second, it doesn't in the first, and this holds
+pub record Lives (n : ℕ) (a b : Run) (Alive : Type 0) : Type 0 where
+  pub there : n < length b.tracks
+  pub trim : IsTrim false (told_at a n) → IsTrim false (told_at b n)
+  pub unshut : IsTrim false (told_at a n) → IsUnshut false (told_at b n) → IsUnshut false (told_at a n)
+  pub calm : IsTrim false (told_at a n) → IsUnshut false (told_at b n) → IsCalm (told_at a n) → IsCalm (told_at b n)
+  pub valid : IsValid (sides_of (told_at b n)) → IsValid (sides_of (told_at a n)) × Alive
+
+-- one step after another
+pub lives_both : (n : ℕ) (a b c : Run) (A B : Type 0) → Lives n a b A → Lives n b c B → Lives n a c (A × B)
+lives_both n a b c A B f g = record {
+  there = g.there;
+  trim = λ h. g.trim (f.trim h);
+  unshut = λ h fine. f.unshut h (g.unshut (f.trim h) fine);
+  calm = λ h fine calm. g.calm (f.trim h) fine (f.calm h (g.unshut (f.trim h) fine) calm);
+  valid = λ fine. (let two = g.valid fine in let one = f.valid two.0 in (one.0, (one.1, two.1)));
+}
+
+-- what holds so means something else as well
+pub lives_as : (n : ℕ) (a b : Run) (A B : Type 0) → (A → B) → Lives n a b A → Lives n a b B
+lives_as n a b A B f h = record { there = h.there; trim = h.trim; unshut = h.unshut; calm = h.calm; valid = λ fine. (let one = h.valid fine in (one.0, f one.1)) }
+
+-- after a step came one in which nothing was called
+pub lives_then : (n : ℕ) (a b c : Run) (A : Type 0) → Lives n a b A → Lives n b c (Unit {0}) → Lives n a c A
+lives_then n a b c A f g = lives_as n a c (A × Unit {0}) A (λ both. both.0) (lives_both n a b c A (Unit {0}) f g)
+
+module _ (s : Session) (n : ℕ) where
+  -- the track is changed so
+  pub lives_by : (a b : Run) (t : TrackTold) (words : List ℕ) (S A : Type 0) → Goes false s n a b words S → told_at b n ≡ t → (IsUnshut false (told_at a n) → S → IsCalm (told_at a n) → IsCalm t)
+      → (IsValid (sides_of t) → IsValid (sides_of (told_at a n)) × A) → Lives n a b A
+  lives_by a b t words S A goes is calm valid = record {
+    there = goes.there;
+    trim = goes.track.trim;
+    unshut = λ h fine. (goes.track.unshut h fine).0;
+    calm = λ h fine was. (let one = goes.track.unshut h fine in subst IsCalm (sym is) (calm one.0 one.1 was));
+    valid = λ fine. valid (subst (λ (u : TrackTold). IsValid (sides_of u)) is fine);
+  }
+
+  -- the track is the same
+  pub lives_same : (a b : Run) → n < length b.tracks → told_at b n ≡ told_at a n → Lives n a b (Unit {0})
+  lives_same a b low same = lives_by a b (told_at a n) [] (Unit {0}) (Unit {0}) (goes_same false s n a b low same) same (λ unshut spared calm. calm) (λ fine. (fine, tt))
+
+  -- ## The steps
+
+  pub lives_called : (round : RoundSeen) (run : Run) → n < length run.tracks → list_any (is_poke_on false) (calls_in round n) ≡ false → LegalClientTurn (sides_of (told_at run n)) (calls_in round n) → Lives n run (with_calls round run) (none_dead (calls_in round n) ≡ true)
+  unfolding with_calls
+  lives_called round run low still legal =
+      lives_by run (with_calls round run) (called (calls_in round n) (told_at run n)) [] _ _ (goes_called false s n round run low still legal) (told_each (λ track t. called (calls_in round track) t) run n low)
+      (λ unshut spared calm. calm_called (calls_in round n) (told_at run n) calm) (alive_called (calls_in round n) (told_at run n) legal)
+
+  pub lives_polled : (k : ℕ) (run : Run) → n < length run.tracks → Lives n run (with_poll s k run) (Unit {0})
+  unfolding with_poll
+  lives_polled k run low = lives_same run (with_poll s k run) low refl
+
+  pub lives_mixed : (marks : Marks) (run : Run) (e : EntrySeen) → n < length run.tracks → LegalEntry s marks run e → Lives n run (with_mix s e run) (Unit {0})
+  unfolding with_mix
+  lives_mixed marks run e low legal =
+      let x : FastState = state_for s run e.entry.state in
+      lives_by run (with_mix s e run) (mixed_track s x e n (told_at run n)) _ (false ≡ false → is_spared_by s run e n ≡ true) (Unit {0}) (goes_mixed false s n marks run e low legal) (told_each (mixed_track s x e) run n low)
+      (λ unshut spared calm. calm_mixed s x e n (told_at run n) (spared refl) calm) (λ fine. (subst IsValid (sides_mixed s x e n (told_at run n)) fine, tt))
+
+  pub lives_turned : (marks : Marks) (f : TurnFound) (e : Turn) (m : NormalKept) (run : Run) → n < length run.tracks → f.streams n ≡ (told_at run n).stream → f.commands n ≡ (told_at run n).commands → run.normal ≡ m → TracksRise 0 e.mixes
+      → LegalTurnBy (setup_of s) marks f m e → is_spared_in_turn true e n ≡ true → Lives n run (with_turn s f e run) (Unit {0})
+  unfolding with_turn
+  lives_turned marks f e m run low streams sent same rise legal spared =
+      let c = setup_of s in
+      let o = outside_of c f e in
+      let t : TrackTold = told_at run n in
+      let before : TrackTold = record t { stream = f.streams n; commands = f.commands n } in
+      let is : before ≡ t = λ i. record t { stream = streams i; commands = sent i } in
+      let told : told_at (with_turn s f e run) n ≡ turned_track c o m e n before =
+      each_at (turned_track c o run.normal e) 0 run.tracks n n no_track low (omega arith)
+      ∙ (λ i. turned_track c o (same i) e n (sym is i)) in
+      lives_by run (with_turn s f e run) (turned_track c o m e n before) _ _ (Unit {0}) (goes_turned false s n marks f e m run low streams sent same rise legal) told
+      (λ unshut own calm. calm_turned c o m e n before refl (subst (IsUnshut false) (sym is) unshut) spared own (subst IsCalm (sym is) calm))
+      (λ fine. (subst (λ (u : TrackTold). IsValid (sides_of u)) is (subst IsValid (sides_turned c o m e n before) fine), tt))
+
+  pub lives_loaded : (o : Option Turn) (run : Run) → n < length run.tracks → Lives n run (loaded o run) (Unit {0})
+  unfolding with_load
+  lives_loaded None run low = lives_same run run low refl
+  lives_loaded (Some e) run low = lives_same run (with_load e run) low refl
+
+  pub lives_met : (run : Run) → n < length run.tracks → Lives n run (met s run) (Unit {0})
+  lives_met run low =
+      lives_by run (met s run) (track_met s run n (told_at run n)) [] (Unit {0}) (Unit {0}) (goes_met false s n run low) (met_at s run n low)
+      (λ unshut spared calm. calm_met (takes_part s run n) run.handed (told_at run n) calm) (λ fine. (alive_met (takes_part s run n) run.handed (told_at run n) fine, tt))
+
+  pub lives_ended : (run : Run) → n < length run.tracks → Lives n run (with_ends run) (Unit {0})
+  unfolding with_ends
+  lives_ended run low = by_end run.normal.ended (goes_ended false s n run low)
+    where
+      by_end : (b : Bool) → (let r : Run = if b then each_track (λ track t. record t { client = ends t.client }) run else run in Goes false s n run r [] (Unit {0}) → Lives n run r (Unit {0}))
+      by_end true goes =
+          lives_by run (each_track (λ track t. record t { client = ends t.client }) run) (record (told_at run n) { client = ends (told_at run n).client }) [] (Unit {0}) (Unit {0}) goes (told_each (λ track t. record t { client = ends t.client }) run n low)
+          (λ unshut spared calm. record { server = calm.server; hand = calm.hand }) (λ fine. (fine, tt))
+      by_end false goes = lives_same run run low refl
