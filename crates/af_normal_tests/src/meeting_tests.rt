@@ -213,7 +213,67 @@ fn clients_meet_the_proxies_that_are_home(rt: HostRuntime) {
     assert!(rt; plays(rt.alloc(), &[FAST], 2, 1, &rows) == Ok(true));
 }
 
+// Whether each step of each table tells what it should, where all ends meet before each table.
+fn meets_and_plays<L: Ledger>(
+    world: World,
+    links: &Links<'_>,
+    tables: &[&[Row]],
+    steps: &mut Steps<L>,
+) -> bool
+    requires { IsWorld links.now world.mixer world.others.observer world.others.writer world.others.pipe world.others.report world.others.streams.items world.others.commands.items }
+{
+    let mut world = world;
+    let mut so = true;
+    for rows in tables {
+        world = world.ends_meet(links, steps);
+        so = world.plays(links, rows, steps) && so;
+    }
+    so
+}
+
+fn opens_and_starts() -> [Row; 5] {
+    [
+        sends(0, OPEN, 0),
+        sends(0, START, 0),
+        turns(0, pushed(1), Some(514)),
+        polls(1),
+        reports(1, 0, 0, [0, 1]),
+    ]
+}
+
+fn stops() -> [Row; 6] {
+    [
+        sends(0, STOP, 0),
+        turns(0, Push::Clean, Some(791)),
+        saw(true, 8),
+        turns(0, pushed(2), Some(792)),
+        polls(2),
+        reports(1, 0, 0, [0, 2]),
+    ]
+}
+
+fn is_removed() -> [Row; 5] {
+    [
+        has_slot(1, false, 0, 1),
+        sends(0, REMOVE, 0),
+        turns(0, pushed(3), Some(1048)),
+        polls(3),
+        ends(),
+    ]
+}
+
 // All ends meet before the first turn, between turns, and once the mixer has ended.
+fn all_meet<L: Ledger>(world: World, links: &Links<'_>, steps: &mut Steps<L>) -> bool
+    requires { IsWorld links.now world.mixer world.others.observer world.others.writer world.others.pipe world.others.report world.others.streams.items world.others.commands.items }
+{
+    let first = opens_and_starts();
+    let second = stops();
+    let third = is_removed();
+    let last = [ends()];
+    let tables = [&first[..], &second[..], &third[..], &last[..]];
+    meets_and_plays(world, links, &tables, steps)
+}
+
 fn ends_meet_in<L: Ledger>(alloc: Global, blank: Blank) -> Result<bool, Memory>
     requires name { blank.name ≡ L.name }
     requires parts { (blank.parts ≡ L.parts) × (0 < blank.parts) }
@@ -221,38 +281,8 @@ fn ends_meet_in<L: Ledger>(alloc: Global, blank: Blank) -> Result<bool, Memory>
     let mut steps = Steps::<L>::start(blank);
     let (shared, parts) = begin(alloc, &[FAST], 2, 1)?;
     let links = shared.links();
-    let mut world = parts
-        .join(alloc, &links, 2, 1)?
-        .ends_meet(&links, &mut steps);
-    let first = [
-        sends(0, OPEN, 0),
-        sends(0, START, 0),
-        turns(0, pushed(1), Some(514)),
-        polls(1),
-        reports(1, 0, 0, [0, 1]),
-    ];
-    let first = world.plays(&links, &first, &mut steps);
-    let mut world = world.ends_meet(&links, &mut steps);
-    let second = [
-        sends(0, STOP, 0),
-        turns(0, Push::Clean, Some(791)),
-        saw(true, 8),
-        turns(0, pushed(2), Some(792)),
-        polls(2),
-        reports(1, 0, 0, [0, 2]),
-    ];
-    let second = world.plays(&links, &second, &mut steps);
-    let mut world = world.ends_meet(&links, &mut steps);
-    let third = [
-        has_slot(1, false, 0, 1),
-        sends(0, REMOVE, 0),
-        turns(0, pushed(3), Some(1048)),
-        polls(3),
-        ends(),
-    ];
-    let third = world.plays(&links, &third, &mut steps);
-    let mut world = world.ends_meet(&links, &mut steps);
-    Ok(first && second && third && world.plays(&links, &[ends()], &mut steps))
+    let world = parts.join(alloc, &links, 2, 1)?;
+    Ok(all_meet(world, &links, &mut steps))
 }
 
 #[test]

@@ -333,21 +333,41 @@ fn all_kinds() -> [Kind; TRACKS] {
     kinds
 }
 
+// The plain mixer before its first turn.
+fn new_beside(alloc: Global, kinds: &[Kind; TRACKS]) -> Result<Beside, Memory>
+    ensures { IfOk result (λ b. IsSmall b.plain.turns b.plain.setup b.plain.kept) }
+{
+    let plain = new_plain(alloc, kinds)?;
+    Ok(Beside {
+        plain,
+        own: [NOTHING; TRACKS],
+        last: first_state(2),
+    })
+}
+
+// Whether each turn of the mixer over new blocks is that of the plain mixer.
+fn runs_beside<L: Ledger>(
+    alloc: Global,
+    kinds: &[Kind; TRACKS],
+    beside: &mut Beside,
+    steps: &mut Steps<L>,
+) -> Result<bool, Memory>
+    requires { IsSmall beside.old.plain.turns beside.old.plain.setup beside.old.plain.kept }
+{
+    let (shared, parts) = begin(alloc, kinds, 2, 2)?;
+    let links = shared.links();
+    let mut world = parts.join(alloc, &links, 2, 2)?;
+    Ok(run(&mut world, beside, &links, steps))
+}
+
 fn runs_in<L: Ledger>(alloc: Global, blank: Blank) -> Result<bool, Memory>
     requires name { blank.name ≡ L.name }
     requires parts { (blank.parts ≡ L.parts) × (0 < blank.parts) }
 {
     let mut steps = Steps::<L>::start(blank);
     let kinds = all_kinds();
-    let mut beside = Beside {
-        plain: new_plain(alloc, &kinds)?,
-        own: [NOTHING; TRACKS],
-        last: first_state(2),
-    };
-    let (shared, parts) = begin(alloc, &kinds, 2, 2)?;
-    let links = shared.links();
-    let mut world = parts.join(alloc, &links, 2, 2)?;
-    Ok(run(&mut world, &mut beside, &links, &mut steps))
+    let mut beside = new_beside(alloc, &kinds)?;
+    runs_beside(alloc, &kinds, &mut beside, &mut steps)
 }
 
 #[test]
