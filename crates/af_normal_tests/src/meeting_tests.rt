@@ -213,22 +213,26 @@ fn clients_meet_the_proxies_that_are_home(rt: HostRuntime) {
     assert!(rt; plays(rt.alloc(), &[FAST], 2, 1, &rows) == Ok(true));
 }
 
-// Whether each step of each table tells what it should, where all ends meet before each table.
-fn meets_and_plays<L: Ledger>(
+// A world whose ends have met, and whether each step since then told what it should.
+#[derive(Drop)]
+struct Met {
     world: World,
-    links: &Links<'_>,
-    tables: &[&[Row]],
-    steps: &mut Steps<L>,
-) -> bool
-    requires { IsWorld links.now world.mixer world.others.observer world.others.writer world.others.pipe world.others.report world.others.streams.items world.others.commands.items }
-{
-    let mut world = world;
-    let mut so = true;
-    for rows in tables {
-        world = world.ends_meet(links, steps);
-        so = world.plays(links, rows, steps) && so;
+    so: bool,
+}
+
+impl Met {
+    // All ends meet, and the steps of a table are made.
+    fn then<L: Ledger>(self, links: &Links<'_>, rows: &[Row], steps: &mut Steps<L>) -> Met
+        requires { IsWorld links.now self.world.mixer self.world.others.observer self.world.others.writer self.world.others.pipe self.world.others.report self.world.others.streams.items self.world.others.commands.items }
+        ensures { IsWorld links.now result.world.mixer result.world.others.observer result.world.others.writer result.world.others.pipe result.world.others.report result.world.others.streams.items result.world.others.commands.items }
+    {
+        let mut world = self.world.ends_meet(links, steps);
+        let so = world.plays(links, rows, steps);
+        Met {
+            world,
+            so: so && self.so,
+        }
     }
-    so
 }
 
 fn opens_and_starts() -> [Row; 5] {
@@ -266,12 +270,13 @@ fn is_removed() -> [Row; 5] {
 fn all_meet<L: Ledger>(world: World, links: &Links<'_>, steps: &mut Steps<L>) -> bool
     requires { IsWorld links.now world.mixer world.others.observer world.others.writer world.others.pipe world.others.report world.others.streams.items world.others.commands.items }
 {
-    let first = opens_and_starts();
-    let second = stops();
-    let third = is_removed();
-    let last = [ends()];
-    let tables = [&first[..], &second[..], &third[..], &last[..]];
-    meets_and_plays(world, links, &tables, steps)
+    let made = Met { world, so: true };
+    let met = made
+        .then(links, &opens_and_starts(), steps)
+        .then(links, &stops(), steps)
+        .then(links, &is_removed(), steps)
+        .then(links, &[ends()], steps);
+    met.so
 }
 
 fn ends_meet_in<L: Ledger>(alloc: Global, blank: Blank) -> Result<bool, Memory>

@@ -298,6 +298,20 @@ fn run<L: Ledger>(
     beside.plain.pushed() > 20 && again > 5
 }
 
+// The same of a world that ends with the run.
+fn runs_out<L: Ledger>(
+    world: World,
+    beside: &mut Beside,
+    links: &Links<'_>,
+    steps: &mut Steps<L>,
+) -> bool
+    requires world { IsWorld links.now world.mixer world.others.observer world.others.writer world.others.pipe world.others.report world.others.streams.items world.others.commands.items }
+    requires plain { IsSmall beside.old.plain.turns beside.old.plain.setup beside.old.plain.kept }
+{
+    let mut world = world;
+    run(&mut world, beside, links, steps)
+}
+
 // How many slots were attached more than once.
 fn attached_again(draft: &FastState) -> u32 {
     let mut again = 0u32;
@@ -356,8 +370,8 @@ fn runs_beside<L: Ledger>(
 {
     let (shared, parts) = begin(alloc, kinds, 2, 2)?;
     let links = shared.links();
-    let mut world = parts.join(alloc, &links, 2, 2)?;
-    Ok(run(&mut world, beside, &links, steps))
+    let world = parts.join(alloc, &links, 2, 2)?;
+    Ok(runs_out(world, beside, &links, steps))
 }
 
 fn runs_in<L: Ledger>(alloc: Global, blank: Blank) -> Result<bool, Memory>

@@ -1,7 +1,0 @@
-use Rattle.af_normal_tests.specs.Testing.{IsWorld}
-use Rattle.af_normal_tests.proofs.meeting_tests.meets_and_plays.Given as goal
-
-abbrev pub invariant-loop-rows : goal.invariant-loop-rows
-invariant-loop-rows g l =
-    let o = l.world.others in
-    IsWorld l.links l.world.mixer o.observer o.writer o.pipe o.report o.streams.items o.commands.items
