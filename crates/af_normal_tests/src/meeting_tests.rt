@@ -213,7 +213,72 @@ fn clients_meet_the_proxies_that_are_home(rt: HostRuntime) {
     assert!(rt; plays(rt.alloc(), &[FAST], 2, 1, &rows) == Ok(true));
 }
 
+// A world whose ends have met, and whether each step since then told what it should.
+#[derive(Drop)]
+struct Met {
+    world: World,
+    so: bool,
+}
+
+impl Met {
+    // All ends meet, and the steps of a table are made.
+    fn then<L: Ledger>(self, links: &Links<'_>, rows: &[Row], steps: &mut Steps<L>) -> Met
+        requires { IsWorld links.now self.world.mixer self.world.others.observer self.world.others.writer self.world.others.pipe self.world.others.report self.world.others.streams.items self.world.others.commands.items }
+        ensures { IsWorld links.now result.world.mixer result.world.others.observer result.world.others.writer result.world.others.pipe result.world.others.report result.world.others.streams.items result.world.others.commands.items }
+    {
+        let mut world = self.world.ends_meet(links, steps);
+        let so = world.plays(links, rows, steps);
+        Met {
+            world,
+            so: so && self.so,
+        }
+    }
+}
+
+fn opens_and_starts() -> [Row; 5] {
+    [
+        sends(0, OPEN, 0),
+        sends(0, START, 0),
+        turns(0, pushed(1), Some(514)),
+        polls(1),
+        reports(1, 0, 0, [0, 1]),
+    ]
+}
+
+fn stops() -> [Row; 6] {
+    [
+        sends(0, STOP, 0),
+        turns(0, Push::Clean, Some(791)),
+        saw(true, 8),
+        turns(0, pushed(2), Some(792)),
+        polls(2),
+        reports(1, 0, 0, [0, 2]),
+    ]
+}
+
+fn is_removed() -> [Row; 5] {
+    [
+        has_slot(1, false, 0, 1),
+        sends(0, REMOVE, 0),
+        turns(0, pushed(3), Some(1048)),
+        polls(3),
+        ends(),
+    ]
+}
+
 // All ends meet before the first turn, between turns, and once the mixer has ended.
+fn all_meet<L: Ledger>(world: World, links: &Links<'_>, steps: &mut Steps<L>) -> bool
+    requires { IsWorld links.now world.mixer world.others.observer world.others.writer world.others.pipe world.others.report world.others.streams.items world.others.commands.items }
+{
+    let made = Met { world, so: true };
+    let met = made
+        .then(links, &opens_and_starts(), steps)
+        .then(links, &stops(), steps)
+        .then(links, &is_removed(), steps)
+        .then(links, &[ends()], steps);
+    met.so
+}
+
 fn ends_meet_in<L: Ledger>(alloc: Global, blank: Blank) -> Result<bool, Memory>
     requires name { blank.name ≡ L.name }
     requires parts { (blank.parts ≡ L.parts) × (0 < blank.parts) }
@@ -221,38 +286,8 @@ fn ends_meet_in<L: Ledger>(alloc: Global, blank: Blank) -> Result<bool, Memory>
     let mut steps = Steps::<L>::start(blank);
     let (shared, parts) = begin(alloc, &[FAST], 2, 1)?;
     let links = shared.links();
-    let mut world = parts
-        .join(alloc, &links, 2, 1)?
-        .ends_meet(&links, &mut steps);
-    let first = [
-        sends(0, OPEN, 0),
-        sends(0, START, 0),
-        turns(0, pushed(1), Some(514)),
-        polls(1),
-        reports(1, 0, 0, [0, 1]),
-    ];
-    let first = world.plays(&links, &first, &mut steps);
-    let mut world = world.ends_meet(&links, &mut steps);
-    let second = [
-        sends(0, STOP, 0),
-        turns(0, Push::Clean, Some(791)),
-        saw(true, 8),
-        turns(0, pushed(2), Some(792)),
-        polls(2),
-        reports(1, 0, 0, [0, 2]),
-    ];
-    let second = world.plays(&links, &second, &mut steps);
-    let mut world = world.ends_meet(&links, &mut steps);
-    let third = [
-        has_slot(1, false, 0, 1),
-        sends(0, REMOVE, 0),
-        turns(0, pushed(3), Some(1048)),
-        polls(3),
-        ends(),
-    ];
-    let third = world.plays(&links, &third, &mut steps);
-    let mut world = world.ends_meet(&links, &mut steps);
-    Ok(first && second && third && world.plays(&links, &[ends()], &mut steps))
+    let world = parts.join(alloc, &links, 2, 1)?;
+    Ok(all_meet(world, &links, &mut steps))
 }
 
 #[test]

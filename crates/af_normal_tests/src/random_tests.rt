@@ -298,6 +298,20 @@ fn run<L: Ledger>(
     beside.plain.pushed() > 20 && again > 5
 }
 
+// The same of a world that ends with the run.
+fn runs_out<L: Ledger>(
+    world: World,
+    beside: &mut Beside,
+    links: &Links<'_>,
+    steps: &mut Steps<L>,
+) -> bool
+    requires world { IsWorld links.now world.mixer world.others.observer world.others.writer world.others.pipe world.others.report world.others.streams.items world.others.commands.items }
+    requires plain { IsSmall beside.old.plain.turns beside.old.plain.setup beside.old.plain.kept }
+{
+    let mut world = world;
+    run(&mut world, beside, links, steps)
+}
+
 // How many slots were attached more than once.
 fn attached_again(draft: &FastState) -> u32 {
     let mut again = 0u32;
@@ -333,21 +347,41 @@ fn all_kinds() -> [Kind; TRACKS] {
     kinds
 }
 
+// The plain mixer before its first turn.
+fn new_beside(alloc: Global, kinds: &[Kind; TRACKS]) -> Result<Beside, Memory>
+    ensures { IfOk result (λ b. IsSmall b.plain.turns b.plain.setup b.plain.kept) }
+{
+    let plain = new_plain(alloc, kinds)?;
+    Ok(Beside {
+        plain,
+        own: [NOTHING; TRACKS],
+        last: first_state(2),
+    })
+}
+
+// Whether each turn of the mixer over new blocks is that of the plain mixer.
+fn runs_beside<L: Ledger>(
+    alloc: Global,
+    kinds: &[Kind; TRACKS],
+    beside: &mut Beside,
+    steps: &mut Steps<L>,
+) -> Result<bool, Memory>
+    requires { IsSmall beside.old.plain.turns beside.old.plain.setup beside.old.plain.kept }
+{
+    let (shared, parts) = begin(alloc, kinds, 2, 2)?;
+    let links = shared.links();
+    let world = parts.join(alloc, &links, 2, 2)?;
+    Ok(runs_out(world, beside, &links, steps))
+}
+
 fn runs_in<L: Ledger>(alloc: Global, blank: Blank) -> Result<bool, Memory>
     requires name { blank.name ≡ L.name }
     requires parts { (blank.parts ≡ L.parts) × (0 < blank.parts) }
 {
     let mut steps = Steps::<L>::start(blank);
     let kinds = all_kinds();
-    let mut beside = Beside {
-        plain: new_plain(alloc, &kinds)?,
-        own: [NOTHING; TRACKS],
-        last: first_state(2),
-    };
-    let (shared, parts) = begin(alloc, &kinds, 2, 2)?;
-    let links = shared.links();
-    let mut world = parts.join(alloc, &links, 2, 2)?;
-    Ok(run(&mut world, &mut beside, &links, &mut steps))
+    let mut beside = new_beside(alloc, &kinds)?;
+    runs_beside(alloc, &kinds, &mut beside, &mut steps)
 }
 
 #[test]
