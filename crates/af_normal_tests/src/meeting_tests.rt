@@ -233,6 +233,13 @@ impl Met {
             so: so && self.so,
         }
     }
+
+    // The world ends; what its steps told stays.
+    fn told(self) -> bool
+        ensures { result ≡ self.so }
+    {
+        self.so
+    }
 }
 
 fn opens_and_starts() -> [Row; 5] {
@@ -271,12 +278,11 @@ fn all_meet<L: Ledger>(world: World, links: &Links<'_>, steps: &mut Steps<L>) ->
     requires { IsWorld links.now world.mixer world.others.observer world.others.writer world.others.pipe world.others.report world.others.streams.items world.others.commands.items }
 {
     let made = Met { world, so: true };
-    let met = made
-        .then(links, &opens_and_starts(), steps)
+    made.then(links, &opens_and_starts(), steps)
         .then(links, &stops(), steps)
         .then(links, &is_removed(), steps)
-        .then(links, &[ends()], steps);
-    met.so
+        .then(links, &[ends()], steps)
+        .told()
 }
 
 fn ends_meet_in<L: Ledger>(alloc: Global, blank: Blank) -> Result<bool, Memory>
