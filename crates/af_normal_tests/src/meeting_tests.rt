@@ -213,7 +213,7 @@ fn clients_meet_the_proxies_that_are_home(rt: HostRuntime) {
     assert!(rt; plays(rt.alloc(), &[FAST], 2, 1, &rows) == Ok(true));
 }
 
-// A world whose ends have met, and whether each step since then told what it should.
+// A world between the meetings of its ends, and whether each step so far told what it should.
 #[derive(Drop)]
 struct Met {
     world: World,
