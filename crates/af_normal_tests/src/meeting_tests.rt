@@ -213,7 +213,7 @@ fn clients_meet_the_proxies_that_are_home(rt: HostRuntime) {
     assert!(rt; plays(rt.alloc(), &[FAST], 2, 1, &rows) == Ok(true));
 }
 
-// A world whose ends have met, and whether each step since then told what it should.
+// A world between the meetings of its ends, and whether each step so far told what it should.
 #[derive(Drop)]
 struct Met {
     world: World,
@@ -232,6 +232,13 @@ impl Met {
             world,
             so: so && self.so,
         }
+    }
+
+    // The world ends; what its steps told stays.
+    fn told(self) -> bool
+        ensures { result ≡ self.so }
+    {
+        self.so
     }
 }
 
@@ -271,12 +278,11 @@ fn all_meet<L: Ledger>(world: World, links: &Links<'_>, steps: &mut Steps<L>) ->
     requires { IsWorld links.now world.mixer world.others.observer world.others.writer world.others.pipe world.others.report world.others.streams.items world.others.commands.items }
 {
     let made = Met { world, so: true };
-    let met = made
-        .then(links, &opens_and_starts(), steps)
+    made.then(links, &opens_and_starts(), steps)
         .then(links, &stops(), steps)
         .then(links, &is_removed(), steps)
-        .then(links, &[ends()], steps);
-    met.so
+        .then(links, &[ends()], steps)
+        .told()
 }
 
 fn ends_meet_in<L: Ledger>(alloc: Global, blank: Blank) -> Result<bool, Memory>
