@@ -1,10 +1,11 @@
 //! Meetings of the ends that a mixer lends, and of a proxy that it holds.
-ghost use Rattle.std.specs.Prelude.{◌≡◌, ◌<◌, [], ◌∷◌};
+ghost use Rattle.std.specs.Prelude.{◌≡◌, ◌<◌, [], ◌∷◌, IfOk};
 ghost use Rattle.af_cblk.specs.Sides.{hand_made};
 ghost use Rattle.af_link.specs.Names.{IsStreamOf};
 ghost use Rattle.af_link.specs.PipeEnds.{in_made};
 ghost use Rattle.af_fast.specs.Mixer.{IsInOrder, IsLinked};
 ghost use Rattle.af_client.specs.Order.{IsClientOf};
+ghost use Rattle.af_server.specs.Order.{IsServerOf};
 ghost use Rattle.af_fast_tests.specs.Ready.{IsReady};
 
 use crate::tests::{Ends, attach, begin, push_command, turn};
@@ -88,28 +89,69 @@ fn meets_over<L: Ledger>(
     held && polled
 }
 
+// The same of new ends over this block alone.
+fn meets_on<L: Ledger>(
+    alloc: Global,
+    streams: &[Block],
+    block: &Block,
+    server: Server,
+    client: &mut Client,
+    hand: &mut FlagHand,
+    steps: &mut Steps<L>,
+) -> Result<bool, Memory>
+    requires one { streams.now ≡ block.now ∷ [] }
+    requires block { IsClientOf block.now client.old × (hand_made hand.old ≡ block.now) }
+    requires stream { IsStreamOf streams.now 0 server }
+{
+    let (shared, ends) = begin(alloc, streams, 2, 4)?;
+    let links = shared.links(streams);
+    Ok(meets_over(ends, &links, block, server, client, hand, steps))
+}
+
+// A block with its proxies, and the hand that was split off the server.
+#[derive(Drop)]
+struct Split {
+    block: Block,
+    client: Client,
+    server: Server,
+    hand: FlagHand,
+}
+
+// A block of eight frames.
+fn split_one<L: Ledger>(alloc: Global, steps: &mut Steps<L>) -> Result<Split, Memory>
+    ensures client { IfOk result (λ s. IsClientOf s.block s.client) }
+    ensures server { IfOk result (λ s. IsServerOf s.block s.server) }
+    ensures hand { IfOk result (λ s. hand_made s.hand ≡ s.block) }
+{
+    let made = Block::make(alloc, 8, 0)?;
+    let client = Client::with(made.1, &made.0);
+    let mut server = Server::with(made.2, &made.0);
+    let hand = server.hand(&made.0, steps);
+    Ok(Split {
+        block: made.0,
+        client,
+        server,
+        hand,
+    })
+}
+
 // A proxy whose hand was split off is mixed and meets its client, and then the ends that the mixer lends meet.
 fn meets<L: Ledger>(alloc: Global, blank: Blank) -> Result<bool, Memory>
     requires name { blank.name ≡ L.name }
     requires parts { (blank.parts ≡ L.parts) × (0 < blank.parts) }
 {
     let mut steps = Steps::<L>::start(blank);
-    let (block, client, server) = Block::make(alloc, 8, 0)?;
-    let mut client = Client::with(client, &block);
-    let mut server = Server::with(server, &block);
-    let mut hand = server.hand(&block, &mut steps);
-    let streams = [block];
-    let (shared, ends) = begin(alloc, &streams, 2, 4)?;
-    let links = shared.links(&streams);
-    Ok(meets_over(
-        ends,
-        &links,
+    let mut split = split_one(alloc, &mut steps)?;
+    let streams = [split.block];
+    meets_on(
+        alloc,
+        &streams,
         &streams[0],
-        server,
-        &mut client,
-        &mut hand,
+        split.server,
+        &mut split.client,
+        &mut split.hand,
         &mut steps,
-    ))
+    )
 }
 
 #[test]

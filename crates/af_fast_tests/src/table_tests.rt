@@ -371,8 +371,8 @@ fn play_all<L: Ledger>(
     (right, logged)
 }
 
-// A block of some frames with its proxies.
-fn line(alloc: Global, size: Size) -> Result<(Block, Client, Server), Memory>
+/// A block of some frames with its proxies.
+pub(crate) fn line(alloc: Global, size: Size) -> Result<(Block, Client, Server), Memory>
     ensures { IfOk result IsLine }
 {
     let (block, client, server) = Block::make(alloc, size.frames.max(1).min(65536), size.base)?;

@@ -2,9 +2,12 @@
 ghost use Rattle.std.specs.Prelude.{◌≡◌, ◌<◌, ◌≤◌, false, length};
 ghost use Rattle.af_cblk.specs.Sides.{client_made};
 ghost use Rattle.af_client.specs.Order.{IsInOrder as IsClientInOrder};
+ghost use Rattle.af_link.specs.Names.{IsStreamOf};
+ghost use Rattle.af_fast.specs.Fits.{NamesBlocks};
 ghost use Rattle.af_fast.specs.Mixer.{IsInOrder, IsLinked};
 
-use crate::tests::{BEFORE, SILENCE, attach, begin, push_command};
+use crate::table_tests::{Size, line};
+use crate::tests::{BEFORE, Ends, Pushing, SILENCE, attach, begin, push_command};
 use af_base::{Command, Cycle, Frame, Memory, Steps};
 use af_cblk::Block;
 use af_client::{Client, Wrote};
@@ -20,6 +23,12 @@ use std::thread::{Threads, join, yield_now};
 const CYCLES: usize = 20_000;
 
 const FRAMES: usize = 16;
+
+// The block of the only track.
+const SIZE: Size = Size {
+    frames: 48,
+    base: 0,
+};
 
 // How many frames are written.
 const TOTAL: u32 = 5_000;
@@ -114,27 +123,36 @@ fn write_all(block: &Block, client: Client, frames: &[Frame]) -> bool
     write_in::<Brand>(Blank::new(1), block, client, frames)
 }
 
-// Both on two threads, over a block of 48 frames.
-fn play<R: Threads + Sync, L: Ledger>(
-    rt: &R,
-    blank: Blank,
-    alloc: Global,
-) -> Result<(bool, bool), Memory>
-    requires ledger { (blank.name ≡ L.name) × (blank.parts ≡ L.parts) × (0 < blank.parts) }
+// Attaches the proxy of the only track, and pushes the command to mix.
+fn mix_only<L: Ledger>(
+    mutator: &mut Pushing,
+    links: &Links<'_>,
+    server: Server,
+    steps: &mut Steps<L>,
+)
+    requires mutator { (mutator.old.editing ≡ false) × (mutator.old.past.number ≡ 0) }
+    requires queue { mutator.old.past.queue ≡ links.now.queue.now }
+    requires names { NamesBlocks mutator.old.past.key links.now.streams.now }
+    requires stream { IsStreamOf links.now.streams.now 0 server }
 {
-    let mut steps = Steps::<L>::start(blank);
-    let frames = numbered(alloc)?;
-    let (block, client, server) = Block::make(alloc, 48, 0)?;
-    let client = Client::with(client, &block);
-    let server = Server::with(server, &block);
-    let streams = [block];
-    let (shared, mut ends) = begin(alloc, &streams, CYCLES, FRAMES)?;
-    let links = shared.links(&streams);
-    attach(&mut ends.mutator, &links, 1, false, 0x1000, 0, server);
-    push_command(&mut ends.mutator, &links, Command::MixWrite, &mut steps);
+    attach(mutator, links, 1, false, 0x1000, 0, server);
+    push_command(mutator, links, Command::MixWrite, steps);
+}
+
+// The mixer on one thread, and the client on another. What each of them answers.
+fn play_on_two<R: Threads + Sync>(
+    rt: &R,
+    links: &Links<'_>,
+    ends: Ends,
+    block: &Block,
+    client: Client,
+    frames: &[Frame],
+) -> (bool, bool)
+    requires mixer { IsLinked links.now ends.mixer × IsInOrder ends.mixer × (ends.mixer.adopted ≡ false) × (ends.mixer.frames ≡ 16) }
+    requires client { (client_made client.pass ≡ block.now) × IsClientInOrder client }
+{
     let mixer = ends.mixer;
-    let (links, block, frames) = (&links, &streams[0], frames.as_slice());
-    Ok(join(
+    join(
         rt,
         move || -> bool
             requires { IsLinked links.now mixer × IsInOrder mixer × (mixer.adopted ≡ false) × (mixer.frames ≡ 16) }
@@ -142,11 +160,30 @@ fn play<R: Threads + Sync, L: Ledger>(
         move || -> bool
             requires { (client_made client.pass ≡ block.now) × IsClientInOrder client }
         { write_all(block, client, frames) },
-    ))
+    )
+}
+
+// Both over a block of 48 frames.
+fn play<R: Threads + Sync, L: Ledger>(
+    rt: &R,
+    blank: Blank,
+    alloc: Global,
+    frames: &[Frame],
+) -> Result<(bool, bool), Memory>
+    requires ledger { (blank.name ≡ L.name) × (blank.parts ≡ L.parts) × (0 < blank.parts) }
+{
+    let mut steps = Steps::<L>::start(blank);
+    let made = line(alloc, SIZE)?;
+    let streams = [made.0];
+    let (shared, mut ends) = begin(alloc, &streams, CYCLES, FRAMES)?;
+    let links = shared.links(&streams);
+    mix_only(&mut ends.mutator, &links, made.2, &mut steps);
+    Ok(play_on_two(rt, &links, ends, &streams[0], made.1, frames))
 }
 
 fn plays<R: Threads + Sync>(rt: &R, alloc: Global) -> Result<(bool, bool), Memory> {
-    play::<R, Brand>(rt, Blank::new(1), alloc)
+    let frames = numbered(alloc)?;
+    play::<R, Brand>(rt, Blank::new(1), alloc, &frames)
 }
 
 #[test]

@@ -117,32 +117,45 @@ fn edits_before_a_push_are_squashed(rt: HostRuntime) -> Result<(), Fail> {
     Ok(())
 }
 
-// Five states, each polled before the next, and a sixth push before the fifth is polled.
-fn recycles<L: Ledger>(alloc: Global, blank: Blank) -> Result<bool, Memory>
-    requires name { blank.name ≡ L.name }
-    requires parts { (blank.parts ≡ L.parts) × (0 < blank.parts) }
+// Pushes, and polls once.
+fn show<L: Ledger>(
+    line: &Line,
+    mutator: &mut Pushing,
+    observer: &mut Polling,
+    steps: &mut Steps<L>,
+) -> Poll
+    requires mutator { (mutator.old.editing ≡ false) × (mutator.old.past.queue ≡ line.now) × (mutator.old.past.number < 1000) }
+    requires observer { (observer.old.past.queue ≡ line.now) × (observer.old.past.number < 1000) }
+    requires order { InOrder (λ key track item. item ≡ track) observer.old }
+    ensures mutator { (mutator.new.editing ≡ false) × (mutator.new.past.queue ≡ mutator.old.past.queue) × (mutator.new.past.number ≤ mutator.old.past.number + 1) }
+    ensures observer { (observer.new.past.queue ≡ observer.old.past.queue) × (observer.new.past.number ≤ observer.old.past.number + 1) }
+    ensures order { InOrder (λ key track item. item ≡ track) observer.new }
 {
-    let (line, mut mutator, mut observer) = queue::<u32, ByNumber>(alloc, 4, ())?;
-    let mut steps = Steps::<L>::start(blank);
-    let none = observer.poll(&line, &mut steps);
-    attach(&mut mutator, 1, 10);
-    mutator.push(&line, &mut steps);
-    let first = observer.poll(&line, &mut steps);
-    attach(&mut mutator, 2, 11);
-    mutator.push(&line, &mut steps);
-    let second = observer.poll(&line, &mut steps);
+    mutator.push(line, steps);
+    observer.poll(line, steps)
+}
+
+// Polls before the first state and after the second, each of which is polled before the next. Whether each poll told what came, and the two states are then the last ones.
+fn two_come<L: Ledger>(
+    line: &Line,
+    mutator: &mut Pushing,
+    observer: &mut Polling,
+    steps: &mut Steps<L>,
+) -> bool
+    requires mutator { (mutator.old.editing ≡ false) × (mutator.old.past.queue ≡ line.now) × (mutator.old.past.number ≡ 0) }
+    requires observer { (observer.old.past.queue ≡ line.now) × (observer.old.past.number ≡ 0) }
+    requires order { InOrder (λ key track item. item ≡ track) observer.old }
+    ensures mutator { (mutator.new.editing ≡ false) × (mutator.new.past.queue ≡ mutator.old.past.queue) × (mutator.new.past.number ≤ 2) }
+    ensures observer { (observer.new.past.queue ≡ observer.old.past.queue) × (observer.new.past.number ≤ 4) }
+    ensures order { InOrder (λ key track item. item ≡ track) observer.new }
+{
+    let none = observer.poll(line, steps);
+    attach(mutator, 1, 10);
+    let first = show(line, mutator, observer, steps);
+    attach(mutator, 2, 11);
+    let second = show(line, mutator, observer, steps);
     let (current, previous) = (mask_of(observer.current()), mask_of(observer.previous()));
-    let same = observer.poll(&line, &mut steps);
-    command(&mut mutator, Command::Mix);
-    mutator.push(&line, &mut steps);
-    observer.poll(&line, &mut steps);
-    command(&mut mutator, Command::Write);
-    mutator.push(&line, &mut steps);
-    observer.poll(&line, &mut steps);
-    command(&mut mutator, Command::MixWrite);
-    mutator.push(&line, &mut steps);
-    command(&mut mutator, Command::Exit);
-    let last = mutator.push(&line, &mut steps);
+    let same = observer.poll(line, steps);
     let polls = [none, first, second, same]
         == [
             Poll::Nothing,
@@ -150,11 +163,44 @@ fn recycles<L: Ledger>(alloc: Global, blank: Blank) -> Result<bool, Memory>
             Poll::New { number: 2 },
             Poll::Same,
         ];
+    polls && current == 7 && previous == 3
+}
+
+// Three states more, of which the last isn't polled, and what the push after it answers.
+fn push_over<L: Ledger>(
+    line: &Line,
+    mutator: &mut Pushing,
+    observer: &mut Polling,
+    steps: &mut Steps<L>,
+) -> Push
+    requires mutator { (mutator.old.editing ≡ false) × (mutator.old.past.queue ≡ line.now) × (mutator.old.past.number ≤ 2) }
+    requires observer { (observer.old.past.queue ≡ line.now) × (observer.old.past.number ≤ 4) }
+    requires order { InOrder (λ key track item. item ≡ track) observer.old }
+{
+    command(mutator, Command::Mix);
+    show(line, mutator, observer, steps);
+    command(mutator, Command::Write);
+    show(line, mutator, observer, steps);
+    command(mutator, Command::MixWrite);
+    mutator.push(line, steps);
+    command(mutator, Command::Exit);
+    mutator.push(line, steps)
+}
+
+// Five states, each polled before the next, and a sixth push before the fifth is polled.
+fn recycles<L: Ledger>(alloc: Global, blank: Blank) -> Result<bool, Memory>
+    requires name { blank.name ≡ L.name }
+    requires parts { (blank.parts ≡ L.parts) × (0 < blank.parts) }
+{
+    let mut made = queue::<u32, ByNumber>(alloc, 4, ())?;
+    let mut steps = Steps::<L>::start(blank);
+    let two = two_come(&made.0, &mut made.1, &mut made.2, &mut steps);
+    let last = push_over(&made.0, &mut made.1, &mut made.2, &mut steps);
     let busy = Push::Busy {
         seen: 4,
         expected: 1,
     };
-    Ok(polls && current == 7 && previous == 3 && last == busy)
+    Ok(two && last == busy)
 }
 
 #[test]
