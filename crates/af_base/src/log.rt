@@ -135,6 +135,14 @@ impl FastLog {
         self.entries.push_reserved(entry);
     }
 
+    /// Forgets all entries and frames. The room stays, so nothing is taken or freed.
+    pub fn clear(&mut self)
+        ensures { self.new ≡ record self.old { entries = []; frames = [] } }
+    {
+        self.entries.clear();
+        self.frames.clear();
+    }
+
     /// Adds frames that were taken, for which there is room.
     pub fn push_frames(&mut self, frames: &[Frame])
         requires room { length self.old.frames + length frames.now ≤ self.old.frame_room }
