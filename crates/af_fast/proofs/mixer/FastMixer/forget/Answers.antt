@@ -1,0 +1,10 @@
+use Rattle.std.proofs.Common.{sym, subst, arith}
+use Rattle.af_fast.specs.contracts.mixer.FastMixer.{the_view}
+use Rattle.af_fast.specs.Mixer.{MixerState, IsInOrderAfter}
+use Rattle.af_fast.proofs.Forgotten.{forgot_order}
+use Rattle.af_fast.proofs.mixer.FastMixer.forget.Goals as goal
+
+pub returns-clause-order : goal.returns-clause-order
+returns-clause-order g c =
+    let m : MixerState = the_view c.self.inside in
+    forgot_order g.earlier m (subst (IsInOrderAfter g.earlier) (sym c.self.view_is) c.requires.order) (omega (arith, c.if-report.false))
