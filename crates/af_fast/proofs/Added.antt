@@ -1,6 +1,6 @@
 -- The entry that a cycle adds is a legal one, and what it says was done.
-use Rattle.std.proofs.Common.{◌≡◌, ℕ, zero, suc, ◌+◌, ◌<◌, ◌≤◌, ◌==◌, ◌||◌, eq-eqb, MatchOption, option_copied, Bor, Bool, true, false, true≢false, List, [], ◌∷◌, ◌++◌, length, Option, Some, None, refl, sym, ap, subst, ◌∙◌, append-nil, length-append, if◌then◌else◌, arith}
-use Rattle.std.proofs.Math.Nat.{add-zero}
+use Rattle.std.proofs.Common.{◌≡◌, ℕ, zero, suc, ◌+◌, ◌-◌, ◌*◌, ◌<◌, ◌≤◌, ◌==◌, ◌||◌, eq-eqb, MatchOption, option_copied, Bor, Bool, true, false, true≢false, List, [], ◌∷◌, ◌++◌, length, Option, Some, None, refl, sym, ap, subst, ◌∙◌, append-nil, length-append, if◌then◌else◌, arith}
+use Rattle.std.proofs.Math.Nat.{add-zero, suc-mul}
 use Rattle.af_base.specs.declared.frame.Frame.{Frame}
 use Rattle.af_base.specs.declared.log.Cycle.{Cycle}
 use Rattle.af_base.specs.declared.log.Cycle.TheVariants as cycle
@@ -39,7 +39,7 @@ either false true e = absurd (true≢false e)
 still_runs : (m : MixerState) → is_over m ≡ false → m.exited ≡ false
 still_runs m goes = (either m.exited (length m.log.entries == m.cycles) goes).0
 
-log_open : {earlier : List CycleEntry} (m : MixerState) → IsInOrderAfter earlier m → is_over m ≡ false → length m.log.entries < m.cycles
+pub log_open : {earlier : List CycleEntry} (m : MixerState) → IsInOrderAfter earlier m → is_over m ≡ false → length m.log.entries < m.cycles
 log_open m k goes =
     let apart : length m.log.entries ≡ m.cycles → ⊥ = (λ e. true≢false (sym (eq-eqb (length m.log.entries) m.cycles e) ∙ (either m.exited (length m.log.entries == m.cycles) goes).1)) in
     omega (arith, apart, k.room.entries)
@@ -189,6 +189,14 @@ few_reports {earlier} m k goes i lt =
 -- so one entry more can be counted
 pub few_counted : {earlier : List CycleEntry} (m : MixerState) → IsInOrderAfter earlier m → is_over m ≡ false → m.count < most_entries
 few_counted {earlier} m k goes = omega (arith, k.forgotten.counted, length-append earlier m.log.entries, log_open m k goes, k.forgotten.most)
+
+-- and a log that is open has room for the frames of one cycle
+pub room_one : {earlier : List CycleEntry} (m : MixerState) → IsInOrderAfter earlier m → is_over m ≡ false → length m.log.frames + slots * m.frames ≤ m.log.frame_room
+room_one m k goes =
+    let left : ℕ = m.cycles - (length m.log.entries + 1) in
+    let open_log = log_open m k goes in
+    let one : (m.cycles - length m.log.entries) * m.frames ≡ left * m.frames + m.frames = ap (λ a. a * m.frames) (let e : m.cycles - length m.log.entries ≡ suc left = omega (arith, open_log) in e) ∙ suc-mul left m.frames in
+    omega (arith, k.room.rest, one)
 
 -- before the first state there is none
 pub none_current : {earlier : List CycleEntry} (m : MixerState) → IsInOrderAfter earlier m → m.observer.past.number ≡ 0 → m.observer.current ≡ None

@@ -113,6 +113,15 @@ pub record IsInOrderAfter (earlier : List CycleEntry) (m : MixerState) : Type 0 
 abbrev pub IsInOrder : MixerState → Type 0
 IsInOrder m = IsInOrderAfter [] m
 
+-- the same whatever it has forgotten
+pub record IsSound (m : MixerState) : Type 0 where
+  pub earlier : List CycleEntry
+  pub order : IsInOrderAfter earlier m
+
+-- it stays in order, and forgets nothing more
+abbrev pub StaysInOrder : MixerState → MixerState → Type 0
+StaysInOrder m m' = (earlier : List CycleEntry) → IsInOrderAfter earlier m → IsInOrderAfter earlier m'
+
 -- its ends were made together with these links
 abbrev pub IsLinked : Links → MixerState → Type 0
 IsLinked links m = AreLinked links m.observer.past.key m.observer.past.queue m.writer.cell (out_made m.pipe)

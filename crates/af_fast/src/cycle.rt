@@ -4,7 +4,7 @@ ghost use Rattle.af_base.specs.declared.log.Cycle.TheVariants as cycle;
 ghost use Rattle.af_base.specs.declared.log.CycleEntry.{CycleEntry};
 ghost use Rattle.af_base.specs.Log.{slots};
 ghost use Rattle.af_model.specs.Cycles.{cycle_of, is_mixed};
-ghost use Rattle.af_fast.specs.Mixer.{IsInOrderAfter, IsLinked, MixerState, is_over};
+ghost use Rattle.af_fast.specs.Mixer.{IsInOrderAfter, IsLinked, IsSound, MixerState, StaysInOrder, is_over};
 ghost use Rattle.af_fast.specs.Mixing.{AddsCycleAfter, Adopts, MixesOnceAfter, Writes};
 ghost use Rattle.af_fast.specs.Tracks.{tracks_of};
 
@@ -60,12 +60,11 @@ impl FastMixer {
     ///
     /// It comes first, and then after each mix.
     pub fn adopt<L: Ledger>(&mut self, links: &Links<'_>, steps: &mut Steps<L>)
-        ghost earlier: { List CycleEntry }
         requires linked { IsLinked links.now self.old }
-        requires order { IsInOrderAfter earlier self.old }
+        requires order { IsSound self.old }
         requires turn { self.old.adopted ≡ false }
         ensures linked { IsLinked links.now self.new }
-        ensures order { IsInOrderAfter earlier self.new }
+        ensures order { StaysInOrder self.old self.new }
         ensures adopts { Adopts self.old self.new }
         ensures steps { steps.new ≤ steps.old + 2 }
     {
@@ -84,16 +83,15 @@ impl FastMixer {
         out: &mut [Frame],
         steps: &mut Steps<L>,
     ) -> Cycle
-        ghost earlier: { List CycleEntry }
         requires linked { IsLinked links.now self.old }
-        requires order { IsInOrderAfter earlier self.old }
+        requires order { IsSound self.old }
         requires goes { is_over self.old ≡ false }
         requires out { length out.old ≡ self.old.frames }
         ensures linked { IsLinked links.now self.new }
-        ensures order { IsInOrderAfter earlier self.new }
+        ensures order { StaysInOrder self.old self.new }
         ensures turn { self.new.adopted ≡ false }
         ensures sizes { (self.new.frames ≡ self.old.frames) × (self.new.cycles ≡ self.old.cycles) }
-        ensures adds { (entry : CycleEntry) × (result ≡ entry.cycle) × AddsCycleAfter earlier self.old self.new entry × Writes self.new entry out.old out.new }
+        ensures adds { (earlier : List CycleEntry) → IsInOrderAfter earlier self.old → (entry : CycleEntry) × (result ≡ entry.cycle) × AddsCycleAfter earlier self.old self.new entry × Writes self.new entry out.old out.new }
         ensures length { length out.new ≡ length out.old }
         ensures steps { let tracks = tracks_of self.old.observer.past.state in steps.new ≤ steps.old + (tracks + 1) * self.old.frames + 7 * tracks + 4 }
         ensures state { self.new.observer.past ≡ self.old.observer.past }
@@ -117,16 +115,15 @@ impl FastMixer {
         out: &mut [Frame],
         steps: &mut Steps<L>,
     ) -> Cycle
-        ghost earlier: { List CycleEntry }
         requires linked { IsLinked links.now self.old }
-        requires order { IsInOrderAfter earlier self.old }
+        requires order { IsSound self.old }
         requires turn { self.old.adopted ≡ true }
         requires out { length out.old ≡ self.old.frames }
         ensures linked { IsLinked links.now self.new }
-        ensures order { IsInOrderAfter earlier self.new }
+        ensures order { StaysInOrder self.old self.new }
         ensures turn { self.new.adopted ≡ false }
         ensures sizes { (self.new.frames ≡ self.old.frames) × (self.new.cycles ≡ self.old.cycles) }
-        ensures mixes { MixesOnceAfter earlier self.old out.old result self.new out.new }
+        ensures mixes { (earlier : List CycleEntry) → IsInOrderAfter earlier self.old → MixesOnceAfter earlier self.old out.old result self.new out.new }
         ensures length { length out.new ≡ length out.old }
         ensures steps { let tracks = tracks_of self.old.observer.past.state in steps.new ≤ steps.old + (tracks + 1) * self.old.frames + 7 * tracks + 4 }
         ensures state { self.new.observer.past ≡ self.old.observer.past }
@@ -147,16 +144,15 @@ impl FastMixer {
         out: &mut [Frame],
         steps: &mut Steps<L>,
     ) -> Cycle
-        ghost earlier: { List CycleEntry }
         requires linked { IsLinked links.now self.old }
-        requires order { IsInOrderAfter earlier self.old }
+        requires order { IsSound self.old }
         requires turn { self.old.adopted ≡ false }
         requires out { length out.old ≡ self.old.frames }
         ensures linked { IsLinked links.now self.new }
-        ensures order { IsInOrderAfter earlier self.new }
+        ensures order { StaysInOrder self.old self.new }
         ensures turn { self.new.adopted ≡ false }
         ensures sizes { (self.new.frames ≡ self.old.frames) × (self.new.cycles ≡ self.old.cycles) }
-        ensures cycle { (middle : MixerState) × Adopts self.old middle × MixesOnceAfter earlier middle out.old result self.new out.new }
+        ensures cycle { (middle : MixerState) × Adopts self.old middle × ((earlier : List CycleEntry) → IsInOrderAfter earlier self.old → MixesOnceAfter earlier middle out.old result self.new out.new) }
         ensures length { length out.new ≡ length out.old }
         ensures steps { let tracks = tracks_of self.new.observer.past.state in steps.new ≤ steps.old + (tracks + 1) * self.old.frames + 7 * tracks + 6 }
         ensures seven { tracks_of self.new.observer.past.state ≤ 7 → steps.new ≤ steps.old + 8 * self.old.frames + 65 }

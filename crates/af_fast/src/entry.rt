@@ -10,7 +10,7 @@ ghost use Rattle.af_stateq.specs.Observes.{InOrder};
 ghost use Rattle.af_link.specs.PipeEnds.{out_made};
 ghost use Rattle.af_link.specs.Reports.{last_cycle};
 ghost use Rattle.af_fast.specs.Fits.{stream_fits, NamesBlocks};
-ghost use Rattle.af_fast.specs.Mixer.{AreFew, IsInOrderAfter, IsLinked, is_over, most_entries};
+ghost use Rattle.af_fast.specs.Mixer.{AreFew, IsInOrderAfter, IsLinked, IsSound, StaysInOrder, is_over, most_entries};
 ghost use Rattle.af_fast.specs.Mixing.{AddsCycleAfter, StoresReport, Writes, notes};
 ghost use Rattle.af_fast.specs.Slots.{PlaysSlots, SameEntries};
 ghost use Rattle.af_fast.specs.Tracks.{tracks_of};
@@ -116,18 +116,17 @@ impl FastMixer {
         kind: Cycle,
         steps: &mut Steps<L>,
     )
-        ghost earlier: { List CycleEntry }
         requires linked { IsLinked links.now self.old }
-        requires order { IsInOrderAfter earlier self.old }
+        requires order { IsSound self.old }
         requires goes { is_over self.old ≡ false }
         requires state { state.now ≡ self.old.observer.current }
         requires kind { kind ≡ cycle_of self.old.cold state.now }
         requires still { is_mixed kind ≡ false }
         ensures linked { IsLinked links.now self.new }
-        ensures order { IsInOrderAfter earlier self.new }
+        ensures order { StaysInOrder self.old self.new }
         ensures turn { self.new.adopted ≡ false }
         ensures sizes { (self.new.frames ≡ self.old.frames) × (self.new.cycles ≡ self.old.cycles) }
-        ensures adds { (entry : CycleEntry) × (kind ≡ entry.cycle) × AddsCycleAfter earlier self.old self.new entry }
+        ensures adds { (earlier : List CycleEntry) → IsInOrderAfter earlier self.old → (entry : CycleEntry) × (kind ≡ entry.cycle) × AddsCycleAfter earlier self.old self.new entry }
         ensures steps { steps.new ≡ steps.old + 1 }
         ensures state { self.new.observer.past ≡ self.old.observer.past }
     {
@@ -144,18 +143,17 @@ impl FastMixer {
         out: &mut [Frame],
         steps: &mut Steps<L>,
     )
-        ghost earlier: { List CycleEntry }
         requires linked { IsLinked links.now self.old }
-        requires order { IsInOrderAfter earlier self.old }
+        requires order { IsSound self.old }
         requires goes { is_over self.old ≡ false }
         requires state { state.now ≡ self.old.observer.current }
         requires mixed { cycle.Mixed ≡ cycle_of self.old.cold state.now }
         requires out { length out.old ≡ self.old.frames }
         ensures linked { IsLinked links.now self.new }
-        ensures order { IsInOrderAfter earlier self.new }
+        ensures order { StaysInOrder self.old self.new }
         ensures turn { self.new.adopted ≡ false }
         ensures sizes { (self.new.frames ≡ self.old.frames) × (self.new.cycles ≡ self.old.cycles) }
-        ensures adds { (entry : CycleEntry) × (cycle.Mixed ≡ entry.cycle) × AddsCycleAfter earlier self.old self.new entry × Writes self.new entry out.old out.new }
+        ensures adds { (earlier : List CycleEntry) → IsInOrderAfter earlier self.old → (entry : CycleEntry) × (cycle.Mixed ≡ entry.cycle) × AddsCycleAfter earlier self.old self.new entry × Writes self.new entry out.old out.new }
         ensures length { length out.new ≡ length out.old }
         ensures steps { let tracks = tracks_of self.old.observer.past.state in steps.new ≤ steps.old + (tracks + 1) * self.old.frames + 7 * tracks + 4 }
         ensures state { self.new.observer.past ≡ self.old.observer.past }

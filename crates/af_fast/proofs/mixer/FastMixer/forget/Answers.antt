@@ -5,6 +5,6 @@ use Rattle.af_fast.proofs.Forgotten.{forgot_order}
 use Rattle.af_fast.proofs.mixer.FastMixer.forget.Goals as goal
 
 pub returns-clause-order : goal.returns-clause-order
-returns-clause-order g c =
+returns-clause-order c = λ earlier k.
     let m : MixerState = the_view c.self.inside in
-    forgot_order g.earlier m (subst (IsInOrderAfter g.earlier) (sym c.self.view_is) c.requires.order) (omega (arith, c.if-report.false))
+    forgot_order earlier m (subst (IsInOrderAfter earlier) (sym c.self.view_is) k) (omega (arith, c.if-report.false))
