@@ -1,4 +1,4 @@
-use Rattle.std.proofs.Common.{length, refl, sym, subst, ◌∙◌}
+use Rattle.std.proofs.Common.{[], length, refl, sym, subst, ◌∙◌}
 use Rattle.af_base.specs.Log.{Logged}
 use Rattle.af_session.specs.Shown.{HasPlaces}
 use Rattle.af_session.specs.Together.{SessionState}
@@ -10,7 +10,7 @@ pub returns-clause-tally : goal.returns-clause-tally
 returns-clause-tally g c =
     let s : SessionState = record { clients = c.args.clients.now; normal = c.args.normal.now; fast = c.args.fast.now } in
     let met : SessionState = record { clients = c.meet.new.clients; normal = c.meet.new.normal; fast = c.meet.new.fast } in
-    follows_cycle s c.adopt.new.self met c.mix_noted-cycle.new.fast c.args.tally.now c.mix_noted-cycle.new.tally c.requires.together.fast.0 c.adopt.ensures.order c.adopt.ensures.adopts c.meet.ensures.met c.mix_noted-cycle.ensures.tally
+    follows_cycle s c.adopt.new.self met c.mix_noted-cycle.new.fast c.args.tally.now c.mix_noted-cycle.new.tally c.requires.together.fast.0 (c.adopt.ensures.order [] c.requires.together.fast.0) c.adopt.ensures.adopts c.meet.ensures.met c.mix_noted-cycle.ensures.tally
 
 pub returns-clause-places : goal.returns-clause-places
 returns-clause-places g c = λ n tracks held.
@@ -28,11 +28,11 @@ returns-clause-cycle g c = record {
   mixes = c.mix_noted-cycle.ensures.mixes;
   sizes = c.mix_noted-cycle.ensures.sizes;
   others = refl;
-  order = (c.adopt.ensures.order, c.meet.ensures.together.fast.0, c.mix_noted-cycle.ensures.order);
+  order = (c.adopt.ensures.order [] c.requires.together.fast.0, c.meet.ensures.together.fast.0, c.mix_noted-cycle.ensures.order);
   together = let t = c.requires.together in record {
     links = c.args.links.now;
     before = t;
-    turned = record { normal = t.normal; fast = (c.adopt.ensures.order, c.adopt.ensures.linked); count = t.count; tracks = t.tracks; clients = t.clients };
+    turned = record { normal = t.normal; fast = (c.adopt.ensures.order [] c.requires.together.fast.0, c.adopt.ensures.linked); count = t.count; tracks = t.tracks; clients = t.clients };
     met = c.meet.ensures.together;
   };
   mixed = let t = c.meet.ensures.together in record { normal = t.normal; fast = (c.mix_noted-cycle.ensures.order, c.mix_noted-cycle.ensures.linked); count = t.count; tracks = t.tracks; clients = t.clients };

@@ -1,4 +1,4 @@
-use Rattle.std.proofs.Common.{length, refl, sym, subst, ◌∙◌}
+use Rattle.std.proofs.Common.{[], length, refl, sym, subst, ◌∙◌}
 use Rattle.af_base.specs.Log.{Logged}
 use Rattle.af_session.specs.Shown.{HasPlaces}
 use Rattle.af_tally.specs.Sound.{IsWhole}
@@ -24,7 +24,7 @@ returns-clause-cycle g c =
     record {
       polled = adopt.new.self;
       adopts = adopt.ensures.adopts;
-      polled_in = (adopt.ensures.order, adopt.ensures.linked);
+      polled_in = (adopt.ensures.order [] c.requires.can.order, adopt.ensures.linked);
       before = c.args.buffer.now;
       after = mixed.new.buffer;
       long = c.requires.buffer;
