@@ -1,5 +1,5 @@
 -- A mixer that forgot its log is in order, behind all entries of its life.
-use Rattle.std.proofs.Common.{◌≡◌, ℕ, ◌+◌, ◌-◌, ◌*◌, ◌≤◌, ◌==◌, ◌||◌, eq-eqb, eqb-true, Bool, true, false, List, ◌++◌, length, refl, sym, ap, subst, ◌∙◌, append-nil, arith}
+use Rattle.std.proofs.Common.{◌≡◌, ℕ, ◌+◌, ◌-◌, ◌*◌, ◌≤◌, ◌==◌, ◌||◌, eq-eqb, eqb-true, Bool, true, false, List, length, refl, sym, ap, subst, ◌∙◌, append-nil, arith}
 use Rattle.af_base.specs.declared.log.CycleEntry.{CycleEntry}
 use Rattle.af_fast.specs.Mixer.{MixerState, UsesStates, KeepsEntries, Reported, IsInOrderAfter, adopted_states, all_entries, emptied, is_over, most_entries}
 
@@ -11,11 +11,12 @@ was_over false n cycles le over = let none : 0 ≡ cycles = eqb-true 0 cycles ov
 pub forgot_order : (earlier : List CycleEntry) (m : MixerState) → IsInOrderAfter earlier m → m.count + m.cycles ≤ most_entries → IsInOrderAfter (all_entries earlier m) (emptied m)
 forgot_order earlier m k few =
     let all : List CycleEntry = all_entries earlier m in
+    let whole : (m.cycles - 0) * m.frames ≡ m.cycles * m.frames = ap (λ a. a * m.frames) (let e : m.cycles - 0 ≡ m.cycles = omega arith in e) in
     let same : all ≡ all_entries all (emptied m) = sym (append-nil all) in
     record {
       observer = k.observer;
       begins = k.begins;
-      room = record { sized = k.room.sized; entries = (omega arith, k.room.entries.1); rest = k.forgotten.room };
+      room = record { sized = k.room.sized; entries = (omega arith, k.room.entries.1); rest = omega (arith, k.forgotten.room, whole) };
       uses = subst (λ (es : List CycleEntry). UsesStates m.observer.past.number es m.adopted (is_over (emptied m))) same
           (record { used = k.uses.used; low = k.uses.low; high = k.uses.high; still = k.uses.still; ended = (λ over. k.uses.ended (was_over m.exited (length m.log.entries) m.cycles k.room.entries.0 over)); few = k.uses.few });
       keeps = subst (λ (es : List CycleEntry). KeepsEntries (adopted_states m) es m.exited m.cold m.last) same k.keeps;

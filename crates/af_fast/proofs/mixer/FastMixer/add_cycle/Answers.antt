@@ -1,5 +1,4 @@
-use Rattle.std.proofs.Common.{◌≡◌, Bool, true, true≢false, refl, sym, ap, subst, ◌∙◌}
-use Rattle.af_base.specs.declared.log.Cycle.{Cycle}
+use Rattle.std.proofs.Common.{true≢false, refl, sym, ap, subst, ◌∙◌}
 use Rattle.af_model.specs.Cycles.{cycle_of, is_mixed}
 use Rattle.af_fast.specs.contracts.mixer.FastMixer.{the_view}
 use Rattle.af_fast.specs.Mixer.{MixerState, IsInOrderAfter}
