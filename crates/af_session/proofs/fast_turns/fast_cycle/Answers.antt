@@ -6,6 +6,12 @@ use Rattle.af_session.proofs.FastAdds.{met_keeps, polled_keeps}
 use Rattle.af_session.proofs.Following.{follows_cycle}
 use Rattle.af_session.proofs.fast_turns.fast_cycle.Goals as goal
 
+pub adopt-requires-clause-order : goal.adopt-requires-clause-order
+adopt-requires-clause-order g c = record { earlier = []; order = c.requires.together.fast.0 }
+
+pub meet-requires : goal.meet-requires
+meet-requires g c = let t = c.requires.together in record { normal = t.normal; fast = (c.adopt.ensures.order [] t.fast.0, c.adopt.ensures.linked); count = t.count; tracks = t.tracks; clients = t.clients }
+
 pub returns-clause-tally : goal.returns-clause-tally
 returns-clause-tally g c =
     let s : SessionState = record { clients = c.args.clients.now; normal = c.args.normal.now; fast = c.args.fast.now } in

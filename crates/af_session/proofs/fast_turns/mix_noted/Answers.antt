@@ -1,8 +1,27 @@
 use Rattle.std.proofs.Common.{[], ◌≤◌, ◌<◌, length, sym, ap, subst, arith}
-use Rattle.af_fast.specs.Mixer.{MixerState}
+use Rattle.af_fast.specs.Mixer.{MixerState, IsInOrder}
+use Rattle.af_fast.specs.Mixing.{MixesOnce}
 use Rattle.af_session.specs.Shown.{Follows}
 use Rattle.af_session.proofs.Following.{follows_added, follows_still}
 use Rattle.af_session.proofs.fast_turns.mix_noted.Goals as goal
+
+pub mix-cycle-requires-clause-order : goal.mix-cycle-requires-clause-order
+mix-cycle-requires-clause-order g c = record { earlier = []; order = c.requires.order }
+
+pub note_last-requires-clause-order : goal.note_last-requires-clause-order
+note_last-requires-clause-order g c = c.mix-cycle.ensures.order [] c.requires.order
+
+pub returns-then-len-entries-clause-order : goal.returns-then-len-entries-clause-order
+returns-then-len-entries-clause-order g c = subst IsInOrder (sym c.note_last.ensures.same) (c.mix-cycle.ensures.order [] c.requires.order)
+
+pub returns-else-len-entries-clause-order : goal.returns-else-len-entries-clause-order
+returns-else-len-entries-clause-order g c = c.mix-cycle.ensures.order [] c.requires.order
+
+pub returns-then-len-entries-clause-mixes : goal.returns-then-len-entries-clause-mixes
+returns-then-len-entries-clause-mixes g c = subst (λ (m : MixerState). MixesOnce c.args.fast.now c.args.buffer.now c.mix-cycle.result m c.mix-cycle.new.out) (sym c.note_last.ensures.same) (c.mix-cycle.ensures.mixes [] c.requires.order)
+
+pub returns-else-len-entries-clause-mixes : goal.returns-else-len-entries-clause-mixes
+returns-else-len-entries-clause-mixes g c = c.mix-cycle.ensures.mixes [] c.requires.order
 
 pub returns-then-len-entries-clause-tally : goal.returns-then-len-entries-clause-tally
 returns-then-len-entries-clause-tally g c =

@@ -8,6 +8,12 @@ use Rattle.af_session.proofs.FastAdds.{mix_adds, polled_keeps}
 use Rattle.af_session.proofs.Following.{shown_adopted}
 use Rattle.af_side_by_side.proofs.alone.cycle_once.Goals as goal
 
+pub adopt-requires-clause-order : goal.adopt-requires-clause-order
+adopt-requires-clause-order g c = record { earlier = []; order = c.requires.can.order }
+
+pub mix_noted-cycle-requires-clause-order : goal.mix_noted-cycle-requires-clause-order
+mix_noted-cycle-requires-clause-order g c = c.adopt.ensures.order [] c.requires.can.order
+
 pub returns-clause-can : goal.returns-clause-can
 returns-clause-can g c =
     let mixed = c.mix_noted-cycle in
