@@ -1,6 +1,6 @@
 -- The entry that a cycle adds is a legal one, and what it says was done.
-use Rattle.std.proofs.Common.{◌≡◌, ℕ, ◌+◌, ◌^◌, ◌<◌, ◌≤◌, ◌==◌, ◌||◌, eq-eqb, ne_eqb, MatchOption, option_copied, Bor, Bool, true, false, true≢false, List, [], ◌∷◌, ◌++◌, length, Option, Some, None, refl, sym, ap, subst, ◌∙◌, append-nil, arith}
-use Rattle.std.proofs.Math.Nat.{add-zero}
+use Rattle.std.proofs.Common.{◌≡◌, ℕ, zero, suc, ◌+◌, ◌-◌, ◌*◌, ◌<◌, ◌≤◌, ◌==◌, ◌||◌, eq-eqb, MatchOption, option_copied, Bor, Bool, true, false, true≢false, List, [], ◌∷◌, ◌++◌, length, Option, Some, None, refl, sym, ap, subst, ◌∙◌, append-nil, length-append, if◌then◌else◌, arith}
+use Rattle.std.proofs.Math.Nat.{add-zero, suc-mul}
 use Rattle.af_base.specs.declared.frame.Frame.{Frame}
 use Rattle.af_base.specs.declared.log.Cycle.{Cycle}
 use Rattle.af_base.specs.declared.log.Cycle.TheVariants as cycle
@@ -17,8 +17,8 @@ use Rattle.af_stateq.specs.Shelved.{no_state}
 use Rattle.af_link.specs.declared.names.StreamNames.{StreamNames}
 use Rattle.af_fast.specs.Fits.{stream_fits}
 use Rattle.af_fast.specs.Known.{known}
-use Rattle.af_fast.specs.Mixer.{MixerState, IsInOrder, AreFew, adopted_states, is_over}
-use Rattle.af_fast.specs.Mixing.{StoresReport, notes, AddsCycle, Takes, Writes, MixesOnce}
+use Rattle.af_fast.specs.Mixer.{MixerState, IsInOrderAfter, AreFew, adopted_states, all_entries, is_over, most_entries}
+use Rattle.af_fast.specs.Mixing.{StoresReport, notes, AddsCycleAfter, Takes, Writes, MixesOnceAfter}
 use Rattle.af_fast.specs.Slots.{PlaysSlots, found}
 use Rattle.af_fast.proofs.HeldFacts.{some_same}
 use Rattle.af_fast.proofs.SlotsDone.{taken_few}
@@ -39,28 +39,28 @@ either false true e = absurd (true≢false e)
 still_runs : (m : MixerState) → is_over m ≡ false → m.exited ≡ false
 still_runs m goes = (either m.exited (length m.log.entries == m.cycles) goes).0
 
-log_open : (m : MixerState) → IsInOrder m → is_over m ≡ false → length m.log.entries < m.cycles
+pub log_open : {earlier : List CycleEntry} (m : MixerState) → IsInOrderAfter earlier m → is_over m ≡ false → length m.log.entries < m.cycles
 log_open m k goes =
     let apart : length m.log.entries ≡ m.cycles → ⊥ = (λ e. true≢false (sym (eq-eqb (length m.log.entries) m.cycles e) ∙ (either m.exited (length m.log.entries == m.cycles) goes).1)) in
     omega (arith, apart, k.room.entries)
 
-module _ (m n l : MixerState) (entry : CycleEntry) (k : IsInOrder m) (open_log : length m.log.entries < m.cycles) (runs : m.exited ≡ false) (played : IsPlayed m n)
+module _ (earlier : List CycleEntry) (m n l : MixerState) (entry : CycleEntry) (k : IsInOrderAfter earlier m) (open_log : length m.log.entries < m.cycles) (runs : m.exited ≡ false) (played : IsPlayed m n)
     (state : entry.state ≡ m.observer.past.number) (noted : l ≡ notes m.observer.current entry l.writer l.reports n) (r : StoresReport m.observer.current entry n l) (what : entry.cycle ≡ cycle_of m.cold m.observer.current) where
-  abbrev es : List CycleEntry
-  es = m.log.entries
+  abbrev all : List CycleEntry
+  all = all_entries earlier m
 
   abbrev xs : List FastState
   xs = adopted_states m
 
   abbrev after : MixerState
-  after = now m n l entry k open_log runs played state noted r
+  after = now earlier m n l entry k open_log runs played state noted r
 
   current_is : state_of xs entry.state ≡ m.observer.current
   current_is = ap (state_of xs) state ∙ k.observer.told.current no_state
 
-  next_report : IsNextReport m.frames xs es entry (known n.observer) m.reports r.report
+  next_report : IsNextReport m.frames xs all entry (known n.observer) m.reports r.report
   next_report = record {
-    number = r.number ∙ ap (λ (e : List CycleEntry). length e + 1) played.entries.0;
+    number = r.number ∙ ap (λ (y : MixerState). y.count + 1) played.same ∙ ap (λ c. c + 1) k.forgotten.counted;
     whole = ap length r.slots_are ∙ r.whole;
     each = (λ i lt. ap (λ (rs : List SlotReport). report_at rs i) r.slots_are ∙ r.each i lt
         ∙ ap (λ (y : ℕ × Option FastState × Option FastState × SlotReport). slot_report y.0 y.1 y.2 entry (known n.observer i) i y.3)
@@ -69,8 +69,8 @@ module _ (m n l : MixerState) (entry : CycleEntry) (k : IsInOrder m) (open_log :
 
   -- with what the slots did
   adds : ((x : FastState) → m.observer.current ≡ Some x → is_mixed entry.cycle ≡ true → Mixes m.frames x (length m.log.frames) (found m.observer m.pipe) (found n.observer n.pipe) entry)
-      → (is_mixed entry.cycle ≡ false → entry ≡ still_entry entry.state entry.cycle) → Takes m after entry → AddsCycle m l entry
-  adds mixes still takes = subst (λ (y : MixerState). AddsCycle m y entry) (sym (is_now m n l entry k open_log runs played state noted r)) (record {
+      → (is_mixed entry.cycle ≡ false → entry ≡ still_entry entry.state entry.cycle) → Takes m after entry → AddsCycleAfter earlier m l entry
+  adds mixes still takes = subst (λ (y : MixerState). AddsCycleAfter earlier m y entry) (sym (is_now earlier m n l entry k open_log runs played state noted r)) (record {
     state = state;
     legal = record {
       follows = (omega (arith, state, k.uses.low), omega (arith, state, k.uses.high));
@@ -86,7 +86,7 @@ module _ (m n l : MixerState) (entry : CycleEntry) (k : IsInOrder m) (open_log :
   })
 
   -- a mix
-  pub adds_mix : (x : FastState) → m.observer.current ≡ Some x → PlaysSlots m.frames m.observer.past.number x m.observer n.observer m.pipe n.pipe m.log.frames n.log.frames entry → AddsCycle m l entry
+  pub adds_mix : (x : FastState) → m.observer.current ≡ Some x → PlaysSlots m.frames m.observer.past.number x m.observer n.observer m.pipe n.pipe m.log.frames n.log.frames entry → AddsCycleAfter earlier m l entry
   adds_mix x is p =
       let same : (y : FastState) → m.observer.current ≡ Some y → x ≡ y = (λ y is'. some_same x y (sym is ∙ is')) in
       adds
@@ -102,7 +102,7 @@ module _ (m n l : MixerState) (entry : CycleEntry) (k : IsInOrder m) (open_log :
       })
 
   -- a cycle that mixes nothing
-  pub adds_still : is_mixed entry.cycle ≡ false → entry ≡ still_entry entry.state entry.cycle → n ≡ record m { adopted = false } → AddsCycle m l entry
+  pub adds_still : is_mixed entry.cycle ≡ false → entry ≡ still_entry entry.state entry.cycle → n ≡ record m { adopted = false } → AddsCycleAfter earlier m l entry
   adds_still dry is rests =
       let taken : taken_before entry slots ≡ 0 = ap (λ (e : CycleEntry). taken_before e slots) is in
       adds
@@ -118,31 +118,31 @@ module _ (m n l : MixerState) (entry : CycleEntry) (k : IsInOrder m) (open_log :
       })
 
 -- what a call of mix comes to, where an entry is added
-abbrev pub Comes : MixerState → MixerState → Cycle → CycleEntry → Type 0
-Comes m l answer entry = IsInOrder l × (answer ≡ entry.cycle) × AddsCycle m l entry
+abbrev pub Comes : List CycleEntry → MixerState → MixerState → Cycle → CycleEntry → Type 0
+Comes earlier m l answer entry = IsInOrderAfter earlier l × (answer ≡ entry.cycle) × AddsCycleAfter earlier m l entry
 
 -- with a mix
-pub mix_step : (m n l : MixerState) (entry : CycleEntry) (x : FastState) (answer : Cycle) → IsInOrder m → is_over m ≡ false → m.observer.current ≡ Some x → answer ≡ cycle_of m.cold (Some x) → is_mixed answer ≡ true
+pub mix_step : (earlier : List CycleEntry) (m n l : MixerState) (entry : CycleEntry) (x : FastState) (answer : Cycle) → IsInOrderAfter earlier m → is_over m ≡ false → m.observer.current ≡ Some x → answer ≡ cycle_of m.cold (Some x) → is_mixed answer ≡ true
     → n ≡ record m { adopted = false; observer = n.observer; pipe = n.pipe; log = n.log } → InOrder stream_fits n.observer → (n.log.entries ≡ m.log.entries) × (n.log.room ≡ m.log.room) × (m.log.frame_room ≤ n.log.frame_room)
     → PlaysSlots m.frames m.observer.past.number x m.observer n.observer m.pipe n.pipe m.log.frames n.log.frames entry
-    → l ≡ notes (Some x) entry l.writer l.reports n → StoresReport (Some x) entry n l → Comes m l answer entry
-mix_step m n l entry x answer k goes is answer_is mixed same order log p noted r =
+    → l ≡ notes (Some x) entry l.writer l.reports n → StoresReport (Some x) entry n l → Comes earlier m l answer entry
+mix_step earlier m n l entry x answer k goes is answer_is mixed same order log p noted r =
     let open_log : length m.log.entries < m.cycles = log_open m k goes in
     let runs : m.exited ≡ false = still_runs m goes in
     let played : IsPlayed m n = record { same = same; observer = p.same; order = order; entries = log; few = omega (arith, p.total, taken_few m.frames entry slots p.within) } in
     let noted_so = subst (λ (y : Option FastState). l ≡ notes y entry l.writer l.reports n) (sym is) noted in
     let reports = subst (λ (y : Option FastState). StoresReport y entry n l) (sym is) r in
     let cycle_is : answer ≡ entry.cycle = mixed_is answer mixed ∙ sym (mixed_is entry.cycle p.mixed) in (
-      noted_order m n l entry k open_log runs played p.state noted_so reports,
+      noted_order earlier m n l entry k open_log runs played p.state noted_so reports,
       cycle_is,
-      adds_mix m n l entry k open_log runs played p.state noted_so reports (sym cycle_is ∙ answer_is ∙ ap (cycle_of m.cold) (sym is)) x is p,
+      adds_mix earlier m n l entry k open_log runs played p.state noted_so reports (sym cycle_is ∙ answer_is ∙ ap (cycle_of m.cold) (sym is)) x is p,
     )
 
 -- without one
-pub still_step : (m l : MixerState) (entry : CycleEntry) (answer : Cycle) → IsInOrder m → is_over m ≡ false → answer ≡ cycle_of m.cold m.observer.current → is_mixed answer ≡ false
+pub still_step : (earlier : List CycleEntry) (m l : MixerState) (entry : CycleEntry) (answer : Cycle) → IsInOrderAfter earlier m → is_over m ≡ false → answer ≡ cycle_of m.cold m.observer.current → is_mixed answer ≡ false
     → entry ≡ still_entry m.observer.past.number answer
-    → l ≡ notes m.observer.current entry l.writer l.reports (record m { adopted = false }) → StoresReport m.observer.current entry (record m { adopted = false }) l → Comes m l answer entry
-still_step m l entry answer k goes answer_is dry is noted r =
+    → l ≡ notes m.observer.current entry l.writer l.reports (record m { adopted = false }) → StoresReport m.observer.current entry (record m { adopted = false }) l → Comes earlier m l answer entry
+still_step earlier m l entry answer k goes answer_is dry is noted r =
     let n : MixerState = record m { adopted = false } in
     let open_log : length m.log.entries < m.cycles = log_open m k goes in
     let runs : m.exited ≡ false = still_runs m goes in
@@ -150,45 +150,68 @@ still_step m l entry answer k goes answer_is dry is noted r =
     let state = ap (λ (e : CycleEntry). e.state) is in
     let cycle_is : answer ≡ entry.cycle = sym (ap (λ (e : CycleEntry). e.cycle) is) in
     let still : entry ≡ still_entry entry.state entry.cycle = is ∙ ap (λ (y : ℕ × Cycle). still_entry y.0 y.1) (λ i. (sym state i, cycle_is i)) in (
-      noted_order m n l entry k open_log runs played state noted r,
+      noted_order earlier m n l entry k open_log runs played state noted r,
       cycle_is,
-      adds_still m n l entry k open_log runs played state noted r (sym cycle_is ∙ answer_is) (ap is_mixed (sym cycle_is) ∙ dry) still refl,
+      adds_still earlier m n l entry k open_log runs played state noted r (sym cycle_is ∙ answer_is) (ap is_mixed (sym cycle_is) ∙ dry) still refl,
     )
 
 -- an entry was added, so nothing else comes to pass
-pub adds_so : (m m' : MixerState) (out out' : List Frame) (answer : Cycle) (entry : CycleEntry) → is_over m ≡ false → answer ≡ entry.cycle → AddsCycle m m' entry → Writes m' entry out out' → MixesOnce m out answer m' out'
-adds_so m m' out out' answer entry goes same adds writes =
+pub adds_so : {earlier : List CycleEntry} (m m' : MixerState) (out out' : List Frame) (answer : Cycle) → is_over m ≡ false → (entry : CycleEntry) × (answer ≡ entry.cycle) × AddsCycleAfter earlier m m' entry × Writes m' entry out out'
+    → MixesOnceAfter earlier m out answer m' out'
+adds_so m m' out out' answer goes added =
     let parts = either m.exited (length m.log.entries == m.cycles) goes in
     record {
       exited = (λ over. absurd (true≢false (sym over ∙ parts.0)));
       spent = (λ _ full. absurd (true≢false (sym (eq-eqb (length m.log.entries) m.cycles full) ∙ parts.1)));
-      adds = (λ _. (entry, same, adds, writes));
+      adds = (λ _. added);
     }
 
+-- what a mixer that is over answers
+abbrev pub over_answer : MixerState → Cycle
+over_answer m = if m.exited then cycle.Exit else cycle.Spent m.cycles
+
+-- it is over, and nothing was done
+pub over_so : {earlier : List CycleEntry} (m : MixerState) (out : List Frame) (answer : Cycle) → is_over m ≡ true → answer ≡ over_answer m → MixesOnceAfter earlier m out answer (record m { adopted = false }) out
+over_so m out answer over is = record {
+  exited = (λ yes. (is ∙ ap (λ (b : Bool). if b then cycle.Exit else cycle.Spent m.cycles) yes, refl, refl));
+  spent = (λ no _. (is ∙ ap (λ (b : Bool). if b then cycle.Exit else cycle.Spent m.cycles) no, refl, refl));
+  adds = (λ goes. absurd (true≢false (sym over ∙ goes)));
+}
+
 -- there are no more looks than entries
-pub few_reports : (m : MixerState) → IsInOrder m → AreFew (2 ^ 31) m.reports
-few_reports m k i lt =
+pub few_reports : {earlier : List CycleEntry} (m : MixerState) → IsInOrderAfter earlier m → is_over m ≡ false → AreFew most_entries m.reports
+few_reports {earlier} m k goes i lt =
     let few = k.reports.few i lt in
-    (omega (arith, few, k.room), omega (arith, few, k.room), omega (arith, few, k.room))
+    let long = length-append earlier m.log.entries in
+    let open_log = log_open m k goes in
+    (omega (arith, few, long, open_log, k.forgotten.most), omega (arith, few, long, open_log, k.forgotten.most), omega (arith, few, long, open_log, k.forgotten.most))
+
+-- so one entry more can be counted
+pub few_counted : {earlier : List CycleEntry} (m : MixerState) → IsInOrderAfter earlier m → is_over m ≡ false → m.count < most_entries
+few_counted {earlier} m k goes = omega (arith, k.forgotten.counted, length-append earlier m.log.entries, log_open m k goes, k.forgotten.most)
+
+-- and a log that is open has room for the frames of one cycle
+pub room_one : {earlier : List CycleEntry} (m : MixerState) → IsInOrderAfter earlier m → is_over m ≡ false → length m.log.frames + slots * m.frames ≤ m.log.frame_room
+room_one m k goes =
+    let left : ℕ = m.cycles - (length m.log.entries + 1) in
+    let open_log = log_open m k goes in
+    let one : (m.cycles - length m.log.entries) * m.frames ≡ left * m.frames + m.frames = ap (λ a. a * m.frames) (let e : m.cycles - length m.log.entries ≡ suc left = omega (arith, open_log) in e) ∙ suc-mul left m.frames in
+    omega (arith, k.room.rest, one)
+
+-- before the first state there is none
+pub none_current : {earlier : List CycleEntry} (m : MixerState) → IsInOrderAfter earlier m → m.observer.past.number ≡ 0 → m.observer.current ≡ None
+none_current m k none = sym (k.observer.told.current no_state) ∙ ap (state_of (adopted_states m)) none
+
+by_number : (n : ℕ) (now : Option FastState) (s x : FastState) → (n ≡ 0 → now ≡ None) → (0 < n → now ≡ Some s) → now ≡ Some x → x ≡ s
+by_number zero now s x none some is = let gone : None ≡ Some x = sym (none refl) ∙ is in cc
+by_number (suc n) now s x none some is = some_same x s (sym is ∙ some (omega arith))
+
+-- the current state is the state adopted
+pub current_state : {earlier : List CycleEntry} (m : MixerState) (x : FastState) → IsInOrderAfter earlier m → m.observer.current ≡ Some x → x ≡ m.observer.past.state
+current_state m x k is = by_number m.observer.past.number m.observer.current m.observer.past.state x (none_current m k) k.observer.told.state is
 
 -- the copy of what the observer lends is its current state
 pub current_copied : (o : Observes ServerState StreamNames) (lent : Option (Bor FastState)) (copied : Option FastState) → (o.past.number ≡ 0 → o.current ≡ None)
     → MatchOption lent (o.past.number ≡ 0) (λ s. (0 < o.past.number) × (s.now ≡ o.past.state) × (o.current ≡ Some s.now)) → copied ≡ option_copied lent → copied ≡ o.current
 current_copied o None copied none lends same = same ∙ sym (none lends)
 current_copied o (Some s) copied none lends same = same ∙ sym lends.2
-
--- and so it is the state adopted
-pub state_copied : (o : Observes ServerState StreamNames) (lent : Option (Bor FastState)) (copied : Option FastState) (x : FastState)
-    → MatchOption lent (o.past.number ≡ 0) (λ s. (0 < o.past.number) × (s.now ≡ o.past.state) × (o.current ≡ Some s.now)) → copied ≡ option_copied lent → copied ≡ Some x → x ≡ o.past.state
-state_copied o None copied x lends same is = cc
-state_copied o (Some s) copied x lends same is = some_same x s.now (sym is ∙ same) ∙ lends.1
-
--- before the first state there is none
-pub none_current : (m : MixerState) → IsInOrder m → m.observer.past.number ≡ 0 → m.observer.current ≡ None
-none_current m k none = sym (k.observer.told.current no_state) ∙ ap (state_of (adopted_states m)) none
-
-pub goes_on : (m : MixerState) → m.exited ≡ false → (length m.log.entries ≡ m.cycles → ⊥) → is_over m ≡ false
-goes_on m runs apart = ap (λ (x : Bool × Bool). x.0 || x.1) (λ i. (runs i, ne_eqb (length m.log.entries) m.cycles apart i))
-
-pub is_full : (m : MixerState) → m.exited ≡ false → length m.log.entries ≡ m.cycles → is_over m ≡ true
-is_full m runs full = ap (λ (x : Bool × Bool). x.0 || x.1) (λ i. (runs i, eq-eqb (length m.log.entries) m.cycles full i))

@@ -16,7 +16,7 @@ use Rattle.af_stateq.specs.Observes.{Observes, InOrder}
 use Rattle.af_stateq.specs.Shelved.{no_state}
 use Rattle.af_link.specs.declared.names.StreamNames.{StreamNames}
 use Rattle.af_fast.specs.Fits.{stream_fits}
-use Rattle.af_fast.specs.Mixer.{MixerState, UsesStates, KeepsEntries, CarriesNone, IsInOrder, adopted_states, is_over}
+use Rattle.af_fast.specs.Mixer.{MixerState, UsesStates, KeepsEntries, CarriesNone, IsInOrderAfter, adopted_states, all_entries, is_over}
 
 -- a look that found nothing new
 polled-same : (y : FastState) (es : List (ObserverEvent ServerState)) (k : ℕ) → polled_states y (es ++ SawNext k None [] ∷ []) ≡ polled_states y es
@@ -39,63 +39,69 @@ polled-new y (observer.Learn c ∷ es) k n x came back = polled-new y es k n x c
 pub with_turn : {n : ℕ} {es : List CycleEntry} {turn over : Bool} (turn' : Bool) → (turn' ≡ false → n ≡ last_used es) → UsesStates n es turn over → UsesStates n es turn' over
 with_turn turn' still k = record { used = k.used; low = k.low; high = k.high; still = still; ended = k.ended; few = k.few }
 
--- a mixer whose observer has the same states
-same_states : (m : MixerState) (o : Observes ServerState StreamNames) → IsInOrder m → InOrder stream_fits o → o.past.number ≡ m.observer.past.number → o.past.state ≡ m.observer.past.state
-    → polled_states no_state o.past.events ≡ adopted_states m → IsInOrder (record m { observer = o; adopted = true })
-same_states m o k order number state states = record {
-  observer = order;
-  begins = subst (λ (x : ℕ × FastState). x.0 ≡ 0 → CarriesNone x.1) (λ i. (sym number i, sym state i)) k.begins;
-  room = k.room;
-  uses = with_turn true (λ no. absurd (true≢false no)) (subst (λ n. UsesStates n m.log.entries m.adopted (is_over m)) (sym number) k.uses);
-  keeps = subst (λ (xs : List FastState). KeepsEntries xs m.log.entries m.exited m.cold m.last) (sym states) k.keeps;
-  reports = k.reports;
-}
+module _ (earlier : List CycleEntry) where
+  abbrev all : MixerState → List CycleEntry
+  all = all_entries earlier
 
--- a mixer whose observer has one state more
-next_state : (m : MixerState) (o : Observes ServerState StreamNames) (x : FastState) → IsInOrder m → is_over m ≡ false → m.adopted ≡ false → InOrder stream_fits o → o.past.number ≡ m.observer.past.number + 1
-    → polled_states no_state o.past.events ≡ adopted_states m ++ x ∷ [] → IsInOrder (record m { observer = o; adopted = true })
-next_state m o x k goes turn order number states =
-    let xs : List FastState = adopted_states m in
-    let u = k.uses in
-    let still = u.still turn in
-    let long : length xs ≡ last_used m.log.entries = k.observer.told.counted no_state ∙ still in
-    record {
-      observer = order;
-      begins = (λ none. absurd (omega (arith, number, none)));
-      room = k.room;
-      uses = record {
-        used = u.used;
-        low = omega (arith, still, number);
-        high = omega (arith, still, number);
-        still = (λ no. absurd (true≢false no));
-        ended = (λ yes'. absurd (true≢false (sym yes' ∙ goes)));
-        few = u.few;
-      };
-      keeps = record {
-        exited_is = k.keeps.exited_is;
-        cold_is = k.keeps.cold_is ∙ sym (cold_done-before xs x m.log.entries (UseUpTo-more (last_used m.log.entries) (length xs) m.log.entries (omega (arith, long)) u.used)) ∙ ap (λ (ys : List FastState). cold_done ys m.log.entries) (sym states);
-        last_is = k.keeps.last_is ∙ sym (state_of-before xs x (last_used m.log.entries) (omega (arith, long))) ∙ ap (λ (ys : List FastState). state_of ys (last_used m.log.entries)) (sym states);
-      };
-      reports = k.reports;
-    }
+  -- a mixer whose observer has the same states
+  same_states : (m : MixerState) (o : Observes ServerState StreamNames) → IsInOrderAfter earlier m → InOrder stream_fits o → o.past.number ≡ m.observer.past.number → o.past.state ≡ m.observer.past.state
+      → polled_states no_state o.past.events ≡ adopted_states m → IsInOrderAfter earlier (record m { observer = o; adopted = true })
+  same_states m o k order number state states = record {
+    observer = order;
+    begins = subst (λ (x : ℕ × FastState). x.0 ≡ 0 → CarriesNone x.1) (λ i. (sym number i, sym state i)) k.begins;
+    room = k.room;
+    uses = with_turn true (λ no. absurd (true≢false no)) (subst (λ n. UsesStates n (all m) m.adopted (is_over m)) (sym number) k.uses);
+    keeps = subst (λ (xs : List FastState). KeepsEntries xs (all m) m.exited m.cold m.last) (sym states) k.keeps;
+    reports = k.reports;
+    forgotten = k.forgotten;
+  }
 
--- whatever the poll found
-pub polled_order : (m : MixerState) (o : Observes ServerState StreamNames) (poll : Poll) (s s' : ℕ) → IsInOrder m → is_over m ≡ false → m.adopted ≡ false → InOrder stream_fits o → WasPolled m.observer poll o s s'
-    → IsInOrder (record m { observer = o; adopted = true })
-polled_order m o Nothing s s' k goes turn order (none, is, stepped) =
-    same_states m o k order (ap (λ (y : Observes ServerState StreamNames). y.past.number) is) (ap (λ (y : Observes ServerState StreamNames). y.past.state) is)
-    (ap (λ (y : Observes ServerState StreamNames). polled_states no_state y.past.events) is ∙ polled-same no_state m.observer.past.events m.observer.past.number)
-polled_order m o Same s s' k goes turn order (some, is, stepped) =
-    same_states m o k order (ap (λ (y : Observes ServerState StreamNames). y.past.number) is) (ap (λ (y : Observes ServerState StreamNames). y.past.state) is)
-    (ap (λ (y : Observes ServerState StreamNames). polled_states no_state y.past.events) is ∙ polled-same no_state m.observer.past.events m.observer.past.number)
-polled_order m o (New number) s s' k goes turn order (next, (x, took), stepped) =
-    next_state m o x k goes turn order (ap (λ (y : Observes ServerState StreamNames). y.past.number) took.2)
-    (ap (λ (y : Observes ServerState StreamNames). polled_states no_state y.past.events) took.2 ∙ polled-new no_state m.observer.past.events (m.observer.past.number + 1) (m.observer.past.number + 1) x took.0 took.1)
+  -- a mixer whose observer has one state more
+  next_state : (m : MixerState) (o : Observes ServerState StreamNames) (x : FastState) → IsInOrderAfter earlier m → is_over m ≡ false → m.adopted ≡ false → InOrder stream_fits o → o.past.number ≡ m.observer.past.number + 1
+      → polled_states no_state o.past.events ≡ adopted_states m ++ x ∷ [] → IsInOrderAfter earlier (record m { observer = o; adopted = true })
+  next_state m o x k goes turn order number states =
+      let xs : List FastState = adopted_states m in
+      let u = k.uses in
+      let still = u.still turn in
+      let long : length xs ≡ last_used (all m) = k.observer.told.counted no_state ∙ still in
+      record {
+        observer = order;
+        begins = (λ none. absurd (omega (arith, number, none)));
+        room = k.room;
+        uses = record {
+          used = u.used;
+          low = omega (arith, still, number);
+          high = omega (arith, still, number);
+          still = (λ no. absurd (true≢false no));
+          ended = (λ yes'. absurd (true≢false (sym yes' ∙ goes)));
+          few = u.few;
+        };
+        keeps = record {
+          exited_is = k.keeps.exited_is;
+          cold_is = k.keeps.cold_is ∙ sym (cold_done-before xs x (all m) (UseUpTo-more (last_used (all m)) (length xs) (all m) (omega (arith, long)) u.used)) ∙ ap (λ (ys : List FastState). cold_done ys (all m)) (sym states);
+          last_is = k.keeps.last_is ∙ sym (state_of-before xs x (last_used (all m)) (omega (arith, long))) ∙ ap (λ (ys : List FastState). state_of ys (last_used (all m))) (sym states);
+        };
+        reports = k.reports;
+        forgotten = k.forgotten;
+      }
 
--- it is over, and nothing is polled
-pub over_order : (m : MixerState) → IsInOrder m → IsInOrder (record m { adopted = true })
-over_order m k = same_states m m.observer k k.observer refl refl refl
+  -- whatever the poll found
+  pub polled_order : (m : MixerState) (o : Observes ServerState StreamNames) (poll : Poll) (s s' : ℕ) → IsInOrderAfter earlier m → is_over m ≡ false → m.adopted ≡ false → InOrder stream_fits o → WasPolled m.observer poll o s s'
+      → IsInOrderAfter earlier (record m { observer = o; adopted = true })
+  polled_order m o Nothing s s' k goes turn order (none, is, stepped) =
+      same_states m o k order (ap (λ (y : Observes ServerState StreamNames). y.past.number) is) (ap (λ (y : Observes ServerState StreamNames). y.past.state) is)
+      (ap (λ (y : Observes ServerState StreamNames). polled_states no_state y.past.events) is ∙ polled-same no_state m.observer.past.events m.observer.past.number)
+  polled_order m o Same s s' k goes turn order (some, is, stepped) =
+      same_states m o k order (ap (λ (y : Observes ServerState StreamNames). y.past.number) is) (ap (λ (y : Observes ServerState StreamNames). y.past.state) is)
+      (ap (λ (y : Observes ServerState StreamNames). polled_states no_state y.past.events) is ∙ polled-same no_state m.observer.past.events m.observer.past.number)
+  polled_order m o (New number) s s' k goes turn order (next, (x, took), stepped) =
+      next_state m o x k goes turn order (ap (λ (y : Observes ServerState StreamNames). y.past.number) took.2)
+      (ap (λ (y : Observes ServerState StreamNames). polled_states no_state y.past.events) took.2 ∙ polled-new no_state m.observer.past.events (m.observer.past.number + 1) (m.observer.past.number + 1) x took.0 took.1)
 
--- it is over, and nothing is mixed
-pub rest_order : (m : MixerState) → IsInOrder m → is_over m ≡ true → IsInOrder (record m { adopted = false })
-rest_order m k over = record { observer = k.observer; begins = k.begins; room = k.room; uses = with_turn false (λ _. k.uses.ended over) k.uses; keeps = k.keeps; reports = k.reports }
+  -- it is over, and nothing is polled
+  pub over_order : (m : MixerState) → IsInOrderAfter earlier m → IsInOrderAfter earlier (record m { adopted = true })
+  over_order m k = same_states m m.observer k k.observer refl refl refl
+
+  -- it is over, and nothing is mixed
+  pub rest_order : (m : MixerState) → IsInOrderAfter earlier m → is_over m ≡ true → IsInOrderAfter earlier (record m { adopted = false })
+  rest_order m k over = record { observer = k.observer; begins = k.begins; room = k.room; uses = with_turn false (λ _. k.uses.ended over) k.uses; keeps = k.keeps; reports = k.reports; forgotten = k.forgotten }

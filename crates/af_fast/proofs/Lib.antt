@@ -7,5 +7,6 @@ mod Parts
 mod Adopted
 mod Noted
 mod Added
+mod Forgotten
 pub mod LogForms
 pub mod Meeting

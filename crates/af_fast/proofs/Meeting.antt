@@ -1,5 +1,6 @@
 -- A mixer whose ends met those of the other side, or one of whose proxies met its client, is in order.
 use Rattle.std.proofs.Common.{◌≡◌, ℕ, suc, List, [], ◌∷◌, ◌++◌, length, Option, Some, None, refl, sym, ap, subst, ◌∙◌}
+use Rattle.af_base.specs.declared.log.CycleEntry.{CycleEntry}
 use Rattle.af_base.specs.declared.report.Report.{Report}
 use Rattle.af_base.specs.declared.report.SlotReport.{SlotReport}
 use Rattle.af_base.specs.declared.state.FastState.{FastState}
@@ -18,7 +19,7 @@ use Rattle.af_stateq.specs.Shelved.{no_state}
 use Rattle.af_stateq.proofs.Told.{order_learns}
 use Rattle.af_fast.specs.Fits.{stream_fits}
 use Rattle.af_fast.specs.Meets.{Others, mixer_met}
-use Rattle.af_fast.specs.Mixer.{MixerState, KeepsEntries, Reported, IsInOrder}
+use Rattle.af_fast.specs.Mixer.{MixerState, KeepsEntries, Reported, IsInOrderAfter, all_entries}
 
 -- what a writer learns stores nothing
 last_of-learn : (x : Report) (ws : List (WriterEvent Report)) (k : ℕ) → last_of x (ws ++ writes.Learn k ∷ []) ≡ last_of x ws
@@ -45,18 +46,19 @@ polled-learn y (Ack n items ∷ es) k = ap (λ (l : List FastState). y ∷ l) (p
 polled-learn y (observes.Learn c ∷ es) k = polled-learn y es k
 
 -- all ends met
-pub met_order : (m : MixerState) (o : Others) → IsInOrder m → IsInOrder (mixer_met m o)
-met_order m o k =
+pub met_order : {earlier : List CycleEntry} (m : MixerState) (o : Others) → IsInOrderAfter earlier m → IsInOrderAfter earlier (mixer_met m o)
+met_order {earlier} m o k =
     let count : ℕ = length o.mutator.past.events in
     record {
       observer = order_learns stream_fits m.observer (mixer_met m o).observer count k.observer refl;
       begins = k.begins;
       room = k.room;
       uses = k.uses;
-      keeps = subst (λ (xs : List FastState). KeepsEntries xs m.log.entries m.exited m.cold m.last) (sym (polled-learn no_state m.observer.past.events count)) k.keeps;
-      reports = reported_met (length m.log.entries) (length o.reader.events) m.writer.events m.reports k.reports;
+      keeps = subst (λ (xs : List FastState). KeepsEntries xs (all_entries earlier m) m.exited m.cold m.last) (sym (polled-learn no_state m.observer.past.events count)) k.keeps;
+      reports = reported_met (length (all_entries earlier m)) (length o.reader.events) m.writer.events m.reports k.reports;
+      forgotten = k.forgotten;
     }
 
 -- the items that the observer holds changed
-pub items_order : (m : MixerState) (items : List (Option ServerState)) → IsInOrder m → InOrder stream_fits (record m.observer { items = items }) → IsInOrder (record m { observer = record m.observer { items = items } })
-items_order m items k order = record { observer = order; begins = k.begins; room = k.room; uses = k.uses; keeps = k.keeps; reports = k.reports }
+pub items_order : {earlier : List CycleEntry} (m : MixerState) (items : List (Option ServerState)) → IsInOrderAfter earlier m → InOrder stream_fits (record m.observer { items = items }) → IsInOrderAfter earlier (record m { observer = record m.observer { items = items } })
+items_order m items k order = record { observer = order; begins = k.begins; room = k.room; uses = k.uses; keeps = k.keeps; reports = k.reports; forgotten = k.forgotten }

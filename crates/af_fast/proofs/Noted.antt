@@ -1,5 +1,5 @@
 -- A mixer with one entry more is in order, and the entry is a legal one.
-use Rattle.std.proofs.Common.{◌≡◌, ℕ, suc, ◌+◌, ◌-◌, ◌*◌, ◌<◌, ◌≤◌, ◌||◌, Bool, true, false, if◌then◌else◌, List, [], ◌∷◌, ◌++◌, length, replicate, Option, Some, None, refl, sym, ap, subst, ◌∙◌, arith}
+use Rattle.std.proofs.Common.{◌≡◌, ℕ, suc, ◌+◌, ◌-◌, ◌*◌, ◌<◌, ◌≤◌, ◌||◌, Bool, true, false, if◌then◌else◌, List, [], ◌∷◌, ◌++◌, length, replicate, Option, Some, None, refl, sym, ap, subst, ◌∙◌, append_assoc, arith}
 use Rattle.std.proofs.lemmas.List.{length-append, get_or-replicate}
 use Rattle.std.proofs.Math.Nat.{suc-mul}
 use Rattle.af_base.specs.declared.log.CycleEntry.{CycleEntry}
@@ -23,7 +23,7 @@ use Rattle.af_stateq.specs.Shelved.{no_state}
 use Rattle.af_link.specs.declared.names.StreamNames.{StreamNames}
 use Rattle.af_fast.specs.Fits.{stream_fits}
 use Rattle.af_fast.specs.Known.{known}
-use Rattle.af_fast.specs.Mixer.{MixerState, UsesStates, Reported, CarriesNone, IsInOrder, adopted_states, is_over}
+use Rattle.af_fast.specs.Mixer.{MixerState, UsesStates, KeepsEntries, Reported, CarriesNone, IsInOrderAfter, adopted_states, is_over}
 use Rattle.af_fast.specs.Mixing.{StoresReport, notes}
 
 last_of-push : (x : Report) (ws : List (WriterEvent Report)) (r : Report) → last_of x (ws ++ Store r ∷ []) ≡ r
@@ -71,10 +71,14 @@ pub record IsPlayed (m n : MixerState) : Type 0 where
   pub entries : (n.log.entries ≡ m.log.entries) × (n.log.room ≡ m.log.room) × (m.log.frame_room ≤ n.log.frame_room)
   pub few : length n.log.frames ≤ length m.log.frames + slots * m.frames
 
-module _ (m n l : MixerState) (entry : CycleEntry) (k : IsInOrder m) (open_log : length m.log.entries < m.cycles) (runs : m.exited ≡ false) (played : IsPlayed m n)
+module _ (earlier : List CycleEntry) (m n l : MixerState) (entry : CycleEntry) (k : IsInOrderAfter earlier m) (open_log : length m.log.entries < m.cycles) (runs : m.exited ≡ false) (played : IsPlayed m n)
     (state : entry.state ≡ m.observer.past.number) (noted : l ≡ notes m.observer.current entry l.writer l.reports n) (r : StoresReport m.observer.current entry n l) where
   abbrev es : List CycleEntry
   es = m.log.entries
+
+  -- all entries of its life
+  abbrev all : List CycleEntry
+  all = earlier ++ es
 
   abbrev xs : List FastState
   xs = adopted_states m
@@ -90,6 +94,7 @@ module _ (m n l : MixerState) (entry : CycleEntry) (k : IsInOrder m) (open_log :
     exited = is_exit entry.cycle;
     cold = if is_cold entry.cycle then cold_of m.observer.current else m.cold;
     last = m.observer.current;
+    count = m.count + 1;
     reports = l.reports;
   }
 
@@ -102,14 +107,21 @@ module _ (m n l : MixerState) (entry : CycleEntry) (k : IsInOrder m) (open_log :
   states_are : adopted_states now ≡ xs
   states_are = ap (λ y. polled_states no_state y.past.events) played.observer
 
-  used_is : last_used (es ++ entry ∷ []) ≡ m.observer.past.number
-  used_is = last_used-push es entry ∙ state
+  used_is : last_used (all ++ entry ∷ []) ≡ m.observer.past.number
+  used_is = last_used-push all entry ∙ state
 
-  current_is : state_of xs (last_used (es ++ entry ∷ [])) ≡ m.observer.current
+  current_is : state_of xs (last_used (all ++ entry ∷ [])) ≡ m.observer.current
   current_is = ap (state_of xs) used_is ∙ k.observer.told.current no_state
 
   one_longer : length (es ++ entry ∷ []) ≡ length es + 1
   one_longer = length-append es (entry ∷ [])
+
+  all_longer : length (all ++ entry ∷ []) ≡ length all + 1
+  all_longer = length-append all (entry ∷ [])
+
+  -- all entries of its life, with this one
+  one_more : all ++ entry ∷ [] ≡ earlier ++ (es ++ entry ∷ [])
+  one_more = append_assoc earlier es (entry ∷ [])
 
   less_to_come : (m.cycles - length es) * m.frames ≡ (m.cycles - (length es + 1)) * m.frames + m.frames
   less_to_come = ap (λ a. a * m.frames) (let e : m.cycles - length es ≡ suc (m.cycles - (length es + 1)) = omega arith in e) ∙ suc-mul (m.cycles - (length es + 1)) m.frames
@@ -117,36 +129,54 @@ module _ (m n l : MixerState) (entry : CycleEntry) (k : IsInOrder m) (open_log :
   frames_are : n.frames ≡ m.frames
   frames_are = ap (λ (y : MixerState). y.frames) played.same
 
-  uses_now : UsesStates n.observer.past.number (es ++ entry ∷ []) false (is_over now)
+  count_is : n.count ≡ length all
+  count_is = ap (λ (y : MixerState). y.count) played.same ∙ k.forgotten.counted
+
+  uses_now : UsesStates n.observer.past.number (all ++ entry ∷ []) false (is_over now)
   uses_now = record {
-    used = subst (λ a. UseUpTo a (es ++ entry ∷ [])) (sym used_is)
-        (UseUpTo-push m.observer.past.number es entry (UseUpTo-more (last_used es) m.observer.past.number es k.uses.low k.uses.used) (omega (arith, state)));
+    used = subst (λ a. UseUpTo a (all ++ entry ∷ [])) (sym used_is)
+        (UseUpTo-push m.observer.past.number all entry (UseUpTo-more (last_used all) m.observer.past.number all k.uses.low k.uses.used) (omega (arith, state)));
     low = omega (arith, used_is, number_is);
     high = omega (arith, used_is, number_is);
     still = (λ _. number_is ∙ sym used_is);
     ended = (λ _. number_is ∙ sym used_is);
-    few = omega (arith, used_is, one_longer, k.uses.high, k.uses.few);
+    few = omega (arith, used_is, all_longer, k.uses.high, k.uses.few);
   }
 
-  reported_now : Reported (length (es ++ entry ∷ [])) l.writer.events l.reports
+  keeps_now : KeepsEntries (adopted_states now) (all ++ entry ∷ []) now.exited now.cold now.last
+  keeps_now = record {
+    exited_is = sym (has_exit-push all entry ∙ ap (λ b. b || is_exit entry.cycle) (sym k.keeps.exited_is ∙ runs));
+    cold_is = sym (ap (λ (y : List FastState). cold_done y (all ++ entry ∷ [])) states_are ∙ cold_done-push xs all entry
+        ∙ ap (λ (y : Option FastState × ℕ). if is_cold entry.cycle then cold_of y.0 else y.1) (λ i. ((ap (state_of xs) state ∙ k.observer.told.current no_state) i, sym k.keeps.cold_is i)));
+    last_is = sym (ap (λ (y : List FastState). state_of y (last_used (all ++ entry ∷ []))) states_are ∙ current_is);
+  }
+
+  reported_now : Reported (length (all ++ entry ∷ [])) l.writer.events l.reports
   reported_now =
       let before : n.writer.events ≡ m.writer.events = ap (λ (y : MixerState). y.writer.events) played.same in
       let stored : l.writer.events ≡ m.writer.events ++ Store r.report ∷ [] = r.stored ∙ ap (λ (ws : List (WriterEvent Report)). ws ++ Store r.report ∷ []) before in
       let last : last_of no_report l.writer.events ≡ r.report = ap (last_of no_report) stored ∙ last_of-push no_report m.writer.events r.report in
       record {
-        many = ap stores stored ∙ stores-push m.writer.events r.report ∙ ap (λ c. c + 1) k.reports.many ∙ sym one_longer;
-        number = ap (λ (y : Report). y.cycle) last ∙ r.number ∙ ap (λ (e : List CycleEntry). length e + 1) played.entries.0 ∙ sym one_longer;
+        many = ap stores stored ∙ stores-push m.writer.events r.report ∙ ap (λ c. c + 1) k.reports.many ∙ sym all_longer;
+        number = ap (λ (y : Report). y.cycle) last ∙ r.number ∙ ap (λ c. c + 1) count_is ∙ sym all_longer;
         slots_are = ap (λ (y : Report). y.slots) last ∙ r.slots_are;
         whole = r.whole;
         few = (λ i lt.
             let before = k.reports.few i lt in
             let reports_same = ap (λ (y : MixerState). report_at y.reports i) played.same in
-            let bound : length es + 1 + 1 ≡ length (es ++ entry ∷ []) + 1 = omega (arith, one_longer) in
+            let bound : length all + 1 + 1 ≡ length (all ++ entry ∷ []) + 1 = omega (arith, all_longer) in
             subst (λ (y : ℕ × SlotReport). IsFew y.0 y.1) (λ j. (bound j, sym (r.each i lt) j))
-            (slot_few n.frames (length es + 1) m.observer.current n.last entry (known n.observer i) i (report_at n.reports i) (omega arith) (subst (IsFew (length es + 1)) (sym reports_same) before)));
+            (slot_few n.frames (length all + 1) m.observer.current n.last entry (known n.observer i) i (report_at n.reports i) (omega arith) (subst (IsFew (length all + 1)) (sym reports_same) before)));
       }
 
-  now_in_order : IsInOrder now
+  -- what is said of all entries
+  abbrev SaidOf : List CycleEntry → Type 0
+  SaidOf a = UsesStates n.observer.past.number a false (is_over now) × KeepsEntries (adopted_states now) a now.exited now.cold now.last × Reported (length a) l.writer.events l.reports × (m.count + 1 ≡ length a)
+
+  said_now : SaidOf (earlier ++ (es ++ entry ∷ []))
+  said_now = subst SaidOf one_more (uses_now, keeps_now, reported_now, ap (λ c. c + 1) k.forgotten.counted ∙ sym all_longer)
+
+  now_in_order : IsInOrderAfter earlier now
   now_in_order = record {
     observer = played.order;
     begins = subst (λ (o : Observes ServerState StreamNames). o.past.number ≡ 0 → CarriesNone o.past.state) (sym played.observer) k.begins;
@@ -155,18 +185,14 @@ module _ (m n l : MixerState) (entry : CycleEntry) (k : IsInOrder m) (open_log :
       entries = (omega (arith, one_longer), played.entries.1 ∙ k.room.entries.1);
       rest = (let longer = ap (λ a. (m.cycles - a) * m.frames) one_longer in omega (arith, k.room.rest, less_to_come, longer, played.few, played.entries.2));
     };
-    uses = uses_now;
-    keeps = record {
-      exited_is = sym (has_exit-push es entry ∙ ap (λ b. b || is_exit entry.cycle) (sym k.keeps.exited_is ∙ runs));
-      cold_is = sym (ap (λ (y : List FastState). cold_done y (es ++ entry ∷ [])) states_are ∙ cold_done-push xs es entry
-          ∙ ap (λ (y : Option FastState × ℕ). if is_cold entry.cycle then cold_of y.0 else y.1) (λ i. ((ap (state_of xs) state ∙ k.observer.told.current no_state) i, sym k.keeps.cold_is i)));
-      last_is = sym (ap (λ (y : List FastState). state_of y (last_used (es ++ entry ∷ []))) states_are ∙ current_is);
-    };
-    reports = reported_now;
+    uses = said_now.0;
+    keeps = said_now.1;
+    reports = said_now.2;
+    forgotten = record { counted = said_now.3; most = k.forgotten.most; room = omega (arith, k.forgotten.room, played.entries.2) };
   }
 
-  pub noted_order : IsInOrder l
-  noted_order = subst IsInOrder (sym is_now) now_in_order
+  pub noted_order : IsInOrderAfter earlier l
+  noted_order = subst (IsInOrderAfter earlier) (sym is_now) now_in_order
 
 -- before the first entry nothing was reported
 none_few : (i : ℕ) → i < slots → IsFew 1 (report_at (replicate slots no_slot) i)

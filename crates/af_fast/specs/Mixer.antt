@@ -1,5 +1,5 @@
 -- What contracts see of a fast mixer, and when it is in order.
-use Rattle.std.specs.Prelude.{◌≡◌, ℕ, ◌+◌, ◌-◌, ◌*◌, ◌^◌, ◌≤◌, ◌<◌, ◌==◌, ◌||◌, Bool, true, false, List, [], length, replicate, Option, None}
+use Rattle.std.specs.Prelude.{◌≡◌, ℕ, ◌+◌, ◌-◌, ◌*◌, ◌^◌, ◌≤◌, ◌<◌, ◌==◌, ◌||◌, Bool, true, false, List, [], ◌++◌, length, replicate, Option, None}
 use Rattle.af_base.specs.declared.log.CycleEntry.{CycleEntry}
 use Rattle.af_base.specs.declared.report.Report.{Report}
 use Rattle.af_base.specs.declared.report.SlotReport.{SlotReport}
@@ -21,7 +21,7 @@ use Rattle.af_link.specs.declared.links.Links.{Links}
 use Rattle.af_link.specs.declared.names.StreamNames.{StreamNames}
 use Rattle.af_fast.specs.Fits.{stream_fits}
 
--- the observer, the ends of the report and of the pipe, the log, the frames of a cycle, the entries of the whole log, whether a state was adopted that no mix has used yet, whether Exit was answered, the cold generation performed last, the state that the last entry used, and the last report of each slot
+-- the observer, the ends of the report and of the pipe, the log, the frames of a cycle, for how many entries the log has room, whether a state was adopted that no mix has used yet, whether Exit was answered, the cold generation performed last, the state that the last entry used, how many entries were added in all, and the last report of each slot
 pub record MixerState : Type 0 where
   pub observer : Observes ServerState StreamNames
   pub writer : WriterSide
@@ -33,11 +33,24 @@ pub record MixerState : Type 0 where
   pub exited : Bool
   pub cold : ℕ
   pub last : Option FastState
+  pub count : ℕ
   pub reports : List SlotReport
 
 -- the states adopted so far
 abbrev pub adopted_states : MixerState → List FastState
 adopted_states m = polled_states no_state m.observer.past.events
+
+-- the entries of its life: those that it forgot, and then those of its log
+abbrev pub all_entries : List CycleEntry → MixerState → List CycleEntry
+all_entries earlier m = earlier ++ m.log.entries
+
+-- the most entries of a life, since a report counts looks in 32 bits
+abbrev pub most_entries : ℕ
+most_entries = 4294967295
+
+-- the same mixer with an empty log, which has the same room
+abbrev pub emptied : MixerState → MixerState
+emptied m = record m { log = record m.log { entries = []; frames = [] } }
 
 -- Exit was answered, or the log is full
 abbrev pub is_over : MixerState → Bool
@@ -80,14 +93,34 @@ pub record Reported (entries : ℕ) (events : List (WriterEvent Report)) (report
 abbrev pub CarriesNone : FastState → Type 0
 CarriesNone x = (i : ℕ) → i < slots → carries x i ≡ false
 
--- the kept values are those that the lists of its parts give, and each item that the observer holds fits the track of its slot
-pub record IsInOrder (m : MixerState) : Type 0 where
+-- these entries were forgotten: all entries are counted, a whole log can be counted behind those, and has room for its frames
+pub record HasForgotten (earlier : List CycleEntry) (count frames cycles : ℕ) (log : Logged) : Type 0 where
+  pub counted : count ≡ length (earlier ++ log.entries)
+  pub most : length earlier + cycles ≤ most_entries
+  pub room : slots * (cycles * frames) ≤ log.frame_room
+
+-- The kept values are those that the lists of its parts give, where it has forgotten these entries, and each item that the observer holds fits the track of its slot
+pub record IsInOrderAfter (earlier : List CycleEntry) (m : MixerState) : Type 0 where
   pub observer : InOrder stream_fits m.observer
   pub begins : m.observer.past.number ≡ 0 → CarriesNone m.observer.past.state
   pub room : LogHasRoom m.frames m.cycles m.log
-  pub uses : UsesStates m.observer.past.number m.log.entries m.adopted (is_over m)
-  pub keeps : KeepsEntries (adopted_states m) m.log.entries m.exited m.cold m.last
-  pub reports : Reported (length m.log.entries) m.writer.events m.reports
+  pub uses : UsesStates m.observer.past.number (all_entries earlier m) m.adopted (is_over m)
+  pub keeps : KeepsEntries (adopted_states m) (all_entries earlier m) m.exited m.cold m.last
+  pub reports : Reported (length (all_entries earlier m)) m.writer.events m.reports
+  pub forgotten : HasForgotten earlier m.count m.frames m.cycles m.log
+
+-- the same where it has forgotten nothing
+abbrev pub IsInOrder : MixerState → Type 0
+IsInOrder m = IsInOrderAfter [] m
+
+-- the same whatever it has forgotten
+pub record IsSound (m : MixerState) : Type 0 where
+  pub earlier : List CycleEntry
+  pub order : IsInOrderAfter earlier m
+
+-- it stays in order, and forgets nothing more
+abbrev pub StaysInOrder : MixerState → MixerState → Type 0
+StaysInOrder m m' = (earlier : List CycleEntry) → IsInOrderAfter earlier m → IsInOrderAfter earlier m'
 
 -- its ends were made together with these links
 abbrev pub IsLinked : Links → MixerState → Type 0
@@ -112,5 +145,6 @@ made_of observer writer pipe cycles frames = record {
   exited = false;
   cold = 0;
   last = None;
+  count = 0;
   reports = replicate slots no_slot;
 }

@@ -19,7 +19,7 @@ use Rattle.af_stateq.specs.Answers.{WasPolled}
 use Rattle.af_stateq.specs.Mutates.{at}
 use Rattle.af_link.specs.Reports.{WriterSide}
 use Rattle.af_fast.specs.Known.{known}
-use Rattle.af_fast.specs.Mixer.{MixerState, adopted_states, is_over}
+use Rattle.af_fast.specs.Mixer.{MixerState, adopted_states, all_entries, is_over}
 use Rattle.af_fast.specs.Slots.{SlotPlayed, found}
 
 -- a state is polled for, unless it is over
@@ -37,23 +37,31 @@ pub record Takes (m m' : MixerState) (entry : CycleEntry) : Type 0 where
   pub piped : is_mixed entry.cycle ≡ true → m'.pipe.pass.part.frames ≡ m.pipe.pass.part.frames ++ map packed_word (frames_taken m'.log.frames (entry_slot entry 0))
   pub tracks : is_mixed entry.cycle ≡ true → (x : FastState) → m.observer.current ≡ Some x → (i : ℕ) → i < slots → carries x i ≡ true → SlotPlayed m.frames (at m.observer.items i) (at m'.observer.items i) m'.log.frames (entry_slot entry i)
 
--- One entry is added, with the number of the adopted state. It is legal, the ends took what it shows, and the report after it is stored
-pub record AddsCycle (m m' : MixerState) (entry : CycleEntry) : Type 0 where
+-- One entry is added, with the number of the adopted state. It is legal after all entries of the mixer's life, of which these were forgotten, the ends took what it shows, and the report after it is stored
+pub record AddsCycleAfter (earlier : List CycleEntry) (m m' : MixerState) (entry : CycleEntry) : Type 0 where
   pub state : entry.state ≡ m.observer.past.number
-  pub legal : LegalCycle m.frames (adopted_states m) m.log.entries (length m.log.frames) (found m.observer m.pipe) (found m'.observer m'.pipe) entry
+  pub legal : LegalCycle m.frames (adopted_states m) (all_entries earlier m) (length m.log.frames) (found m.observer m.pipe) (found m'.observer m'.pipe) entry
   pub entries : m'.log.entries ≡ m.log.entries ++ entry ∷ []
   pub takes : Takes m m' entry
-  pub report : (report : Report) × (m'.writer.events ≡ m.writer.events ++ Store report ∷ []) × IsNextReport m.frames (adopted_states m) m.log.entries entry (known m'.observer) m.reports report
+  pub report : (report : Report) × (m'.writer.events ≡ m.writer.events ++ Store report ∷ []) × IsNextReport m.frames (adopted_states m) (all_entries earlier m) entry (known m'.observer) m.reports report
+
+-- the same where nothing was forgotten
+abbrev pub AddsCycle : MixerState → MixerState → CycleEntry → Type 0
+AddsCycle m m' entry = AddsCycleAfter [] m m' entry
 
 -- what a mixed entry writes: its mix; else the buffer is as it was
 abbrev pub Writes : MixerState → CycleEntry → List Frame → List Frame → Type 0
 Writes m entry out out' = (is_mixed entry.cycle ≡ true → out' ≡ mix (takes_of m.log.frames entry) (length out)) × (is_mixed entry.cycle ≡ false → out' ≡ out)
 
 -- An Exit that was answered is answered again, and then the end of the log. Else the answer is what the added entry is
-pub record MixesOnce (m : MixerState) (out : List Frame) (answer : Cycle) (m' : MixerState) (out' : List Frame) : Type 0 where
+pub record MixesOnceAfter (earlier : List CycleEntry) (m : MixerState) (out : List Frame) (answer : Cycle) (m' : MixerState) (out' : List Frame) : Type 0 where
   pub exited : m.exited ≡ true → (answer ≡ cycle.Exit) × (m' ≡ record m { adopted = false }) × (out' ≡ out)
   pub spent : m.exited ≡ false → length m.log.entries ≡ m.cycles → (answer ≡ cycle.Spent m.cycles) × (m' ≡ record m { adopted = false }) × (out' ≡ out)
-  pub adds : is_over m ≡ false → (entry : CycleEntry) × (answer ≡ entry.cycle) × AddsCycle m m' entry × Writes m' entry out out'
+  pub adds : is_over m ≡ false → (entry : CycleEntry) × (answer ≡ entry.cycle) × AddsCycleAfter earlier m m' entry × Writes m' entry out out'
+
+-- the same where nothing was forgotten
+abbrev pub MixesOnce : MixerState → List Frame → Cycle → MixerState → List Frame → Type 0
+MixesOnce m out answer m' out' = MixesOnceAfter [] m out answer m' out'
 
 -- a mixer with one entry more, under a state
 abbrev pub notes : Option FastState → CycleEntry → WriterSide → List SlotReport → MixerState → MixerState
@@ -63,6 +71,7 @@ notes state entry writer reports m = record m {
   exited = is_exit entry.cycle;
   cold = if is_cold entry.cycle then cold_of state else m.cold;
   last = state;
+  count = m.count + 1;
   reports = reports;
 }
 
@@ -70,7 +79,7 @@ notes state entry writer reports m = record m {
 pub record StoresReport (state : Option FastState) (entry : CycleEntry) (m m' : MixerState) : Type 0 where
   pub report : Report
   pub stored : m'.writer.events ≡ m.writer.events ++ Store report ∷ []
-  pub number : report.cycle ≡ length m.log.entries + 1
+  pub number : report.cycle ≡ m.count + 1
   pub slots_are : report.slots ≡ m'.reports
   pub whole : length m'.reports ≡ slots
   pub each : (i : ℕ) → i < slots → report_at m'.reports i ≡ slot_report m.frames state m.last entry (known m.observer i) i (report_at m.reports i)

@@ -1,13 +1,14 @@
 //! One cycle: a poll, and then the mix.
-ghost use Rattle.std.specs.Prelude.{◌≡◌, ◌+◌, ◌*◌, ◌≤◌, true, false, length};
+ghost use Rattle.std.specs.Prelude.{◌≡◌, ◌+◌, ◌*◌, ◌≤◌, true, false, if◌then◌else◌, List, length};
+ghost use Rattle.af_base.specs.declared.log.Cycle.TheVariants as cycle;
+ghost use Rattle.af_base.specs.declared.log.CycleEntry.{CycleEntry};
 ghost use Rattle.af_base.specs.Log.{slots};
 ghost use Rattle.af_model.specs.Cycles.{cycle_of, is_mixed};
-ghost use Rattle.af_fast.specs.Mixer.{IsInOrder, IsLinked, MixerState, is_over};
-ghost use Rattle.af_fast.specs.Mixing.{Adopts, MixesOnce};
+ghost use Rattle.af_fast.specs.Mixer.{IsInOrderAfter, IsLinked, IsSound, MixerState, StaysInOrder, is_over};
+ghost use Rattle.af_fast.specs.Mixing.{AddsCycleAfter, Adopts, MixesOnceAfter, Writes};
 ghost use Rattle.af_fast.specs.Tracks.{tracks_of};
 
 use crate::mixer::FastMixer;
-use crate::slots::still_entry;
 use af_base::{Command, Cycle, FastState, Frame, Steps};
 use af_link::Links;
 use std::sync::ledger::Ledger;
@@ -43,15 +44,27 @@ impl FastMixer {
         self.exited || self.log.len() == self.cycles
     }
 
+    // What a mixer that is over answers.
+    fn over_answer(&self) -> Cycle
+        ensures { result ≡ (if self.now.exited then cycle.Exit else cycle.Spent self.now.cycles) }
+    {
+        if self.exited {
+            return Cycle::Exit;
+        }
+        Cycle::Spent {
+            cycles: self.cycles,
+        }
+    }
+
     /// Polls once, and adopts a new state with its items. It does nothing where Exit was answered or the log is full. At most two steps.
     ///
     /// It comes first, and then after each mix.
     pub fn adopt<L: Ledger>(&mut self, links: &Links<'_>, steps: &mut Steps<L>)
         requires linked { IsLinked links.now self.old }
-        requires order { IsInOrder self.old }
+        requires order { IsSound self.old }
         requires turn { self.old.adopted ≡ false }
         ensures linked { IsLinked links.now self.new }
-        ensures order { IsInOrder self.new }
+        ensures order { StaysInOrder self.old self.new }
         ensures adopts { Adopts self.old self.new }
         ensures steps { steps.new ≤ steps.old + 2 }
     {
@@ -61,6 +74,36 @@ impl FastMixer {
             return;
         }
         self.observer.poll(links.queue, steps);
+    }
+
+    // Adds the entry of the state adopted, by what the cycle is.
+    fn add_cycle<L: Ledger>(
+        &mut self,
+        links: &Links<'_>,
+        out: &mut [Frame],
+        steps: &mut Steps<L>,
+    ) -> Cycle
+        requires linked { IsLinked links.now self.old }
+        requires order { IsSound self.old }
+        requires goes { is_over self.old ≡ false }
+        requires out { length out.old ≡ self.old.frames }
+        ensures linked { IsLinked links.now self.new }
+        ensures order { StaysInOrder self.old self.new }
+        ensures turn { self.new.adopted ≡ false }
+        ensures sizes { (self.new.frames ≡ self.old.frames) × (self.new.cycles ≡ self.old.cycles) }
+        ensures adds { (earlier : List CycleEntry) → IsInOrderAfter earlier self.old → (entry : CycleEntry) × (result ≡ entry.cycle) × AddsCycleAfter earlier self.old self.new entry × Writes self.new entry out.old out.new }
+        ensures length { length out.new ≡ length out.old }
+        ensures steps { let tracks = tracks_of self.old.observer.past.state in steps.new ≤ steps.old + (tracks + 1) * self.old.frames + 7 * tracks + 4 }
+        ensures state { self.new.observer.past ≡ self.old.observer.past }
+    {
+        let state = self.observer.current().copied();
+        let kind = cycle_of(self.cold, &state);
+        if is_mixed(kind) {
+            self.add_mix(links, &state, out, steps);
+            return kind;
+        }
+        self.add_still(links, &state, kind, steps);
+        kind
     }
 
     /// The rest of the cycle, with the state adopted: Exit where it was answered before, else Spent where the log is full, and both leave all as it was. Else one entry is added to the log, and the report after it is stored.
@@ -73,38 +116,23 @@ impl FastMixer {
         steps: &mut Steps<L>,
     ) -> Cycle
         requires linked { IsLinked links.now self.old }
-        requires order { IsInOrder self.old }
+        requires order { IsSound self.old }
         requires turn { self.old.adopted ≡ true }
         requires out { length out.old ≡ self.old.frames }
         ensures linked { IsLinked links.now self.new }
-        ensures order { IsInOrder self.new }
+        ensures order { StaysInOrder self.old self.new }
         ensures turn { self.new.adopted ≡ false }
         ensures sizes { (self.new.frames ≡ self.old.frames) × (self.new.cycles ≡ self.old.cycles) }
-        ensures mixes { MixesOnce self.old out.old result self.new out.new }
+        ensures mixes { (earlier : List CycleEntry) → IsInOrderAfter earlier self.old → MixesOnceAfter earlier self.old out.old result self.new out.new }
         ensures length { length out.new ≡ length out.old }
         ensures steps { let tracks = tracks_of self.old.observer.past.state in steps.new ≤ steps.old + (tracks + 1) * self.old.frames + 7 * tracks + 4 }
         ensures state { self.new.observer.past ≡ self.old.observer.past }
     {
-        self.adopted = false;
-        if self.exited {
-            return Cycle::Exit;
+        if self.is_over() {
+            self.adopted = false;
+            return self.over_answer();
         }
-        if self.log.len() == self.cycles {
-            return Cycle::Spent {
-                cycles: self.cycles,
-            };
-        }
-        let state = self.observer.current().copied();
-        let cycle = cycle_of(self.cold, &state);
-        let mut entry = still_entry(self.observer.number(), cycle);
-        if !is_mixed(cycle) {
-            self.note(links, &state, &entry, steps);
-            return cycle;
-        }
-        let Some(pushed) = &state else { unreachable!() };
-        self.mix_slots(links, pushed, &mut entry, out, steps);
-        self.note(links, &state, &entry, steps);
-        cycle
+        self.add_cycle(links, out, steps)
     }
 
     /// One cycle: `adopt`, and then `mix`.
@@ -117,14 +145,14 @@ impl FastMixer {
         steps: &mut Steps<L>,
     ) -> Cycle
         requires linked { IsLinked links.now self.old }
-        requires order { IsInOrder self.old }
+        requires order { IsSound self.old }
         requires turn { self.old.adopted ≡ false }
         requires out { length out.old ≡ self.old.frames }
         ensures linked { IsLinked links.now self.new }
-        ensures order { IsInOrder self.new }
+        ensures order { StaysInOrder self.old self.new }
         ensures turn { self.new.adopted ≡ false }
         ensures sizes { (self.new.frames ≡ self.old.frames) × (self.new.cycles ≡ self.old.cycles) }
-        ensures cycle { (middle : MixerState) × Adopts self.old middle × MixesOnce middle out.old result self.new out.new }
+        ensures cycle { (middle : MixerState) × Adopts self.old middle × ((earlier : List CycleEntry) → IsInOrderAfter earlier self.old → MixesOnceAfter earlier middle out.old result self.new out.new) }
         ensures length { length out.new ≡ length out.old }
         ensures steps { let tracks = tracks_of self.new.observer.past.state in steps.new ≤ steps.old + (tracks + 1) * self.old.frames + 7 * tracks + 6 }
         ensures seven { tracks_of self.new.observer.past.state ≤ 7 → steps.new ≤ steps.old + 8 * self.old.frames + 65 }

@@ -1,23 +1,24 @@
 //! How the entry of a cycle is made and noted.
-ghost use Rattle.std.specs.Prelude.{◌≡◌, ℕ, ◌+◌, ◌*◌, ◌<◌, ◌≤◌, ◌^◌, ◌++◌, ◌∷◌, [], Some, if◌then◌else◌, length};
+ghost use Rattle.std.specs.Prelude.{◌≡◌, ℕ, ◌+◌, ◌*◌, ◌<◌, ◌≤◌, ◌^◌, ◌++◌, ◌∷◌, [], Some, false, if◌then◌else◌, List, length};
 ghost use Rattle.af_base.specs.Log.{slots, takes_of};
 ghost use Rattle.af_base.specs.Mix.{mix};
 ghost use Rattle.af_base.specs.declared.log.Cycle.TheVariants as cycle;
-ghost use Rattle.af_model.specs.Cycles.{is_cold, is_exit, cold_of, still_entry};
+ghost use Rattle.af_base.specs.declared.log.CycleEntry.{CycleEntry};
+ghost use Rattle.af_model.specs.Cycles.{is_cold, is_exit, is_mixed, cold_of, cycle_of, still_entry};
 ghost use Rattle.af_base.specs.declared.state.FastState.{FastState};
 ghost use Rattle.af_stateq.specs.Observes.{InOrder};
 ghost use Rattle.af_link.specs.PipeEnds.{out_made};
 ghost use Rattle.af_link.specs.Reports.{last_cycle};
 ghost use Rattle.af_fast.specs.Fits.{stream_fits, NamesBlocks};
-ghost use Rattle.af_fast.specs.Mixer.{AreFew};
-ghost use Rattle.af_fast.specs.Mixing.{StoresReport, notes};
+ghost use Rattle.af_fast.specs.Mixer.{AreFew, IsInOrderAfter, IsLinked, IsSound, StaysInOrder, is_over, most_entries};
+ghost use Rattle.af_fast.specs.Mixing.{AddsCycleAfter, StoresReport, Writes, notes};
 ghost use Rattle.af_fast.specs.Slots.{PlaysSlots, SameEntries};
 ghost use Rattle.af_fast.specs.Tracks.{tracks_of};
 
 use crate::heard::mix_heard;
 use crate::mixer::FastMixer;
 use crate::report::report_all;
-use crate::slots::play_slots;
+use crate::slots::{play_slots, still_entry};
 use af_base::{Cycle, CycleEntry, FastState, Frame, Steps};
 use af_link::Links;
 use std::sync::ledger::Ledger;
@@ -84,8 +85,8 @@ impl FastMixer {
         requires order { InOrder stream_fits self.old.observer }
         requires cell { self.old.writer.cell ≡ links.now.report.now }
         requires room { length self.old.log.entries < self.old.log.room }
-        requires later { last_cycle self.old.writer.events ≡ length self.old.log.entries }
-        requires few { AreFew (2 ^ 31) self.old.reports }
+        requires later { last_cycle self.old.writer.events ≡ self.old.count }
+        requires few { (self.old.count < most_entries) × AreFew most_entries self.old.reports }
         ensures notes { self.new ≡ notes state.now entry.now self.new.writer self.new.reports self.old }
         ensures reports { StoresReport state.now entry.now self.old self.new }
         ensures cell { self.new.writer.cell ≡ self.old.writer.cell }
@@ -103,7 +104,64 @@ impl FastMixer {
         self.last = *state;
         self.exited = entry.cycle == Cycle::Exit;
         self.cold = cold_after(self.cold, entry.cycle, state);
-        self.report.cycle = self.log.len() as u64;
+        self.report.cycle += 1;
         self.ends.0.store(links.report, &self.report, steps);
+    }
+
+    /// Adds an entry that mixes nothing.
+    pub(crate) fn add_still<L: Ledger>(
+        &mut self,
+        links: &Links<'_>,
+        state: &Option<FastState>,
+        kind: Cycle,
+        steps: &mut Steps<L>,
+    )
+        requires linked { IsLinked links.now self.old }
+        requires order { IsSound self.old }
+        requires goes { is_over self.old ≡ false }
+        requires state { state.now ≡ self.old.observer.current }
+        requires kind { kind ≡ cycle_of self.old.cold state.now }
+        requires still { is_mixed kind ≡ false }
+        ensures linked { IsLinked links.now self.new }
+        ensures order { StaysInOrder self.old self.new }
+        ensures turn { self.new.adopted ≡ false }
+        ensures sizes { (self.new.frames ≡ self.old.frames) × (self.new.cycles ≡ self.old.cycles) }
+        ensures adds { (earlier : List CycleEntry) → IsInOrderAfter earlier self.old → (entry : CycleEntry) × (kind ≡ entry.cycle) × AddsCycleAfter earlier self.old self.new entry }
+        ensures steps { steps.new ≡ steps.old + 1 }
+        ensures state { self.new.observer.past ≡ self.old.observer.past }
+    {
+        self.adopted = false;
+        let entry = still_entry(self.observer.number(), kind);
+        self.note(links, state, &entry, steps);
+    }
+
+    /// Adds the entry of a mix, and writes the mix.
+    pub(crate) fn add_mix<L: Ledger>(
+        &mut self,
+        links: &Links<'_>,
+        state: &Option<FastState>,
+        out: &mut [Frame],
+        steps: &mut Steps<L>,
+    )
+        requires linked { IsLinked links.now self.old }
+        requires order { IsSound self.old }
+        requires goes { is_over self.old ≡ false }
+        requires state { state.now ≡ self.old.observer.current }
+        requires mixed { cycle.Mixed ≡ cycle_of self.old.cold state.now }
+        requires out { length out.old ≡ self.old.frames }
+        ensures linked { IsLinked links.now self.new }
+        ensures order { StaysInOrder self.old self.new }
+        ensures turn { self.new.adopted ≡ false }
+        ensures sizes { (self.new.frames ≡ self.old.frames) × (self.new.cycles ≡ self.old.cycles) }
+        ensures adds { (earlier : List CycleEntry) → IsInOrderAfter earlier self.old → (entry : CycleEntry) × (cycle.Mixed ≡ entry.cycle) × AddsCycleAfter earlier self.old self.new entry × Writes self.new entry out.old out.new }
+        ensures length { length out.new ≡ length out.old }
+        ensures steps { let tracks = tracks_of self.old.observer.past.state in steps.new ≤ steps.old + (tracks + 1) * self.old.frames + 7 * tracks + 4 }
+        ensures state { self.new.observer.past ≡ self.old.observer.past }
+    {
+        self.adopted = false;
+        let Some(pushed) = state else { unreachable!() };
+        let mut entry = still_entry(self.observer.number(), Cycle::Mixed);
+        self.mix_slots(links, pushed, &mut entry, out, steps);
+        self.note(links, state, &entry, steps);
     }
 }

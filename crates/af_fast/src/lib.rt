@@ -3,6 +3,7 @@
 
 mod cycle;
 mod entry;
+mod forgetting;
 mod heard;
 mod held;
 mod meetings;

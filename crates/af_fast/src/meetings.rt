@@ -4,7 +4,7 @@ ghost use Rattle.af_base.specs.Log.{slots};
 ghost use Rattle.af_model.specs.StateQueue.{slot_of, carries, has};
 ghost use Rattle.af_server.specs.Order.{ServerState};
 ghost use Rattle.af_stateq.specs.Mutates.{at};
-ghost use Rattle.af_fast.specs.Mixer.{IsInOrder, IsLinked};
+ghost use Rattle.af_fast.specs.Mixer.{IsLinked, IsSound, StaysInOrder};
 ghost use Rattle.af_fast.specs.Meets.{AreOthers, AreOfBlockOf, HaveHistories, MeetsHeld, mixer_met, others_met};
 
 use crate::held::meet_item;
@@ -30,9 +30,9 @@ impl FastMixer {
         from: &mut PipeIn,
         steps: &mut Steps<L>,
     )
-        requires order { IsInOrder self.old × IsLinked links.now self.old }
+        requires order { IsSound self.old × IsLinked links.now self.old }
         requires others { AreOthers links.now (record { mutator = mutator.old; reader = reader.old; pipe = from.old }) }
-        ensures order { IsInOrder self.new × IsLinked links.now self.new }
+        ensures order { StaysInOrder self.old self.new × IsLinked links.now self.new }
         ensures mixer { self.new ≡ mixer_met self.old (record { mutator = mutator.old; reader = reader.old; pipe = from.old }) }
         ensures others { let met = others_met self.old (record { mutator = mutator.old; reader = reader.old; pipe = from.old }) in (mutator.new ≡ met.mutator) × (reader.new ≡ met.reader) × (from.new ≡ met.pipe) }
         ensures histories { HaveHistories self.new (record { mutator = mutator.new; reader = reader.new; pipe = from.new }) }
@@ -48,7 +48,7 @@ impl FastMixer {
     // The track of a slot, where the current state carries one for it.
     fn track_of(&self, slot: u32) -> Option<u32>
         requires slot { slot < slots }
-        requires order { IsInOrder self.now }
+        requires order { IsSound self.now }
         ensures { MatchOption result (carries self.now.observer.past.state slot ≡ false) (λ track. (carries self.now.observer.past.state slot ≡ true) × (track ≡ (slot_of self.now.observer.past.state slot).track)) }
     {
         let state = self.observer.current().copied()?;
@@ -68,9 +68,9 @@ impl FastMixer {
         steps: &mut Steps<L>,
     ) -> bool
         requires slot { slot < slots }
-        requires order { IsInOrder self.old × IsLinked links.now self.old }
+        requires order { IsSound self.old × IsLinked links.now self.old }
         requires block { (s : ServerState) → at self.old.observer.items slot ≡ Some s → AreOfBlockOf s client.old hand.old }
-        ensures order { IsInOrder self.new × IsLinked links.now self.new }
+        ensures order { StaysInOrder self.old self.new × IsLinked links.now self.new }
         ensures same { self.new ≡ (record self.old { observer = self.new.observer }) }
         ensures held { result ≡ has self.old.observer.items slot }
         ensures met { (s : ServerState) → at self.old.observer.items slot ≡ Some s → MeetsHeld slot s self.old.observer client.old hand.old self.new.observer client.new hand.new × (steps.new ≡ steps.old + 9) }

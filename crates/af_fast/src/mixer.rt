@@ -24,7 +24,7 @@ pub struct FastMixer {
     // The ends of the report and of the pipe.
     pub(crate) ends: (ReportWriter, PipeOut),
     pub(crate) log: FastLog,
-    // The frames of a cycle, and the entries of the whole log.
+    // The frames of a cycle, and for how many entries the log has room.
     pub(crate) frames: usize,
     pub(crate) cycles: usize,
     // Whether a state was adopted that no mix has used yet.
@@ -46,7 +46,7 @@ impl Model for FastMixer {
 
     ghost Value = { MixerState };
 
-    ghost view = { λ m. record { observer = m.observer; writer = m.ends.0; pipe = m.ends.1; log = m.log; frames = m.frames; cycles = m.cycles; adopted = m.adopted; exited = m.exited; cold = m.cold; last = m.last; reports = m.report.slots } };
+    ghost view = { λ m. record { observer = m.observer; writer = m.ends.0; pipe = m.ends.1; log = m.log; frames = m.frames; cycles = m.cycles; adopted = m.adopted; exited = m.exited; cold = m.cold; last = m.last; count = m.report.cycle; reports = m.report.slots } };
 
     ghost invariant = { λ m. (length m.sums.items ≡ m.frames) × (length m.buffer.items ≡ m.frames) };
 }

@@ -1,5 +1,5 @@
 //! What is reported of the slots after an entry.
-ghost use Rattle.std.specs.Prelude.{◌≡◌, ℕ, ◌<◌, ◌^◌, true, Some, length, slice_set};
+ghost use Rattle.std.specs.Prelude.{◌≡◌, ℕ, ◌<◌, true, Some, length, slice_set};
 ghost use Rattle.af_base.specs.Log.{slots};
 ghost use Rattle.af_model.specs.Reports.{no_slot, report_at, carried, counted_look, is_full, is_partial, is_empty, slot_report};
 ghost use Rattle.af_base.specs.declared.state.FastState.{FastState};
@@ -7,6 +7,7 @@ ghost use Rattle.af_model.specs.StateQueue.{carries};
 ghost use Rattle.af_stateq.specs.Observes.{InOrder};
 ghost use Rattle.af_fast.specs.Fits.{stream_fits};
 ghost use Rattle.af_fast.specs.Known.{known, known_of};
+ghost use Rattle.af_fast.specs.Mixer.{AreFew, most_entries};
 
 use af_base::{CycleEntry, FastState, SLOTS, Seen, SlotReport};
 use af_link::{StreamNames, no_slot};
@@ -72,7 +73,7 @@ fn counted_look(
     known: KnownNow,
     before: SlotReport,
 ) -> SlotReport
-    requires few { (before.fulls < 2 ^ 31) × (before.partials < 2 ^ 31) × (before.empties < 2 ^ 31) }
+    requires few { (before.fulls < most_entries) × (before.partials < most_entries) × (before.empties < most_entries) }
     ensures { result ≡ counted_look asked generation seen (known_of known) before }
 {
     SlotReport {
@@ -110,7 +111,7 @@ fn report_slot(
     requires slot { slot < slots }
     requires state { state.now ≡ observer.old.past.state }
     requires order { InOrder stream_fits observer.old }
-    requires few { let before = report_at reports.old slot in (before.fulls < 2 ^ 31) × (before.partials < 2 ^ 31) × (before.empties < 2 ^ 31) }
+    requires few { let before = report_at reports.old slot in (before.fulls < most_entries) × (before.partials < most_entries) × (before.empties < most_entries) }
     ensures same { observer.new ≡ observer.old }
     ensures reports { reports.new ≡ slice_set reports.old slot (slot_report asked (Some state.now) last.now entry.now (known observer.old slot) slot (report_at reports.old slot)) }
 {
@@ -139,7 +140,7 @@ pub(crate) fn report_all(
 )
     requires state { (x : FastState) → state.now ≡ Some x → x ≡ observer.old.past.state }
     requires order { InOrder stream_fits observer.old }
-    requires few { (i : ℕ) → i < slots → ((report_at reports.old i).fulls < 2 ^ 31) × ((report_at reports.old i).partials < 2 ^ 31) × ((report_at reports.old i).empties < 2 ^ 31) }
+    requires few { AreFew most_entries reports.old }
     ensures same { observer.new ≡ observer.old }
     ensures whole { length reports.new ≡ slots }
     ensures each { (i : ℕ) → i < slots → report_at reports.new i ≡ slot_report asked state.now last.now entry.now (known observer.old i) i (report_at reports.old i) }

@@ -4,6 +4,8 @@
 #[cfg(test)]
 mod call_tests;
 #[cfg(test)]
+mod forget_tests;
+#[cfg(test)]
 mod meeting_tests;
 #[cfg(test)]
 mod plain_tests;

@@ -7,6 +7,7 @@ use Rattle.af_stateq.specs.Observes.{Observes}
 use Rattle.af_link.specs.declared.names.StreamNames.{StreamNames}
 use Rattle.af_model.specs.Reports.{no_slot, report_at, slot_report}
 use Rattle.af_fast.specs.Known.{known}
+use Rattle.af_fast.specs.Mixer.{most_entries}
 use Rattle.af_fast.proofs.report.report_all.Goals as goal
 
 pub loop-slot-preserved : goal.loop-slot-preserved
@@ -34,4 +35,4 @@ loop-slot-preserved c =
 
 pub report_slot-requires-clause-few : goal.report_slot-requires-clause-few
 report_slot-requires-clause-few c =
-    subst (λ (r : SlotReport). (r.fulls < 2147483648) × (r.partials < 2147483648) × (r.empties < 2147483648)) (sym (c.loop-slot.invariant.behind c.loop-slot.slot (omega arith))) (c.requires.few c.loop-slot.slot (omega arith))
+    subst (λ (r : SlotReport). (r.fulls < most_entries) × (r.partials < most_entries) × (r.empties < most_entries)) (sym (c.loop-slot.invariant.behind c.loop-slot.slot (omega arith))) (c.requires.few c.loop-slot.slot (omega arith))

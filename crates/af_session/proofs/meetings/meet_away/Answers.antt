@@ -1,7 +1,7 @@
-use Rattle.std.proofs.Common.{◌≡◌, slice_index_or, Some, sym, ap, subst, ◌∙◌}
+use Rattle.std.proofs.Common.{◌≡◌, [], slice_index_or, Some, sym, ap, subst, ◌∙◌}
 use Rattle.af_cblk.specs.Sides.{HandSide, client_made, hand_made}
 use Rattle.af_fast.specs.Meets.{AreOfBlockOf}
-use Rattle.af_fast.specs.Mixer.{MixerState, IsInOrder as IsFastInOrder, IsLinked}
+use Rattle.af_fast.specs.Mixer.{MixerState, IsInOrder as IsFastInOrder, IsLinked, IsSound}
 use Rattle.af_server.specs.Order.{ServerState}
 use Rattle.af_stateq.specs.Mutates.{at}
 use Rattle.af_session.proofs.MetAway.{block_at, held_there, none_there, of_block}
@@ -25,7 +25,7 @@ meet_flag-requires g c =
     record { made = (made, ap hand_made c.flag.ensures.value ∙ c.requires.hand ∙ made) }
 
 pub meet_held-requires-clause-order : goal.meet_held-requires-clause-order
-meet_held-requires-clause-order g c = subst (λ (y : MixerState). IsFastInOrder y × IsLinked c.args.links.now y) (sym c.in-Some.ensures.same) c.requires.fast
+meet_held-requires-clause-order g c = subst (λ (y : MixerState). IsSound y × IsLinked c.args.links.now y) (sym c.in-Some.ensures.same) (record { earlier = []; order = c.requires.fast.0 }, c.requires.fast.1)
 
 pub returns-in_default : goal.returns-in_default
 returns-in_default g c =
@@ -38,4 +38,5 @@ pub returns : goal.returns
 returns g c =
     let there = held_there c.args.links.now c.args.fast.now c.slot_held.new.fast c.meet_held.new.self c.args.track c.in-Some.slot c.args.stream.now c.meet_held.new.client c.args.hand.now c.flag-2.result.now c.meet_held.new.hand c.in-Some.ensures.same c.flag-2.ensures.value
     c.requires.fast c.requires.stream c.requires.hand (sym c.in-Some.ensures.slot) c.meet_held.ensures.same (λ s is. (c.meet_held.ensures.met s is).0) in
-    record { fast = c.meet_held.ensures.order; stream = there.stream; hand = there.hand; same = there.same; met = there.met; others = there.others }
+    let order = c.meet_held.ensures.order in
+    record { fast = (order.0 [] (subst IsFastInOrder (sym c.in-Some.ensures.same) c.requires.fast.0), order.1); stream = there.stream; hand = there.hand; same = there.same; met = there.met; others = there.others }

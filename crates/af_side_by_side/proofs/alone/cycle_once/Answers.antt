@@ -1,4 +1,4 @@
-use Rattle.std.proofs.Common.{length, refl, sym, subst, ◌∙◌}
+use Rattle.std.proofs.Common.{[], length, refl, sym, subst, ◌∙◌}
 use Rattle.af_base.specs.Log.{Logged}
 use Rattle.af_session.specs.Shown.{HasPlaces}
 use Rattle.af_tally.specs.Sound.{IsWhole}
@@ -7,6 +7,12 @@ use Rattle.af_tally.specs.Tallies.{IsTally}
 use Rattle.af_session.proofs.FastAdds.{mix_adds, polled_keeps}
 use Rattle.af_session.proofs.Following.{shown_adopted}
 use Rattle.af_side_by_side.proofs.alone.cycle_once.Goals as goal
+
+pub adopt-requires-clause-order : goal.adopt-requires-clause-order
+adopt-requires-clause-order g c = record { earlier = []; order = c.requires.can.order }
+
+pub mix_noted-cycle-requires-clause-order : goal.mix_noted-cycle-requires-clause-order
+mix_noted-cycle-requires-clause-order g c = c.adopt.ensures.order [] c.requires.can.order
 
 pub returns-clause-can : goal.returns-clause-can
 returns-clause-can g c =
@@ -24,7 +30,7 @@ returns-clause-cycle g c =
     record {
       polled = adopt.new.self;
       adopts = adopt.ensures.adopts;
-      polled_in = (adopt.ensures.order, adopt.ensures.linked);
+      polled_in = (adopt.ensures.order [] c.requires.can.order, adopt.ensures.linked);
       before = c.args.buffer.now;
       after = mixed.new.buffer;
       long = c.requires.buffer;

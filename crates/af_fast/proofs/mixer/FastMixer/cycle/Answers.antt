@@ -8,6 +8,12 @@ use Rattle.af_fast.specs.Tracks.{tracks_of}
 use Rattle.af_fast.proofs.Counted.{seven_so, most_so}
 use Rattle.af_fast.proofs.mixer.FastMixer.cycle.Goals as goal
 
+pub returns-clause-order : goal.returns-clause-order
+returns-clause-order g c = λ earlier k. c.mix.ensures.order earlier (c.adopt.ensures.order earlier k)
+
+pub returns-clause-cycle : goal.returns-clause-cycle
+returns-clause-cycle g c = (c.adopt.new.self, c.adopt.ensures.adopts, (λ earlier k. c.mix.ensures.mixes earlier (c.adopt.ensures.order earlier k)))
+
 pub returns-clause-steps : goal.returns-clause-steps
 returns-clause-steps g c =
     let frames = ap (λ (y : MixerState). y.frames) c.adopt.ensures.adopts.same in

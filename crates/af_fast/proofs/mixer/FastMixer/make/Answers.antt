@@ -1,4 +1,4 @@
-use Rattle.std.proofs.Common.{rules, length, refl, sym, ap, subst}
+use Rattle.std.proofs.Common.{rules, length, refl, sym, ap, subst, ◌∙◌, arith}
 use Rattle.af_base.specs.Log.{Logged}
 use Rattle.af_base.specs.declared.report.Report.{Report}
 use Rattle.af_model.specs.Reports.{no_slot}
@@ -15,4 +15,9 @@ returns-clause-order c = record {
   uses = search (rules);
   keeps = search (rules);
   reports = subst (λ (r : Report). Reported (length c.in_ok-reserved.reserved.log.entries) c.args.writer.events r.slots) (sym c.first_report.ensures) (nothing_reported (length c.in_ok-reserved.reserved.log.entries) c.args.writer.events no_slot (ap (λ (l : Logged). length l.entries) c.in_ok-reserved.ensures.log) c.requires.unused.stored refl);
+  forgotten = record {
+    counted = ap (λ (r : Report). r.cycle) c.first_report.ensures ∙ sym (ap (λ (l : Logged). length l.entries) c.in_ok-reserved.ensures.log);
+    most = omega (arith, c.requires.cycles);
+    room = omega (arith, ap (λ (l : Logged). l.frame_room) c.in_ok-reserved.ensures.log);
+  };
 }

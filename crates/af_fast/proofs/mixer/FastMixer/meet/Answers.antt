@@ -8,7 +8,7 @@ use Rattle.af_link.specs.Reports.{WriterSide}
 use Rattle.af_link.specs.declared.names.StreamNames.{StreamNames}
 use Rattle.af_fast.specs.contracts.mixer.FastMixer.{the_view}
 use Rattle.af_fast.specs.Meets.{Others}
-use Rattle.af_fast.specs.Mixer.{MixerState, IsInOrder}
+use Rattle.af_fast.specs.Mixer.{MixerState, IsInOrderAfter}
 use Rattle.af_fast.proofs.Meeting.{met_order}
 use Rattle.af_fast.proofs.mixer.FastMixer.meet.Goals as goal
 
@@ -17,9 +17,10 @@ returns-clause-order g c =
     let m : MixerState = the_view c.self.inside in
     let o : Others = record { mutator = c.args.mutator.now; reader = c.args.reader.now; pipe = c.args.from.now } in
     let report = c.meet_report.ensures in (
-      subst (λ (x : Observes ServerState StreamNames × WriterSide × OutSide). IsInOrder (record m { observer = x.0; writer = x.1; pipe = x.2 }))
+      (λ earlier k.
+          subst (λ (x : Observes ServerState StreamNames × WriterSide × OutSide). IsInOrderAfter earlier (record m { observer = x.0; writer = x.1; pipe = x.2 }))
           (λ i. (sym c.meet.ensures.observer i, record { cell = sym report.together.0 i; events = sym report.writer i }, sym c.meet_pipe.ensures.to i))
-          (met_order m o (subst IsInOrder (sym c.self.view_is) c.requires.order.0)),
+          (met_order m o (subst (IsInOrderAfter earlier) (sym c.self.view_is) k))),
       search (rules),
     )
 

@@ -1,5 +1,4 @@
-use Rattle.std.proofs.Common.{rules, ◌+◌, ◌∷◌, [], length, refl, ap, ◌∙◌, length-append}
-use Rattle.af_base.specs.Log.{Logged}
+use Rattle.std.proofs.Common.{rules, ◌+◌, refl, ap, ◌∙◌}
 use Rattle.af_model.specs.Reports.{report_at, slot_report}
 use Rattle.af_fast.specs.Known.{known}
 use Rattle.af_fast.specs.Mixer.{MixerState}
@@ -7,9 +6,9 @@ use Rattle.af_fast.proofs.mixer.FastMixer.note.Goals as goal
 
 pub returns-clause-reports : goal.returns-clause-reports
 returns-clause-reports g c = record {
-  report = record { cycle = c.len.result; slots = c.report_all.new.reports };
+  report = record { cycle = c.self.inside.report.cycle + 1; slots = c.report_all.new.reports };
   stored = search (rules);
-  number = c.len.ensures ∙ ap (λ (l : Logged). length l.entries) c.push.ensures ∙ length-append c.self.inside.log.entries (c.args.entry.now ∷ []) ∙ ap (λ (y : MixerState). length y.log.entries + 1) c.self.view_is;
+  number = ap (λ (y : MixerState). y.count + 1) c.self.view_is;
   slots_are = refl;
   whole = c.report_all.ensures.whole;
   each = (λ i lt.
