@@ -6,7 +6,7 @@ use Rattle.af_script.specs.Form.{IsTrack}
 use Rattle.af_script.specs.declared.track.TrackSpec.{TrackSpec}
 use Rattle.af_session.specs.NewSession.{EndStates, IsNewSession}
 use Rattle.af_session.specs.NewTracks.{AreNewTracks}
-use Rattle.af_session.specs.Shares.{SharedState}
+use Rattle.af_engine.specs.Shares.{SharedState}
 use Rattle.af_session.proofs.Begins.{settings_are, scales_fit, are_new, together, new_session}
 use Rattle.af_session.proofs.making.make.Goals as goal
 
