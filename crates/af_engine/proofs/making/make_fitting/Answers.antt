@@ -1,4 +1,4 @@
-use Rattle.std.proofs.Common.{◌≡◌, List, length, sym, subst, arith}
+use Rattle.std.proofs.Common.{List, length, sym, subst, arith}
 use Rattle.af_cblk.specs.Sides.{Made}
 use Rattle.af_engine.specs.NewEnds.{EndStates}
 use Rattle.af_engine.specs.NewTracks.{AreNewTracks, IsNewTrack}

@@ -1,4 +1,4 @@
-use Rattle.std.proofs.Common.{◌≡◌, refl}
+use Rattle.std.proofs.Common.{refl}
 use Rattle.af_engine.proofs.MetSpot.{with_rest}
 use Rattle.af_engine.proofs.meetings.meet_client.Goals as goal
 
