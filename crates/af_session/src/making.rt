@@ -5,6 +5,7 @@ ghost use Rattle.af_engine.specs.declared.spec.MixerSpec.{MixerSpec};
 ghost use Rattle.af_engine.specs.Engines.{AreTogether as AreEndsTogether};
 ghost use Rattle.af_engine.specs.NewEngine.{IsNewEngine};
 ghost use Rattle.af_engine.specs.Shares.{AreLinksOf};
+ghost use Rattle.af_script.specs.Form.{IsScript};
 ghost use Rattle.af_session.specs.NewSession.{IsNewSession, IsSpecOf};
 ghost use Rattle.af_session.specs.Together.{AreTogether};
 
@@ -17,6 +18,7 @@ use std::alloc::Global;
 
 // The ends of the mixer that a script asks for. Memory is its only refusal.
 fn make_ends(alloc: Global, script: &Script) -> Result<(Shared, Engine), Memory>
+    ensures script { IsScript script.now }
     ensures new { IfOk result (λ r. (spec : MixerSpec) × IsSpecOf script.now spec × IsNewEngine spec r.0 r.1) }
     ensures together { (links : Links) → IfOk result (λ r. AreLinksOf r.0 links → AreEndsTogether links r.1) }
 {
