@@ -1,10 +1,9 @@
 -- A new session: its parties are new, in order, and belong together.
-use Rattle.std.proofs.Common.{◌≡◌, ℕ, ◌*◌, ◌^◌, ◌<◌, ◌≤◌, List, [], ◌∷◌, length, map, option_map, slice_get, Option, Some, None, refl, sym, ap, ◌∙◌, subst, arith}
+use Rattle.std.proofs.Common.{◌≡◌, ℕ, ◌*◌, ◌^◌, ◌≤◌, List, [], ◌∷◌, length, map, option_map, slice_get, Option, Some, None, refl, sym, ap, ◌∙◌, subst, arith}
 use Rattle.std.specs.Prelude.{All}
 use Rattle.std.proofs.lemmas.List.Elements.{All-map}
 use Rattle.std.proofs.lemmas.List.{length-map}
 use Rattle.std.proofs.lemmas.Option.{none-some, same_Some, slice_get-map, slice_get_within, get_or_from_slice_get}
-use Rattle.af_cblk.specs.Shape.{IsShape}
 use Rattle.af_cblk.specs.Sides.{Made}
 use Rattle.af_client.specs.Order.{ClientState}
 use Rattle.af_engine.specs.declared.ends.TrackEnds.{TrackEnds}
@@ -14,12 +13,12 @@ use Rattle.af_engine.specs.Engines.{EngineState, AreTogether as AreEndsTogether}
 use Rattle.af_engine.specs.MixerSpecs.{IsEngineTrack, IsMixerSpec, setting_of, setup_of}
 use Rattle.af_engine.specs.NewEnds.{AreNewEnds, ends_of}
 use Rattle.af_engine.specs.NewEngine.{IsNewEngine, tracks_of as tracks_in}
-use Rattle.af_engine.specs.NewTracks.{AreNewTracks as AreTracks, IsNewLine, IsNewTrack as IsNewOne}
+use Rattle.af_engine.specs.NewTracks.{IsNewLine, IsNewTrack as IsNewOne}
 use Rattle.af_engine.specs.Shares.{SharedState}
 use Rattle.af_engine.proofs.MoreTracks.{in_other_words}
 use Rattle.af_fast.specs.Mixer.{made_of}
 use Rattle.af_life.specs.declared.kept.Setting.{Setting}
-use Rattle.af_life.specs.Kept.{Setup, new_normal}
+use Rattle.af_life.specs.Kept.{new_normal}
 use Rattle.af_link.specs.declared.links.Links.{Links}
 use Rattle.af_model.specs.declared.shape.Shape.{Shape}
 use Rattle.af_normal.specs.Making.{IsMade, TrackList}

@@ -1,4 +1,4 @@
-use Rattle.std.proofs.Common.{◌≡◌, sym, subst}
+use Rattle.std.proofs.Common.{sym, subst}
 use Rattle.af_engine.specs.Engines.{EngineState, AreTogether as AreEndsTogether}
 use Rattle.af_engine.specs.NewEngine.{IsNewEngine}
 use Rattle.af_session.proofs.Begins.{all_together, new_session}
