@@ -26,7 +26,7 @@ use Rattle.af_server.specs.Order.{ServerState}
 use Rattle.af_rendering.proofs.Quiet.{IsQuiet, new_quiet}
 use Rattle.af_rendering.proofs.SparedEntries.{entries_first}
 use Rattle.af_session.specs.NewSession.{IsNewSession}
-use Rattle.af_session.specs.Shares.{SharedState}
+use Rattle.af_engine.specs.Shares.{SharedState}
 use Rattle.af_session.specs.Together.{SessionState}
 use Rattle.af_told_law.specs.Between.{StandsBetween}
 use Rattle.af_told_law.specs.MixLaws.{TookCounted}

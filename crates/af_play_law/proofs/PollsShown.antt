@@ -15,7 +15,7 @@ use Rattle.af_server.specs.Order.{ServerState}
 use Rattle.af_stateq.specs.Ends.{Pushes}
 use Rattle.af_stateq.specs.Observes.{Observes}
 use Rattle.af_rendering.specs.Leads.{Tells}
-use Rattle.af_session.specs.Met.{EndsMet}
+use Rattle.af_engine.specs.Met.{EndsMet}
 use Rattle.af_session.specs.Together.{SessionState}
 use Rattle.af_told_law.specs.Between.{StandsBetween}
 use Rattle.af_told_law.specs.Tells.{FindsLast}

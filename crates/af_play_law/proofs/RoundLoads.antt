@@ -17,7 +17,7 @@ use Rattle.af_normal.specs.State.{NormalState}
 use Rattle.af_judge.proofs.QueueSteps.{ones_met, twos_met}
 use Rattle.af_runs.specs.Runs.{Run, last_report, report_of}
 use Rattle.af_runs.specs.Told.{ReportTold, report_met}
-use Rattle.af_session.specs.Met.{EndsMet}
+use Rattle.af_engine.specs.Met.{EndsMet}
 use Rattle.af_session.specs.Together.{SessionState}
 use Rattle.af_told_law.specs.QueueTurned.{ReportMet}
 use Rattle.af_told_law.specs.Tells.{reports_stored}

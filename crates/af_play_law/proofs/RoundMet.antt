@@ -33,7 +33,7 @@ use Rattle.af_judge.proofs.BlocksMeet.{met_at, met_many}
 use Rattle.af_judge.proofs.EachTrack.{each_long, told_each}
 use Rattle.af_server.specs.Order.{ServerState}
 use Rattle.af_rendering.specs.Leads.{LeadAway}
-use Rattle.af_session.specs.Met.{item_at}
+use Rattle.af_engine.specs.Met.{item_at}
 use Rattle.af_session.specs.Rounds.{file_at, ops_at}
 use Rattle.af_session.specs.Rounds as parties
 use Rattle.af_session.specs.Together.{SessionState}

@@ -29,7 +29,7 @@ use Rattle.af_enough_law.specs.Seen.{frames_taken}
 use Rattle.af_enough_law.proofs.SeenBlocks.{frames_taken-append}
 use Rattle.af_enough_law.proofs.SeenShared.{taken_more, taken_same}
 use Rattle.af_one_turn_run.proofs.EntrySlots.{taken_rise}
-use Rattle.af_session.specs.Met.{EndsMet}
+use Rattle.af_engine.specs.Met.{EndsMet}
 use Rattle.af_session.specs.Together.{SessionState}
 use Rattle.af_told_law.proofs.TurnPipe.{front_told}
 use Rattle.af_told_law.specs.MixLaws.{TookCounted}

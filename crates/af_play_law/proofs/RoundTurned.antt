@@ -17,7 +17,7 @@ use Rattle.af_server.specs.Order.{ServerState}
 use Rattle.af_stateq.specs.Ends.{Polls, Pushes}
 use Rattle.af_stateq.specs.Laws.{is_push}
 use Rattle.af_rendering.specs.Leads.{HasLearnt, Tells}
-use Rattle.af_session.specs.Met.{EndsMet}
+use Rattle.af_engine.specs.Met.{EndsMet}
 use Rattle.af_session.specs.Together.{SessionState}
 use Rattle.af_rendering.proofs.QueueSeen.{SawUpTo, few_seen}
 use Rattle.af_told_law.specs.Between.{StandsBetween}

@@ -7,7 +7,7 @@ use Rattle.af_runs.specs.LegalRuns.{marks_of, session_of}
 use Rattle.af_script.specs.Data.{ScriptData}
 use Rattle.af_script.specs.Form.{IsScript}
 use Rattle.af_session.specs.NewSession.{IsNewSession}
-use Rattle.af_session.specs.Shares.{SharedState}
+use Rattle.af_engine.specs.Shares.{SharedState}
 use Rattle.af_session.specs.Together.{SessionState}
 use Rattle.af_play_law.specs.PlayRuns.{PlaysOn, all_over}
 

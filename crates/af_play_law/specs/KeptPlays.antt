@@ -6,7 +6,7 @@ use Rattle.af_runs.specs.LegalRuns.{marks_of, run_of, session_of}
 use Rattle.af_script.specs.Data.{ScriptData}
 use Rattle.af_session.specs.Ends.{ends_from}
 use Rattle.af_session.specs.NewSession.{IsNewSession}
-use Rattle.af_session.specs.Shares.{SharedState}
+use Rattle.af_engine.specs.Shares.{SharedState}
 use Rattle.af_session.specs.Together.{SessionState}
 use Rattle.af_told_law.specs.KeptEnds.{KeepsLists}
 use Rattle.af_play_law.specs.PlayLaws.{journal_with}

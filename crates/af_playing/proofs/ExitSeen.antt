@@ -35,7 +35,7 @@ use Rattle.af_stateq.specs.Observes.{AreTold, Observes}
 use Rattle.af_stateq.specs.Shelved.{no_state}
 use Rattle.af_stateq.proofs.Told.{told_learn, told_look, told_new}
 use Rattle.af_side_by_side.specs.Alone.{CyclesOn, CyclesOnce, FastTurned, most_cycles}
-use Rattle.af_session.specs.Met.{EndsMet}
+use Rattle.af_engine.specs.Met.{EndsMet}
 use Rattle.af_side_by_side.specs.SideBySide.{IsRoundOfAll, NormalPlayed, TurnPlayed}
 use Rattle.af_session.specs.Rounds.{Given}
 use Rattle.af_session.specs.Together.{SessionState}

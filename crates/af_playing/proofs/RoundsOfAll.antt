@@ -20,7 +20,7 @@ use Rattle.af_session.specs.Noted.{HasFrames, NotesFrames}
 use Rattle.af_party.specs.Parties.{PartyState}
 use Rattle.af_playing.specs.PlayedRuns.{IsRunOfAll, RunsOfAll}
 use Rattle.af_session.specs.Rounds.{Given, IsReady}
-use Rattle.af_session.specs.Shares.{SharedState}
+use Rattle.af_engine.specs.Shares.{SharedState}
 use Rattle.af_session.specs.Shown.{shown_at, shown_in}
 use Rattle.af_side_by_side.specs.SideBySide.{ClientPlayed, IsRoundOfAll, TurnPlayed, all_noted}
 use Rattle.af_tally.specs.Tallies.{IsTally, Tallied}

@@ -36,11 +36,11 @@ use Rattle.af_runs.specs.Told.{is_pushed}
 use Rattle.af_script.specs.Data.{ScriptData}
 use Rattle.af_server.specs.Order.{ServerState}
 use Rattle.af_stateq.specs.Laws.{pushed_states}
-use Rattle.af_session.specs.Met.{MeetsAway, Spot, SpotMet}
+use Rattle.af_engine.specs.Met.{MeetsAway, Spot, SpotMet}
 use Rattle.af_session.specs.NewSession.{IsNewSession, tracks_of}
 use Rattle.af_session.specs.NewTracks.{IsTrackAt}
 use Rattle.af_session.specs.Rounds.{Given, file_at, ops_at}
-use Rattle.af_session.specs.Shares.{SharedState}
+use Rattle.af_engine.specs.Shares.{SharedState}
 use Rattle.af_session.specs.Together.{SessionState}
 use Rattle.af_session.proofs.FollowingRounds.{ends_keep}
 use Rattle.af_rendering.proofs.MetOpen.{clients_ended, clients_met}

@@ -14,7 +14,7 @@ use Rattle.af_session.specs.NewSession.{IsNewSession}
 use Rattle.af_runs.specs.Sessions.{script_setup}
 use Rattle.af_playing.specs.PlayedRuns.{GoesOn, IsRunOfAll, Plays, RunsOfAll}
 use Rattle.af_session.specs.Rounds.{Given}
-use Rattle.af_session.specs.Shares.{SharedState}
+use Rattle.af_engine.specs.Shares.{SharedState}
 use Rattle.af_side_by_side.specs.SideBySide.{IsRoundOfAll}
 use Rattle.af_tally.specs.Sound.{pcm_of}
 use Rattle.af_session.specs.Together.{SessionState}

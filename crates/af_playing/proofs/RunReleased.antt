@@ -23,7 +23,7 @@ use Rattle.af_session.specs.NewSession.{IsNewSession, tracks_of}
 use Rattle.af_session.specs.NewTracks.{IsTrackAt}
 use Rattle.af_playing.specs.PlayedRuns.{HandsBackRun, IsRunOfAll}
 use Rattle.af_session.specs.Rounds.{Given}
-use Rattle.af_session.specs.Shares.{SharedState}
+use Rattle.af_engine.specs.Shares.{SharedState}
 use Rattle.af_session.specs.Shown.{released_by}
 use Rattle.af_side_by_side.specs.SideBySide.{IsRoundOfAll}
 use Rattle.af_playing.specs.Spelled.{ReleasedAsTold, Spells, calls_among, calls_told, frames_put}

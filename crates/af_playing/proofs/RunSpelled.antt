@@ -14,13 +14,14 @@ use Rattle.af_normal.specs.Meeting.{MeetsStream, client_knows}
 use Rattle.af_script.specs.Data.{ScriptData}
 use Rattle.af_server.specs.Order.{ServerState}
 use Rattle.af_session.specs.Ends.{EndsState}
-use Rattle.af_session.specs.Met.{MeetsAway, Spot, SpotMet, TrackMet}
+use Rattle.af_engine.specs.Met.{MeetsAway, Spot, SpotMet}
+use Rattle.af_session.specs.Met.{TrackMet}
 use Rattle.af_session.specs.NewSession.{IsNewSession, tracks_of}
 use Rattle.af_session.specs.NewTracks.{IsTrackAt}
 use Rattle.af_party.specs.Parties.{PartyState, track_of}
 use Rattle.af_playing.specs.PlayedRuns.{HandsBackRun, IsRunOfAll}
 use Rattle.af_session.specs.Rounds.{Given, end_party, file_at, ops_at}
-use Rattle.af_session.specs.Shares.{SharedState}
+use Rattle.af_engine.specs.Shares.{SharedState}
 use Rattle.af_side_by_side.specs.SideBySide.{ClientPlayed, IsRoundOfAll}
 use Rattle.af_playing.specs.Spelled.{BothSpell, CallsStandOnce, IsSpelled, Spells, calls_told}
 use Rattle.af_session.specs.Together.{SessionState}

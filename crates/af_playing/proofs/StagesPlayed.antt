@@ -8,7 +8,7 @@ use Rattle.af_rendering.specs.declared.staging.Stage.{Stage}
 use Rattle.af_session.specs.NewSession.{IsNewSession}
 use Rattle.af_playing.specs.PlayedRuns.{RunsOfAll, all_ended, is_full}
 use Rattle.af_session.specs.Rounds.{Given}
-use Rattle.af_session.specs.Shares.{SharedState}
+use Rattle.af_engine.specs.Shares.{SharedState}
 use Rattle.af_playing.specs.PlayedStages.{HasPlayed}
 use Rattle.af_session.specs.Together.{SessionState}
 use Rattle.af_rendering.proofs.FirstRound.{frames_first}

@@ -13,7 +13,7 @@ ghost use Rattle.af_session.specs.NewSession.{IsNewSession};
 ghost use Rattle.af_session.specs.Noted.{NotesFrames};
 ghost use Rattle.af_playing.specs.PlayedRuns.{GoesOn, RunsOfAll, all_ended, is_full};
 ghost use Rattle.af_session.specs.Rounds.{IsReady};
-ghost use Rattle.af_session.specs.Shares.{SharedState};
+ghost use Rattle.af_engine.specs.Shares.{SharedState};
 ghost use Rattle.af_session.specs.Shown.{FollowsRound, HasPlaces, shown_at};
 ghost use Rattle.af_side_by_side.specs.SideBySide.{IsRoundOfAll, all_noted};
 ghost use Rattle.af_tally.specs.Sound.{pcm_of};

@@ -12,7 +12,8 @@ use Rattle.af_normal.specs.Meeting.{MeetsStream}
 use Rattle.af_normal.specs.Mixing.{stream_at}
 use Rattle.af_normal.specs.State.{NormalState}
 use Rattle.af_server.specs.Order.{ServerState}
-use Rattle.af_session.specs.Met.{MeetsAway, Met, SpotMet, Spot, item_at, proxies_of, slot_for, spot_of}
+use Rattle.af_engine.specs.Met.{MeetsAway, SpotMet, Spot, item_at, proxies_of, slot_for, spot_of}
+use Rattle.af_session.specs.Met.{Met}
 use Rattle.af_session.specs.Rounds.{with_ends}
 use Rattle.af_session.specs.Together.{AreTogether, SessionState}
 use Rattle.af_session.proofs.FollowingRounds.{ends_keep}

@@ -24,7 +24,7 @@ use Rattle.af_rendering.specs.Leads.{InStep, Leads, Tells}
 use Rattle.af_session.specs.Met.{Met}
 use Rattle.af_session.specs.NewSession.{IsNewSession}
 use Rattle.af_session.specs.Rounds.{Given, IsRound, NormalTurned, normal_round, still_round, with_ends}
-use Rattle.af_session.specs.Shares.{SharedState}
+use Rattle.af_engine.specs.Shares.{SharedState}
 use Rattle.af_session.specs.Together.{AreTogether, SessionState}
 use Rattle.af_rendering.proofs.Quiet.{IsQuiet, new_quiet, turn_quiet}
 use Rattle.af_session.proofs.FollowingRounds.{ends_keep}

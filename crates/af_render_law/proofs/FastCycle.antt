@@ -34,7 +34,7 @@ use Rattle.af_told_law.proofs.PollFinds.{poll_met}
 use Rattle.af_told_law.proofs.TameRuns.{met_marked, mix_marked, poll_marked, small_told}
 use Rattle.af_told_law.proofs.PipeFront.{took_counted}
 use Rattle.af_runs.specs.ClientTurns.{Track}
-use Rattle.af_session.specs.Met.{slot_for}
+use Rattle.af_engine.specs.Met.{slot_for}
 use Rattle.af_render_law.proofs.OwnKept.{mixed_many, mixed_same, saw_met, saw_now, saw_polled, saw_sides}
 use Rattle.af_told_law.specs.Deeds.{Deeds, SawOwnBy, SawOwnOf, deeds_met, tame_marks}
 

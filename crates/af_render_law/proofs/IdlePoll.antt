@@ -16,7 +16,8 @@ use Rattle.af_stateq.specs.Answers.{sees_same}
 use Rattle.af_stateq.specs.Ends.{Polls, Pushes}
 use Rattle.af_stateq.specs.Observes.{Observes}
 use Rattle.af_rendering.specs.Leads.{InStep, LeadAway}
-use Rattle.af_session.specs.Met.{Met, item_at, slot_for}
+use Rattle.af_engine.specs.Met.{item_at, slot_for}
+use Rattle.af_session.specs.Met.{Met}
 use Rattle.af_session.specs.Together.{AreTogether, SessionState}
 use Rattle.af_rendering.proofs.QueueSteps.{Finds, finds, finds_none, step_met}
 use Rattle.af_told_law.specs.Sizes.{AreSmall}

@@ -33,7 +33,8 @@ use Rattle.af_judge.proofs.BlocksTold.{client-client}
 use Rattle.af_judge.proofs.EachTrack.{each_long, told_each}
 use Rattle.af_judge.proofs.EntryTracks.{mixed_sides}
 use Rattle.af_server.specs.Order.{ServerState}
-use Rattle.af_session.specs.Met.{Met, item_at}
+use Rattle.af_engine.specs.Met.{item_at}
+use Rattle.af_session.specs.Met.{Met}
 use Rattle.af_session.specs.Rounds as parties
 use Rattle.af_session.specs.Together.{AreTogether, SessionState}
 use Rattle.af_turn_law.proofs.MixedHome.{mixed_home}

@@ -26,7 +26,7 @@ use Rattle.af_runs.specs.ClientTurns.{Track}
 use Rattle.af_runs.specs.Found.{TurnFound, outside_of}
 use Rattle.af_runs.specs.Runs.{Run, takes_part, told_at}
 use Rattle.af_runs.specs.Sessions.{Session, setup_of}
-use Rattle.af_session.specs.Met.{item_at}
+use Rattle.af_engine.specs.Met.{item_at}
 use Rattle.af_session.specs.Together.{AreTogether, SessionState}
 use Rattle.af_audit.proofs.Booleans.{neither}
 use Rattle.af_judge.proofs.SoundTurns.{sound_acked}

@@ -4,7 +4,7 @@ use Rattle.af_cblk.specs.Sides.{HandSide}
 use Rattle.af_model.specs.History.{HasHistory, is_lawful}
 use Rattle.af_normal.specs.Mixing.{stream_at}
 use Rattle.af_party.specs.Parties.{PartyState}
-use Rattle.af_session.specs.Met.{item_at}
+use Rattle.af_engine.specs.Met.{item_at}
 use Rattle.af_session.specs.Together.{SessionState}
 use Rattle.af_told_law.specs.Tells.{held_slot}
 

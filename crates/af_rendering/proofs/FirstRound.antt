@@ -14,7 +14,7 @@ use Rattle.af_session.specs.NewTracks.{IsTrackAt}
 use Rattle.af_party.specs.Parties.{PartyState}
 use Rattle.af_rendering.specs.Rendered.{HaveFiles, Rendered, Renders, Runs}
 use Rattle.af_session.specs.Rounds.{Given, IsReady, file_at, ops_at, ops_of}
-use Rattle.af_session.specs.Shares.{SharedState}
+use Rattle.af_engine.specs.Shares.{SharedState}
 use Rattle.af_tally.specs.Sound.{pcm_of}
 use Rattle.af_session.specs.Together.{SessionState, AreTogether}
 use Rattle.af_party.specs.Works.{CanWork, frames_to_come}

@@ -15,7 +15,8 @@ use Rattle.af_model.specs.History.{is_lawful}
 use Rattle.af_model.specs.ServerCalls.{ServerKept}
 use Rattle.af_normal.specs.Meeting.{Meets, MeetsAll, MeetsStream, client_knows}
 use Rattle.af_server.specs.Order.{IsInOrder as IsServerInOrder, ServerState, server_kept_of}
-use Rattle.af_session.specs.Met.{Met, MeetsAway, Spot, SpotMet, TrackMet, proxies_of, spot_of}
+use Rattle.af_engine.specs.Met.{MeetsAway, Spot, SpotMet, proxies_of, spot_of}
+use Rattle.af_session.specs.Met.{Met, TrackMet}
 use Rattle.af_party.specs.Parties.{PartyState}
 use Rattle.af_session.specs.Rounds.{end_party, with_ends}
 use Rattle.af_session.specs.Together.{SessionState}

@@ -27,7 +27,7 @@ use Rattle.af_party.specs.Parties.{PartyState}
 use Rattle.af_session.specs.Ends.{EndsState}
 use Rattle.af_rendering.specs.Rendered.{Runs}
 use Rattle.af_session.specs.Rounds.{Given, IsReady, IsRound, IsTurnRun}
-use Rattle.af_session.specs.Shares.{SharedState}
+use Rattle.af_engine.specs.Shares.{SharedState}
 use Rattle.af_session.specs.Shown.{HasPlaces, calls_over, released_by, shown_at, shown_by, shown_in, shows, summary_told}
 use Rattle.af_tally.specs.declared.summary.Summary.{Summary}
 use Rattle.af_tally.specs.Summaries.{Shown, nothing_shown, summary_of}

@@ -18,7 +18,7 @@ use Rattle.af_audit.specs.Spared.{none_corrupt}
 use Rattle.af_rendering.specs.Hostile.{IsSpared, IsTame, PokesSpareOthers, SparesSoFar, all_calls, all_turns, is_spared_in_turn}
 use Rattle.af_session.specs.NewSession.{IsNewSession}
 use Rattle.af_party.specs.Parties.{PartyState}
-use Rattle.af_session.specs.Shares.{SharedState}
+use Rattle.af_engine.specs.Shares.{SharedState}
 use Rattle.af_session.specs.Shown.{calls_over, shown_by, shown_in, shows}
 use Rattle.af_tally.specs.Summaries.{Shown, calls_of, has_no_poke, is_lawful as is_unpoked}
 use Rattle.af_session.specs.Together.{SessionState}

@@ -30,7 +30,8 @@ use Rattle.af_session.specs.FastTurns.{IsCycle, IsFastTurn, WritesCycle}
 use Rattle.af_rendering.specs.Hostile.{IsTame}
 use Rattle.af_rendering.specs.Hostile.{is_spared_in_entry}
 use Rattle.af_rendering.specs.Leads.{InStep, LeadAway}
-use Rattle.af_session.specs.Met.{ItemStays, MeetsAway, Met, Spot, SpotMet, item_at, proxies_of, slot_for, spot_of}
+use Rattle.af_engine.specs.Met.{ItemStays, MeetsAway, Spot, SpotMet, item_at, proxies_of, slot_for, spot_of}
+use Rattle.af_session.specs.Met.{Met}
 use Rattle.af_party.specs.Parties.{PartyState}
 use Rattle.af_session.specs.Shown.{shown_at}
 use Rattle.af_tally.specs.Sound.{IsWhole}
@@ -40,7 +41,7 @@ use Rattle.af_rendering.proofs.EntrySpared.{AreUnshut, entry_spares, unshut_befo
 use Rattle.af_session.proofs.FastAdds.{cycle_sizes, cycle_whole}
 use Rattle.af_session.proofs.Following.{shown_added, shown_adopted, shown_met, shown_still}
 use Rattle.af_rendering.proofs.MetOpen.{clients_met, knows_kept, party_met}
-use Rattle.af_session.proofs.MetSlots.{slot_is}
+use Rattle.af_engine.proofs.MetSlots.{slot_is}
 use Rattle.af_rendering.proofs.QueueSteps.{Finds, few_polled, finds, finds_none, learnt_by, step_met}
 
 -- the entries of a log with the states that they used

@@ -29,7 +29,7 @@ use Rattle.af_rendering.specs.Leads.{InStep, Leads}
 use Rattle.af_session.specs.NewSession.{IsNewSession}
 use Rattle.af_rendering.specs.Rendered.{Runs}
 use Rattle.af_session.specs.Rounds.{Given, IsReady}
-use Rattle.af_session.specs.Shares.{SharedState}
+use Rattle.af_engine.specs.Shares.{SharedState}
 use Rattle.af_session.specs.Shown.{shown_by, shown_in, shows, use_of}
 use Rattle.af_session.specs.Together.{SessionState}
 use Rattle.af_session.proofs.Following.{uses_stay}

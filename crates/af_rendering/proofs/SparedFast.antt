@@ -33,7 +33,8 @@ use Rattle.af_rendering.specs.FastSpared.{FastSparesSoFar, entries_used}
 use Rattle.af_session.specs.FastTurns.{IsFastTurn}
 use Rattle.af_rendering.specs.Hostile.{IsTame, is_spared_in_entry}
 use Rattle.af_rendering.specs.Leads.{InStep, LeadAway, Leads, Tells}
-use Rattle.af_session.specs.Met.{MeetsAway, Met, Spot, SpotMet, is_slot_of, item_at, proxies_of, slot_for, spot_of}
+use Rattle.af_engine.specs.Met.{MeetsAway, Spot, SpotMet, is_slot_of, item_at, proxies_of, slot_for, spot_of}
+use Rattle.af_session.specs.Met.{Met}
 use Rattle.af_party.specs.Parties.{PartyState, track_of}
 use Rattle.af_session.specs.Rounds.{Given, IsReady, IsRound, NormalTurned, fast_round, file_at, normal_round, ops_at, still_round, with_ends}
 use Rattle.af_session.specs.Shown.{shows}
@@ -43,7 +44,7 @@ use Rattle.af_rendering.proofs.EntrySpared.{AreUnshut}
 use Rattle.af_session.proofs.Following.{shown_met}
 use Rattle.af_session.proofs.FollowingRounds.{ends_keep}
 use Rattle.af_rendering.proofs.MetOpen.{clients_ended, clients_met, open_met_all, party_met}
-use Rattle.af_session.proofs.MetSlots.{only_slot}
+use Rattle.af_engine.proofs.MetSlots.{only_slot}
 use Rattle.af_rendering.proofs.NormalSteps.{turn_same, turn_tells, turned_leads}
 use Rattle.af_rendering.proofs.OpenCalls.{AreTame}
 use Rattle.af_rendering.proofs.QueueSeen.{SawUpTo, few_acked, few_seen}

@@ -29,7 +29,8 @@ use Rattle.af_server.specs.Order.{IsInOrder as IsServerInOrder, ServerState, ser
 use Rattle.af_session.specs.FastTurns.{IsCycle, IsFastTurn}
 use Rattle.af_audit.specs.Spared.{none_corrupt}
 use Rattle.af_rendering.specs.Hostile.{IsTame, SparesSoFar, all_calls, all_turns, is_spared_in_turn}
-use Rattle.af_session.specs.Met.{Met, Spot, SpotMet, TrackMet, proxies_of, spot_of}
+use Rattle.af_engine.specs.Met.{Spot, SpotMet, proxies_of, spot_of}
+use Rattle.af_session.specs.Met.{Met, TrackMet}
 use Rattle.af_party.specs.Parties.{PartyState, track_of}
 use Rattle.af_session.specs.Rounds.{Given, IsReady, IsRound, NormalTurned, fast_round, file_at, no_calls, normal_round, ops_at, still_round, with_ends}
 use Rattle.af_session.specs.Shown.{calls_over, turn_in, turns_over}

@@ -15,7 +15,7 @@ use Rattle.af_rendering.specs.Hostile.{SparesSoFar}
 use Rattle.af_session.specs.NewSession.{IsNewSession}
 use Rattle.af_rendering.specs.Rendered.{Runs}
 use Rattle.af_session.specs.Rounds.{Given, IsReady}
-use Rattle.af_session.specs.Shares.{SharedState}
+use Rattle.af_engine.specs.Shares.{SharedState}
 use Rattle.af_session.specs.Shown.{shown_at}
 use Rattle.af_rendering.specs.Stages.{HasRendered}
 use Rattle.af_session.specs.Together.{SessionState}

@@ -10,7 +10,7 @@ use Rattle.af_script.specs.declared.op.TurnSpec.{TurnSpec}
 use Rattle.af_session.specs.Ends.{EndsState, ends_from}
 use Rattle.af_session.specs.NewSession.{IsNewSession}
 use Rattle.af_session.specs.Rounds.{Given, IsTurnRun, ops_at, file_at}
-use Rattle.af_session.specs.Shares.{SharedState}
+use Rattle.af_engine.specs.Shares.{SharedState}
 use Rattle.af_tally.specs.Sound.{pcm_of}
 use Rattle.af_session.specs.Together.{SessionState}
 use Rattle.af_party.specs.Works.{frames_to_come}

@@ -12,7 +12,7 @@ use Rattle.af_rendering.specs.declared.staging.Stage.{Stage}
 use Rattle.af_rendering.specs.Hostile.{PokesSpareEntries, PokesSpareOthers}
 use Rattle.af_session.specs.NewSession.{IsNewSession}
 use Rattle.af_rendering.specs.Rendered.{Renders}
-use Rattle.af_session.specs.Shares.{AreLinksOf}
+use Rattle.af_engine.specs.Shares.{AreLinksOf}
 use Rattle.af_session.specs.Shown.{shown_in}
 use Rattle.af_session.specs.Together.{AreTogether}
 use Rattle.af_tally.specs.Summaries.{Shown, nothing_shown}

@@ -4,9 +4,10 @@ ghost use Rattle.std.specs.Prelude.{◌≡◌, ◌≤◌, IfOk, length};
 ghost use Rattle.af_rendering.specs.Stages.{IsNewRoom, IsNewStage};
 
 use af_base::{Frame, Items, Memory};
+use af_engine::Shared;
 use af_model::Rounds;
 use af_script::Script;
-use af_session::{Parties, Shared, make};
+use af_session::{Parties, make};
 use af_tally::Tally;
 use std::alloc::Global;
 

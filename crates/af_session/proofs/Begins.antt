@@ -1,183 +1,140 @@
 -- A new session: its parties are new, in order, and belong together.
-use Rattle.std.proofs.Common.{◌≡◌, ℕ, zero, suc, ◌<◌, ◌≤◌, true, false, List, [], ◌∷◌, length, map, replicate, Option, Some, refl, sym, ap, ◌∙◌, subst, arith}
-use Rattle.std.specs.Prelude.{All, slice_get, unwrap_or}
-use Rattle.std.proofs.lemmas.List.{length-replicate}
+use Rattle.std.proofs.Common.{◌≡◌, ℕ, ◌*◌, ◌^◌, ◌≤◌, List, [], ◌∷◌, length, map, option_map, slice_get, Option, Some, None, refl, sym, ap, ◌∙◌, subst, arith}
+use Rattle.std.specs.Prelude.{All}
 use Rattle.std.proofs.lemmas.List.Elements.{All-map}
-use Rattle.std.proofs.lemmas.Option.{slice_get_within}
+use Rattle.std.proofs.lemmas.List.{length-map}
+use Rattle.std.proofs.lemmas.Option.{none-some, same_Some, slice_get-map, slice_get_within, get_or_from_slice_get}
 use Rattle.af_cblk.specs.Sides.{Made}
-use Rattle.af_cblk.specs.declared.view.ClientPart.{ClientPart}
-use Rattle.af_server.specs.Order.{ServerState}
-use Rattle.af_link.specs.Linked.{AreLinked}
-use Rattle.af_link.specs.Names.{IsStreamOf}
-use Rattle.af_link.specs.PipeEnds.{out_made}
-use Rattle.af_link.specs.declared.links.Links.{Links}
-use Rattle.af_fast.specs.Mixer.{MixerState, made_of, IsLinked, IsInOrder as IsFastInOrder}
+use Rattle.af_client.specs.Order.{ClientState}
+use Rattle.af_engine.specs.declared.ends.TrackEnds.{TrackEnds}
+use Rattle.af_engine.specs.declared.spec.EngineTrack.{EngineTrack}
+use Rattle.af_engine.specs.declared.spec.MixerSpec.{MixerSpec}
+use Rattle.af_engine.specs.Engines.{EngineState, AreTogether as AreEndsTogether}
+use Rattle.af_engine.specs.MixerSpecs.{IsEngineTrack, IsMixerSpec, setting_of, setup_of}
+use Rattle.af_engine.specs.NewEnds.{AreNewEnds, ends_of}
+use Rattle.af_engine.specs.NewEngine.{IsNewEngine, tracks_of as tracks_in}
+use Rattle.af_engine.specs.NewTracks.{IsNewLine, IsNewTrack as IsNewOne}
+use Rattle.af_engine.specs.Shares.{SharedState}
+use Rattle.af_engine.proofs.MoreTracks.{in_other_words}
+use Rattle.af_fast.specs.Mixer.{made_of}
 use Rattle.af_life.specs.declared.kept.Setting.{Setting}
-use Rattle.af_life.specs.Kept.{new_track, new_normal}
-use Rattle.af_normal.specs.Making.{TrackList, IsMade, AreNew}
+use Rattle.af_life.specs.Kept.{new_normal}
+use Rattle.af_link.specs.declared.links.Links.{Links}
+use Rattle.af_model.specs.declared.shape.Shape.{Shape}
+use Rattle.af_normal.specs.Making.{IsMade, TrackList}
+use Rattle.af_normal.specs.declared.make.TrackSetup.{TrackSetup}
 use Rattle.af_normal.specs.Meeting.{AreClientsOf}
-use Rattle.af_normal.specs.Mixing.{stream_at}
-use Rattle.af_normal.specs.Order.{IsInOrder as IsNormalInOrder}
-use Rattle.af_normal.specs.State.{NormalState, setup_of, kept_of}
-use Rattle.af_script.specs.Data.{ScriptData}
-use Rattle.af_script.specs.Form.{IsTrack}
-use Rattle.af_script.specs.declared.track.TrackSpec.{TrackSpec}
-use Rattle.af_session.specs.NewSession.{EndStates, AreNewEnds, IsNewSession, ends_of, tracks_of}
-use Rattle.af_session.specs.NewTracks.{AreNewTracks}
-use Rattle.af_runs.specs.Sessions.{script_setup, spec_setting}
 use Rattle.af_party.specs.Parties.{PartyState}
-use Rattle.af_session.specs.Shares.{SharedState, AreLinksOf}
-use Rattle.af_session.specs.Together.{SessionState, AreTogether}
+use Rattle.af_runs.specs.Sessions.{command_shape, script_setup, spec_setting, stream_shape}
+use Rattle.af_script.specs.Data.{ScriptData}
+use Rattle.af_script.specs.Form.{IsScript, IsTrack}
+use Rattle.af_script.specs.declared.track.TrackSpec.{TrackSpec}
+use Rattle.af_server.specs.Order.{ServerState}
+use Rattle.af_session.specs.NewSession.{IsNewSession, IsSpecOf, tracks_of}
+use Rattle.af_session.specs.NewTracks.{AreNewClients, AreNewTracks, IsClientOf, IsNewTrack, engine_track}
+use Rattle.af_session.specs.Together.{AreTogether, SessionState}
+use Rattle.af_session.proofs.NewClients.{some_at}
+use Rattle.af_session.proofs.NewWork.{new_party}
+use Rattle.af_session.proofs.Sizes.{command_shape_is, stream_shape_is}
 
-same_one : {X : Type 0} (x y : X) → Some x ≡ Some y → x ≡ y
-same_one x y e = ap (λ (o : Option _). unwrap_or o x) e
+-- ## The spec
 
--- ## The settings
+-- the tracks of a script fit
+tracks_fit : (version : ℕ) (specs : List TrackSpec) → All IsTrack specs → All IsEngineTrack (map (engine_track version) specs)
+tracks_fit version specs each = All-map IsEngineTrack (engine_track version) specs (λ k d lt. let one = each k d lt in record { frames = one.buffer; scale = one.scale })
 
--- the settings are those of the specs, where they are so place by place
-settings_by : (xs : List Setting) (specs : List TrackSpec) → length xs ≡ length specs
-    → ((i : ℕ) → i < length specs → (spec : TrackSpec) × (slice_get specs i ≡ Some spec) × (slice_get xs i ≡ Some (spec_setting spec))) → xs ≡ map spec_setting specs
-settings_by [] [] long each = refl
-settings_by [] (s ∷ specs) long each = absurd (omega arith)
-settings_by (x ∷ xs) [] long each = absurd (omega arith)
-settings_by (x ∷ xs) (s ∷ specs) long each =
-    let first = each 0 (omega arith) in
-    let head : x ≡ spec_setting s = same_one x (spec_setting first.0) first.2 ∙ ap spec_setting (same_one first.0 s (sym first.1)) in
-    let rest : xs ≡ map spec_setting specs = settings_by xs specs (omega arith) (λ i lt. let there = each (suc i) (omega arith) in (there.0, there.1, there.2)) in
-    λ i. head i ∷ rest i
-
-pub settings_are : (version : ℕ) (specs : List TrackSpec) (streams commands : List Made) (clients : List PartyState) (tracks : TrackList) → AreNewTracks version (length specs) specs streams commands clients tracks → tracks.settings ≡ map spec_setting specs
-settings_are version specs streams commands clients tracks ts =
-    settings_by tracks.settings specs ts.lists.0 (λ i lt. let one = ts.each i lt in (one.spec, one.spec_at, one.setting_at ∙ ap (λ (s : Setting). Some s) one.new.setting_is))
-
--- no scale is above 1
-pub scales_fit : (specs : List TrackSpec) (settings : List Setting) → settings ≡ map spec_setting specs → All IsTrack specs → All (λ (s : Setting). s.scale ≤ 4096) settings
-scales_fit specs settings same each = subst (All (λ (s : Setting). s.scale ≤ 4096)) (sym same) (All-map (λ (s : Setting). s.scale ≤ 4096) spec_setting specs (λ k d lt. (each k d lt).scale))
-
--- ## The proxies
-
--- the track at a place where there is a stream proxy
-within : (streams : List (Option ServerState)) (i : ℕ) (s : ServerState) → stream_at streams i ≡ Some s → i < length streams
-within [] i s here = absurd (cc)
-within (x ∷ streams) zero s here = omega arith
-within (x ∷ streams) (suc i) s here = let rest = within streams i s here in omega arith
-
-module _ (version : ℕ) (specs : List TrackSpec) (shared : SharedState) (clients : List PartyState) (tracks : TrackList) (ts : AreNewTracks version (length specs) specs shared.streams shared.commands clients tracks) (links : Links) (l : AreLinksOf shared links) where
-  -- the stream proxies are of the links' blocks, and have their hands
-  streams_of : (i : ℕ) (s : ServerState) → stream_at tracks.streams i ≡ Some s → IsStreamOf links.streams.now i s × (s.pass.has_hand ≡ true)
-  streams_of i s here =
-      let one = ts.each i (omega (arith, within tracks.streams i s here, ts.lists.1)) in
-      let line = one.new.stream_line in
-      let is : one.setup.stream ≡ s = same_one one.setup.stream s (sym one.proxy_at ∙ here) in
-      let P : ServerState → Type 0 = λ x. IsStreamOf links.streams.now i x × (x.pass.has_hand ≡ true) in
-      subst P is (record { made = ap (λ (b : List Made). slice_get b i) l.streams_are ∙ one.stream_at_place ∙ ap (λ (b : Made). Some b) (sym line.server_is.0); in_order = line.server_is.1 }, line.server_new.whole)
-
-  commands_of : (i : ℕ) (s : ServerState) → slice_get tracks.commands i ≡ Some s → IsStreamOf links.commands.now i s
-  commands_of i s here =
-      let one = ts.each i (omega (arith, slice_get_within tracks.commands i s here, ts.lists.2)) in
-      let line = one.new.command_line in
-      let is : one.setup.command ≡ s = same_one one.setup.command s (sym one.control_at ∙ here) in
-      subst (IsStreamOf links.commands.now i) is (record { made = ap (λ (b : List Made). slice_get b i) l.commands_are ∙ one.command_at ∙ ap (λ (b : Made). Some b) (sym line.server_is.0); in_order = line.server_is.1 })
-
-  -- the client of each track has its place, and the proxies of its two blocks
-  clients_of : (i : ℕ) (p : PartyState) → slice_get clients i ≡ Some p → (p.track ≡ i) × AreClientsOf links i p.stream p.command
-  clients_of i p here =
-      let one = ts.each i (omega (arith, slice_get_within clients i p here, ts.parties)) in
-      let stream = one.new.stream_line in
-      let command = one.new.command_line in
-      let is : one.party ≡ p = same_one one.party p (sym one.party_at ∙ here) in
-      let P : PartyState → Type 0 = λ x. (x.track ≡ i) × AreClientsOf links i x.stream x.command in
-      subst P is (
-        one.new.party.place_is,
-        record {
-          stream_is = ap (λ (b : List Made). slice_get b i) l.streams_are ∙ one.stream_at_place ∙ ap (λ (b : Made). Some b) (sym stream.client_is.0);
-          command_is = ap (λ (b : List Made). slice_get b i) l.commands_are ∙ one.command_at ∙ ap (λ (b : Made). Some b) (sym command.client_is.0);
-          in_order = (stream.client_is.1, command.client_is.1);
-        },
-      )
-
-  -- ## The mixers
-
-  module _ (frames normal : ℕ) (e : EndStates) (ends : AreNewEnds frames normal shared e) where
-    pub are_new : AreNew links frames normal tracks e.mutator e.reader e.from
-    are_new = record {
-      names = ends.names;
-      mutator_is = ends.mutator;
-      linked = record {
-        names = (ends.names, ends.mutator.has_key, ends.names_are ∙ sym l.streams_are);
-        queue_is = ends.ends.queue_is.0 ∙ sym l.queue_is;
-        report_is = ends.ends.report_is.0 ∙ sym l.report_is;
-        pipe_is = ends.ends.pipe_is.0 ∙ sym l.pipe_is;
-      };
-      streams_of = λ i s here. (streams_of i s here).0;
-      hands_of = λ i s here. (streams_of i s here).1;
-      commands_of = commands_of;
-      pipe_is = ap (λ (k : ClientPart). k.shape.frames) ends.from.0 ∙ ends.pipe.0;
+pub spec_fits : (script : ScriptData) (spec : MixerSpec) → IsScript script → IsSpecOf script spec → IsMixerSpec spec
+spec_fits script spec ok is =
+    let count : length spec.tracks.now ≡ length script.tracks = ap (λ (xs : List EngineTrack). length xs) is.tracks ∙ length-map script.tracks (engine_track script.version) in
+    record {
+      frames = subst (λ (n : ℕ). (1 ≤ n) × (n ≤ 1024)) (sym is.frames) ok.frames;
+      normal = subst (λ (n : ℕ). (1 ≤ n) × (n ≤ 16)) (sym is.normal) ok.normal;
+      cycles = subst (λ (n : ℕ). (1 ≤ n) × (n ≤ 100000)) (sym is.cycles) ok.cycles;
+      log = subst (λ (y : ℕ × ℕ). y.0 * y.1 ≤ 2 ^ 21) (λ i. (sym is.cycles i, sym is.frames i)) ok.product;
+      count = subst (λ (n : ℕ). (1 ≤ n) × (n ≤ 32)) (sym count) ok.track_count;
+      tracks = subst (All IsEngineTrack) (sym is.tracks) (tracks_fit script.version script.tracks ok.tracks);
     }
 
-    fast_linked : AreLinked links e.observer.past.key e.observer.past.queue e.writer.cell (out_made e.to)
-    fast_linked = record {
-      names = (ends.names, ends.observer.0.has_key, ends.names_are ∙ sym l.streams_are);
-      queue_is = ends.ends.queue_is.1 ∙ sym l.queue_is;
-      report_is = ends.ends.report_is.1 ∙ sym l.report_is;
-      pipe_is = ends.ends.pipe_is.1 ∙ sym l.pipe_is;
+settings_map : (version : ℕ) (specs : List TrackSpec) → map setting_of (map (engine_track version) specs) ≡ map spec_setting specs
+settings_map version [] = refl
+settings_map version (s ∷ specs) = ap (λ (xs : List Setting). spec_setting s ∷ xs) (settings_map version specs)
+
+-- ## One track
+
+of_map : (version : ℕ) (o : Option TrackSpec) (t : EngineTrack) → option_map (engine_track version) o ≡ Some t → (s : TrackSpec) × (o ≡ Some s) × (t ≡ engine_track version s)
+of_map version None t is = absurd (none-some t is)
+of_map version (Some s) t is = (s, refl, sym (same_Some (engine_track version s) t is))
+
+new_line_of : (shape : Shape) (block : Made) (c d : ClientState) (s : ServerState) → block.shape ≡ shape → d ≡ c → IsNewLine block.shape block c s → IsNewLine shape block d s
+new_line_of shape block c d s shape_is same line = subst (λ (y : Shape × ClientState). IsNewLine y.0 block y.1 s) (λ i. (shape_is i, sym same i)) line
+
+pub new_one : (version place : ℕ) (spec : TrackSpec) (stream command : Made) (e : TrackEnds) (t : TrackSetup) (p : PartyState) → IsTrack spec → IsNewOne place (engine_track version spec) stream command e t → IsClientOf e p
+    → IsNewTrack version place spec stream command p t
+new_one version place spec stream command e t p track new client =
+    let stream_line = new_line_of (stream_shape version spec) stream e.stream p.stream t.stream (stream_shape_is version spec stream.shape new.stream_shape track.buffer.1) client.stream new.stream_line in
+    let command_line = new_line_of command_shape command e.command p.command t.command (command_shape_is command.shape new.command_shape) client.command new.command_line in
+    record {
+      stream_line = stream_line;
+      command_line = command_line;
+      setting_is = new.setting_is;
+      party = new_party version spec p track stream_line.sound client.wants stream_line.client_new command_line.client_new client.calls place (client.place ∙ new.place_is);
     }
 
-    -- ## All parties
+-- ## The session
 
-    pub together : (cycles : ℕ) (m : NormalState) (f : MixerState) → IsMade frames normal tracks e.mutator e.reader e.from m → IsNormalInOrder links m → f ≡ made_of e.observer e.writer e.to cycles frames → IsFastInOrder f
-        → AreTogether links (record { clients = clients; normal = m; fast = f })
-    together cycles m f made in_order fast fast_order = record {
-      normal = in_order;
-      fast = (fast_order, subst (IsLinked links) (sym fast) fast_linked);
-      count = ts.parties ∙ sym (ap (λ (x : NormalState). length x.tracks) made.is ∙ length-replicate (length tracks.settings) new_track ∙ ts.lists.0);
-      tracks = λ i p here. (clients_of i p here).0;
-      clients = λ i p here. (clients_of i p here).1;
-    }
-
-module _ (script : ScriptData) (shared : SharedState) (clients : List PartyState) (tracks : TrackList) (e : EndStates) (m : NormalState) (f : MixerState)
-    (ts : AreNewTracks script.version (length script.tracks) script.tracks shared.streams shared.commands clients tracks) (ends : AreNewEnds script.frames script.normal shared e)
-    (made : IsMade script.frames script.normal tracks e.mutator e.reader e.from m) (fast : f ≡ made_of e.observer e.writer e.to script.cycles script.frames) where
+module _ (script : ScriptData) (ok : IsScript script) (spec : MixerSpec) (is : IsSpecOf script spec) (shared : SharedState) (e : EngineState) (new : IsNewEngine spec shared e) (clients : List PartyState) (of : AreNewClients e.tracks clients) where
   abbrev session : SessionState
-  session = record { clients = clients; normal = m; fast = f }
+  session = record { clients = clients; normal = e.normal; fast = e.fast }
 
-  tracks_same : tracks ≡ tracks_of script m
-  tracks_same =
-      let settings = settings_are script.version script.tracks shared.streams shared.commands clients tracks ts in
-      let streams : tracks.streams ≡ m.streams = sym (ap (λ (x : NormalState). x.streams) made.is) in
-      let commands : tracks.commands ≡ m.commands = sym (ap (λ (x : NormalState). x.commands) made.is) in
-      λ i. record { settings = settings i; streams = streams i; commands = commands i }
+  count : length spec.tracks.now ≡ length script.tracks
+  count = ap (λ (xs : List EngineTrack). length xs) is.tracks ∙ length-map script.tracks (engine_track script.version)
 
-  ends_same : e ≡ ends_of session
-  ends_same =
-      let mutator : e.mutator ≡ m.mutator = sym (ap (λ (x : NormalState). x.mutator) made.is) in
-      let reader : e.reader ≡ m.reader = sym (ap (λ (x : NormalState). x.reader) made.is) in
-      let from : e.from ≡ m.pipe = sym (ap (λ (x : NormalState). x.pipe) made.is) in
-      let observer : e.observer ≡ f.observer = sym (ap (λ (x : MixerState). x.observer) fast) in
-      let writer : e.writer ≡ f.writer = sym (ap (λ (x : MixerState). x.writer) fast) in
-      let to : e.to ≡ f.pipe = sym (ap (λ (x : MixerState). x.pipe) fast) in
-      λ i. record { mutator = mutator i; reader = reader i; from = from i; observer = observer i; writer = writer i; to = to i }
+  settings : map setting_of spec.tracks.now ≡ map spec_setting script.tracks
+  settings = ap (map setting_of) is.tracks ∙ settings_map script.version script.tracks
 
-  setup_same : setup_of m ≡ script_setup script
-  setup_same =
-      let settings = settings_are script.version script.tracks shared.streams shared.commands clients tracks ts in
-      let there : setup_of m ≡ record { frames = script.frames; normal = script.normal; settings = tracks.settings } = ap setup_of made.is in
-      there ∙ (λ i. record { frames = script.frames; normal = script.normal; settings = settings i })
+  lists : tracks_in spec e.normal ≡ tracks_of script e.normal
+  lists = λ i. record { settings = settings i; streams = e.normal.streams; commands = e.normal.commands }
 
-  kept_same : kept_of m ≡ new_normal (script_setup script)
-  kept_same =
-      let settings = settings_are script.version script.tracks shared.streams shared.commands clients tracks ts in
-      let new = ends.mutator in
-      let many : replicate (length tracks.settings) new_track ≡ replicate (length (map spec_setting script.tracks)) new_track = ap (λ (xs : List Setting). replicate (length xs) new_track) settings in
-      let there : kept_of m ≡ record { tracks = replicate (length tracks.settings) new_track; draft = e.mutator.draft; dirty = e.mutator.dirty; pushed = e.mutator.past.number; last = e.mutator.past.last; ended = false } = ap kept_of made.is in
-      there ∙ (λ i. record { tracks = many i; draft = new.begins.2 i; dirty = new.idle.0 i; pushed = new.silent.0 i; last = new.begins.1 i; ended = false })
+  setup_is : setup_of spec ≡ script_setup script
+  setup_is = λ i. record { frames = is.frames i; normal = is.normal i; settings = settings i }
+
+  retold : (i : ℕ) (t : EngineTrack) (stream command : Made) (d : TrackEnds) (s : TrackSetup) → slice_get spec.tracks.now i ≡ Some t → slice_get e.tracks i ≡ Some d → IsNewOne i t stream command d s
+      → (x : TrackSpec) × (p : PartyState) × (slice_get script.tracks i ≡ Some x) × (slice_get clients i ≡ Some p) × IsNewTrack script.version i x stream command p s
+  retold i t stream command d s at_t at_d one =
+      let x = of_map script.version (slice_get script.tracks i) t (sym (slice_get-map (engine_track script.version) script.tracks i) ∙ ap (λ (xs : List EngineTrack). slice_get xs i) (sym is.tracks) ∙ at_t) in
+      let fits : IsTrack x.0 = subst IsTrack (get_or_from_slice_get script.tracks i x.0 x.0 x.1) (ok.tracks i x.0 (slice_get_within script.tracks i x.0 x.1)) in
+      let inside = slice_get_within e.tracks i d at_d in
+      let many = of.count in
+      let p = some_at clients i (omega (arith, inside, many)) in
+      (x.0, p.0, x.1, p.1, new_one script.version i x.0 stream command d s p.0 fits (subst (λ (y : EngineTrack). IsNewOne i y stream command d s) x.2 one) (of.each i d p.0 at_d p.1))
+
+  tracks : AreNewTracks script.version (length script.tracks) script.tracks shared.streams shared.commands clients (tracks_of script e.normal)
+  tracks = subst (λ (y : ℕ × TrackList). AreNewTracks script.version y.0 script.tracks shared.streams shared.commands clients y.1) (λ i. (count i, lists i))
+      (in_other_words IsNewOne (IsNewTrack script.version) (length spec.tracks.now) spec.tracks.now script.tracks shared.streams shared.commands e.tracks clients (tracks_in spec e.normal) new.tracks of.count retold)
 
   pub new_session : IsNewSession script shared session
   new_session = record {
-    tracks = subst (AreNewTracks script.version (length script.tracks) script.tracks shared.streams shared.commands clients) tracks_same ts;
-    ends = subst (AreNewEnds script.frames script.normal shared) ends_same ends;
-    normal = subst (λ (x : TrackList × EndStates). IsMade script.frames script.normal x.0 x.1.mutator x.1.reader x.1.from m) (λ i. (tracks_same i, ends_same i)) made;
-    setup = setup_same;
-    kept = kept_same;
-    fast = subst (λ (x : EndStates). f ≡ made_of x.observer x.writer x.to script.cycles script.frames) ends_same fast;
+    tracks = tracks;
+    ends = subst (λ (y : ℕ × ℕ). AreNewEnds y.0 y.1 shared (ends_of e.normal e.fast)) (λ i. (is.frames i, is.normal i)) new.ends;
+    normal = subst (λ (y : ℕ × ℕ × TrackList). IsMade y.0 y.1 y.2 e.normal.mutator e.normal.reader e.normal.pipe e.normal) (λ i. (is.frames i, is.normal i, lists i)) new.normal;
+    setup = new.setup ∙ setup_is;
+    kept = new.kept ∙ ap new_normal setup_is;
+    fast = new.fast ∙ (λ i. made_of e.fast.observer e.fast.writer e.fast.pipe (is.cycles i) (is.frames i));
+  }
+
+  -- the parties belong together as the ends do
+  own : (i : ℕ) (p : PartyState) → slice_get clients i ≡ Some p → (d : TrackEnds) × (slice_get e.tracks i ≡ Some d) × IsClientOf d p
+  own i p at_p =
+      let inside = slice_get_within clients i p at_p in
+      let many = of.count in
+      let d = some_at e.tracks i (omega (arith, inside, many)) in
+      (d.0, d.1, of.each i d.0 p d.1 at_p)
+
+  pub all_together : (links : Links) → AreEndsTogether links e → AreTogether links session
+  all_together links t = record {
+    normal = t.normal;
+    fast = t.fast;
+    count = of.count ∙ t.count;
+    tracks = λ i p at_p. let d = own i p at_p in d.2.place ∙ t.tracks i d.0 d.1;
+    clients = λ i p at_p. let d = own i p at_p in subst (λ (y : ClientState × ClientState). AreClientsOf links i y.0 y.1) (λ j. (sym d.2.stream j, sym d.2.command j)) (t.clients i d.0 d.1);
   }

@@ -1,15 +1,10 @@
-pub mod EndsMeet
-pub mod MetAway
-pub mod MetSlots
-pub mod MetSpot
 pub mod MetStays
 pub mod MetTracks
 pub mod FastAdds
 pub mod FastChains
 pub mod Sizes
-pub mod NewLines
+pub mod NewClients
 pub mod NewWork
-pub mod MoreTracks
 pub mod Begins
 pub mod Ready
 pub mod ClientRounds

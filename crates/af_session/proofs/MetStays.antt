@@ -5,7 +5,8 @@ use Rattle.af_client.specs.Order.{ClientState}
 use Rattle.af_normal.specs.Meeting.{MeetsStream, client_knows}
 use Rattle.af_script.specs.declared.op.Op.{Op}
 use Rattle.af_server.specs.Order.{ServerState}
-use Rattle.af_session.specs.Met.{MeetsAway, Spot, SpotMet, TrackMet}
+use Rattle.af_engine.specs.Met.{MeetsAway, Spot, SpotMet}
+use Rattle.af_session.specs.Met.{TrackMet}
 use Rattle.af_party.specs.Parties.{PartyState}
 use Rattle.af_party.specs.Works.{CanWork}
 

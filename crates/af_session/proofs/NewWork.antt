@@ -20,7 +20,8 @@ use Rattle.af_script.specs.Ops.{cells_of}
 use Rattle.af_script.specs.declared.op.Op.{Op}
 use Rattle.af_script.specs.declared.op.Op.TheVariants as op
 use Rattle.af_script.specs.declared.track.TrackSpec.{TrackSpec}
-use Rattle.af_session.specs.NewTracks.{IsNewClient, IsNewParty, first_track}
+use Rattle.af_engine.specs.NewTracks.{IsNewClient}
+use Rattle.af_session.specs.NewTracks.{IsNewParty, first_track}
 use Rattle.af_runs.specs.Sessions.{stream_shape, command_shape}
 use Rattle.af_party.specs.Parties.{PartyState, side_of_proxy, track_of}
 use Rattle.af_party.specs.Works.{CanWork, IsFitting, IsFittingOp, frames_due, frames_to_come, flushes_due, flushes_to_come}

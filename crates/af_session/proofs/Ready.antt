@@ -14,7 +14,8 @@ use Rattle.af_normal.specs.State.{NormalState, setup_of}
 use Rattle.af_normal.proofs.LegalLists.{get_set_same, get_set_other}
 use Rattle.af_script.specs.declared.op.Op.{Op}
 use Rattle.af_session.specs.FastTurns.{IsFastTurn, WritesCycle}
-use Rattle.af_session.specs.Met.{Met, proxies_of, spot_of}
+use Rattle.af_engine.specs.Met.{proxies_of, spot_of}
+use Rattle.af_session.specs.Met.{Met}
 use Rattle.af_party.specs.Parties.{PartyState}
 use Rattle.af_session.specs.Rounds.{Given, IsReady, end_party, file_at, ops_at, with_ends}
 use Rattle.af_tally.specs.Sound.{IsWhole}

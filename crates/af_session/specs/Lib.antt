@@ -3,7 +3,6 @@ pub mod Rounds
 pub mod Noted
 pub mod Together
 pub mod Met
-pub mod Shares
 pub mod NewTracks
 pub mod NewSession
 pub mod Shown

@@ -7,11 +7,9 @@ mod meetings;
 mod noting;
 mod parties;
 mod rounds;
-mod shared;
 mod tracks;
 
 pub use fast_turns::{fast_turn, is_mixed, mix_noted, push_written};
 pub use making::make;
 pub use noting::{copied_turn, know_frames};
 pub use parties::Parties;
-pub use shared::Shared;

@@ -1,139 +1,39 @@
 //! How a session is made of its script.
-ghost use Rattle.std.specs.Prelude.{◌≡◌, ◌*◌, ◌^◌, ◌≤◌, List, IfOk, All, length};
-ghost use Rattle.af_cblk.specs.Sides.{Made};
-ghost use Rattle.af_fast.specs.Mixer.{IsInOrder as IsFastInOrder, made_of};
+ghost use Rattle.std.specs.Prelude.{◌≡◌, IfOk};
 ghost use Rattle.af_link.specs.declared.links.Links.{Links};
-ghost use Rattle.af_normal.specs.Making.{AreNew, IsMade};
-ghost use Rattle.af_normal.specs.Order.{IsInOrder as IsNormalInOrder};
-ghost use Rattle.af_session.specs.NewSession.{AreNewEnds, IsNewSession};
-ghost use Rattle.af_session.specs.Shares.{AreLinksOf, SharedState};
+ghost use Rattle.af_engine.specs.declared.spec.MixerSpec.{MixerSpec};
+ghost use Rattle.af_engine.specs.Engines.{AreTogether as AreEndsTogether};
+ghost use Rattle.af_engine.specs.NewEngine.{IsNewEngine};
+ghost use Rattle.af_engine.specs.Shares.{AreLinksOf};
+ghost use Rattle.af_script.specs.Form.{IsScript};
+ghost use Rattle.af_session.specs.NewSession.{IsNewSession, IsSpecOf};
 ghost use Rattle.af_session.specs.Together.{AreTogether};
 
 use crate::parties::Parties;
-use crate::shared::Shared;
-use crate::tracks::new_tracks;
+use crate::tracks::{engine_tracks, new_clients};
 use af_base::Memory;
-use af_cblk::Block;
-use af_fast::FastMixer;
-use af_link::{
-    PipeIn, PipeOut, ReportCell, ReportReader, ReportWriter, StreamNames, pipe, report,
-    stream_names,
-};
-use af_normal::{NormalMixer, Tracks};
+use af_engine::{Engine, MakeError, MixerSpec, Shared};
 use af_script::Script;
-use af_server::Server;
-use af_stateq::{Mutator, Observer, Queue, queue};
 use std::alloc::Global;
 
-/// The ends of the queue, of the report and of the pipe: first the normal mixer's, then the fast mixer's.
-#[derive(Drop)]
-struct Ends {
-    mutator: Mutator<Server, StreamNames>,
-    reader: ReportReader,
-    from: PipeIn,
-    observer: Observer<Server, StreamNames>,
-    writer: ReportWriter,
-    to: PipeOut,
-}
-
-/// The queue, the pipe and the cell of the report, with the ends of both mixers.
-#[derive(Drop)]
-struct Joints {
-    queue: Queue<Server, StreamNames>,
-    pipe: Block,
-    report: ReportCell,
-    ends: Ends,
-}
-
-/// The two mixers of a session.
-#[derive(Drop)]
-struct Mixers {
-    normal: NormalMixer,
-    fast: FastMixer,
-}
-
-// The queue over these blocks of streams, the pipe and the report, for `frames` frames a fast cycle and `normal` cycles a buffer.
-fn join(alloc: Global, frames: u32, normal: u32, streams: &[Block]) -> Result<Joints, Memory>
-    requires { (1 ≤ frames) × (frames ≤ 1024) × (1 ≤ normal) × (normal ≤ 16) }
-    ensures { (commands : List Made) → IfOk result (λ j. AreNewEnds frames normal (record { queue = j.queue; streams = streams.now; commands = commands; pipe = j.pipe; report = j.report }) (record { mutator = j.ends.mutator; reader = j.ends.reader; from = j.ends.from; observer = j.ends.observer; writer = j.ends.writer; to = j.ends.to })) }
+// The ends of the mixer that a script asks for. Memory is its only refusal.
+fn make_ends(alloc: Global, script: &Script) -> Result<(Shared, Engine), Memory>
+    ensures script { IsScript script.now }
+    ensures new { IfOk result (λ r. (spec : MixerSpec) × IsSpecOf script.now spec × IsNewEngine spec r.0 r.1) }
+    ensures together { (links : Links) → IfOk result (λ r. AreLinksOf r.0 links → AreEndsTogether links r.1) }
 {
-    let report = report(alloc)?;
-    let pipe = pipe(alloc, 4 * (normal * frames))?;
-    let queue = queue::<Server, StreamNames>(alloc, frames, stream_names(streams))?;
-    Ok(Joints {
-        queue: queue.0,
-        pipe: pipe.0,
-        report: report.0,
-        ends: Ends {
-            mutator: queue.1,
-            reader: report.2,
-            from: pipe.1,
-            observer: queue.2,
-            writer: report.1,
-            to: pipe.2,
-        },
-    })
-}
-
-// The shared objects over these blocks, with the ends of both mixers, for `frames` frames a fast cycle and `normal` cycles a buffer.
-fn share(
-    alloc: Global,
-    frames: u32,
-    normal: u32,
-    streams: Vec<Block>,
-    commands: Vec<Block>,
-) -> Result<(Shared, Ends), Memory>
-    requires { (1 ≤ frames) × (frames ≤ 1024) × (1 ≤ normal) × (normal ≤ 16) }
-    ensures ends { IfOk result (λ r. AreNewEnds frames normal r.0 (record { mutator = r.1.mutator; reader = r.1.reader; from = r.1.from; observer = r.1.observer; writer = r.1.writer; to = r.1.to })) }
-    ensures blocks { IfOk result (λ r. (r.0.streams ≡ streams.items) × (r.0.commands ≡ commands.items)) }
-{
-    let joints = join(alloc, frames, normal, &streams)?;
-    let shared = Shared {
-        queue: joints.queue,
-        streams,
-        commands,
-        pipe: joints.pipe,
-        report: joints.report,
+    let tracks = engine_tracks(alloc, script.version(), script.tracks())?;
+    let spec = MixerSpec {
+        frames: script.frames(),
+        normal: script.normal(),
+        cycles: script.cycles(),
+        tracks: &tracks,
     };
-    Ok((shared, joints.ends))
-}
-
-// The mixers of these tracks over their ends, on which nothing was done.
-fn make_mixers(
-    alloc: Global,
-    frames: u32,
-    normal: u32,
-    cycles: u32,
-    tracks: Tracks,
-    ends: Ends,
-) -> Result<Mixers, Memory>
-    requires sizes { (1 ≤ frames) × (frames ≤ 1024) × (1 ≤ normal) × (normal ≤ 16) }
-    requires cycles { (1 ≤ cycles) × (cycles ≤ 100000) × (cycles * frames ≤ 2 ^ 21) }
-    requires count { (1 ≤ length tracks.settings) × (length tracks.settings ≤ 32) }
-    requires scales { All (λ setting. setting.scale ≤ 4096) tracks.settings }
-    requires ends { (shared : SharedState) × AreNewEnds frames normal shared (record { mutator = ends.mutator; reader = ends.reader; from = ends.from; observer = ends.observer; writer = ends.writer; to = ends.to }) }
-    ensures normal { IfOk result (λ m. IsMade frames normal tracks ends.mutator ends.reader ends.from m.normal) }
-    ensures fast { IfOk result (λ m. (m.fast ≡ made_of ends.observer ends.writer ends.to cycles frames) × IsFastInOrder m.fast) }
-    ensures order { (links : Links) → AreNew links frames normal tracks ends.mutator ends.reader ends.from → IfOk result (λ m. IsNormalInOrder links m.normal) }
-{
-    let fast = FastMixer::make(
-        alloc,
-        ends.observer,
-        ends.writer,
-        ends.to,
-        cycles as usize,
-        frames as usize,
-    )?;
-    let normal = NormalMixer::make(
-        alloc,
-        frames,
-        normal,
-        tracks,
-        ends.mutator,
-        ends.reader,
-        ends.from,
-    )?;
-    Ok(Mixers { normal, fast })
+    match af_engine::make(alloc, &spec) {
+        Ok(made) => Ok(made),
+        Err(MakeError::Memory) => Err(Memory),
+        Err(MakeError::Spec { .. }) => unreachable!(),
+    }
 }
 
 /// A session of a script, before its first turn: what its parties share, and the parties. Memory is its only refusal.
@@ -141,14 +41,17 @@ pub fn make(alloc: Global, script: &Script) -> Result<(Shared, Parties), Memory>
     ensures new { IfOk result (λ r. IsNewSession script.now r.0 r.1) }
     ensures together { (links : Links) → IfOk result (λ r. AreLinksOf r.0 links → AreTogether links r.1) }
 {
-    let (frames, normal, cycles) = (script.frames(), script.normal(), script.cycles());
-    let made = new_tracks(alloc, script.version(), script.tracks())?;
-    let (shared, ends) = share(alloc, frames, normal, made.streams, made.commands)?;
-    let mixers = make_mixers(alloc, frames, normal, cycles, made.tracks, ends)?;
+    let (shared, ends) = make_ends(alloc, script)?;
+    let Engine {
+        tracks,
+        normal,
+        fast,
+    } = ends;
+    let clients = new_clients(alloc, tracks)?;
     let parties = Parties {
-        clients: made.clients,
-        normal: mixers.normal,
-        fast: mixers.fast,
+        clients,
+        normal,
+        fast,
     };
     Ok((shared, parties))
 }

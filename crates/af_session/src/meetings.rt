@@ -1,92 +1,20 @@
 //! How all parties of a session meet.
-ghost use Rattle.std.specs.Prelude.{◌≡◌, ◌≢◌, ℕ, ◌<◌, length, slice_get, Some};
-ghost use Rattle.af_base.specs.Log.{slots};
-ghost use Rattle.af_cblk.specs.Sides.{client_made, hand_made};
-ghost use Rattle.af_client.specs.Order.{IsInOrder as IsClientInOrder};
+ghost use Rattle.std.specs.Prelude.{◌≡◌, ◌≢◌, ℕ, ◌<◌, length, Some};
+ghost use Rattle.af_engine.specs.Met.{proxies_of, slot_for, spot_of};
 ghost use Rattle.af_fast.specs.Mixer.{IsInOrder as IsFastInOrder, IsLinked};
 ghost use Rattle.af_normal.specs.Meeting.{AreClientsOf};
 ghost use Rattle.af_normal.specs.Order.{IsInOrder as IsNormalInOrder};
 ghost use Rattle.af_stateq.specs.Mutates.{at};
-ghost use Rattle.af_session.specs.Met.{EndsMet, MeetsAway, Met, TrackMet, item_at, proxies_of, slot_for, spot_of};
+ghost use Rattle.af_session.specs.Met.{Met, TrackMet};
 ghost use Rattle.af_session.specs.Together.{AreTogether};
 
-use af_base::{FastState, SLOTS, Steps};
-use af_client::Client;
+use af_base::Steps;
+use af_engine::{meet_ends, meet_track};
 use af_fast::FastMixer;
-use af_link::{Links, meet_flag};
-use af_model::carries_item;
-use af_normal::{NormalMixer, TrackHand};
+use af_link::Links;
+use af_normal::NormalMixer;
 use af_party::Party;
 use std::sync::ledger::Ledger;
-
-// The ends of the queue, of the report and of the pipe meet.
-fn meet_ends<L: Ledger>(
-    normal: &mut NormalMixer,
-    fast: &mut FastMixer,
-    links: &Links<'_>,
-    steps: &mut Steps<L>,
-)
-    requires normal { IsNormalInOrder links.now normal.old }
-    requires fast { IsFastInOrder fast.old × IsLinked links.now fast.old }
-    ensures normal { IsNormalInOrder links.now normal.new }
-    ensures fast { IsFastInOrder fast.new × IsLinked links.now fast.new }
-    ensures met { EndsMet normal.old normal.new fast.old fast.new }
-    ensures same { proxies_of normal.new fast.new ≡ proxies_of normal.old fast.old }
-{
-    normal.meet_queue(links, fast.observer(), steps);
-    normal.meet_ends(links, fast.pair(), steps);
-}
-
-// The slot in which a state carries the proxy of a track.
-fn slot_in(state: &FastState, track: u32) -> Option<u32>
-    ensures { result ≡ slot_for state.now track }
-{
-    for slot in 0..SLOTS {
-        if carries_item(state, slot) && state.slots[slot].track == track {
-            return Some(slot as u32);
-        }
-    }
-    None
-}
-
-// The slot in which the fast mixer's observer holds the proxy of a track.
-fn slot_held(fast: &mut FastMixer, track: u32) -> Option<u32>
-    requires order { IsFastInOrder fast.old }
-    ensures same { fast.new ≡ fast.old }
-    ensures slot { result ≡ slot_for fast.old.observer.past.state track }
-{
-    let observer = fast.observer();
-    let Some(state) = observer.current() else {
-        return None;
-    };
-    slot_in(state, track)
-}
-
-// The client of a stream whose proxy isn't home meets the proxy and the hand where the observer holds the proxy, and else the hand.
-fn meet_away<L: Ledger>(
-    track: u32,
-    fast: &mut FastMixer,
-    hand: &mut TrackHand,
-    stream: &mut Client,
-    links: &Links<'_>,
-    steps: &mut Steps<L>,
-)
-    requires fast { IsFastInOrder fast.old × IsLinked links.now fast.old }
-    requires stream { (slice_get links.now.streams.now track ≡ Some (client_made stream.old.pass)) × IsClientInOrder stream.old }
-    requires hand { hand_made hand.old ≡ client_made stream.old.pass }
-    ensures fast { IsFastInOrder fast.new × IsLinked links.now fast.new }
-    ensures stream { (client_made stream.new.pass ≡ client_made stream.old.pass) × IsClientInOrder stream.new }
-    ensures hand { hand_made hand.new ≡ hand_made hand.old }
-    ensures same { fast.new ≡ record fast.old { observer = record fast.old.observer { items = fast.new.observer.items } } }
-    ensures met { let slot = slot_for fast.old.observer.past.state track in MeetsAway (client_made stream.old.pass) (item_at fast.old.observer.items slot) hand.old stream.old (item_at fast.new.observer.items slot) hand.new stream.new }
-    ensures others { (k : ℕ) → slot_for fast.old.observer.past.state track ≢ Some k → at fast.new.observer.items k ≡ at fast.old.observer.items k }
-{
-    let Some(slot) = slot_held(fast, track) else {
-        meet_flag(stream, hand.flag(), &links.streams[track as usize], steps);
-        return;
-    };
-    fast.meet_held(links, slot, stream, hand.flag(), steps);
-}
 
 // The client of a track meets the proxies of its two blocks.
 fn meet_party<L: Ledger>(
@@ -115,13 +43,7 @@ fn meet_party<L: Ledger>(
         command,
         ..
     } = party;
-    if normal.meet_client(links, track, stream, command, steps) {
-        return;
-    }
-    let Some(hand) = normal.hand(track) else {
-        unreachable!()
-    };
-    meet_away(track, fast, hand, stream, links, steps);
+    meet_track(track, stream, command, normal, fast, links, steps);
 }
 
 /// All parties meet, as after each round: the two mixers at the queue, at the report and at the pipe, and then per track the client of the command block and its proxy, and the client of the stream block and its proxy, where that is home or the fast mixer holds it. A proxy on its way misses the meeting, and the client meets the track's hand alone.

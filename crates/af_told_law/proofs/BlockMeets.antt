@@ -17,7 +17,7 @@ use Rattle.af_runs.specs.Blocks.{BlockTold, HasBlockHistory, client_list, hand_l
 use Rattle.af_runs.specs.ClientTurns.{Side}
 use Rattle.af_runs.specs.Runs.{side_of}
 use Rattle.af_server.specs.Order.{ServerState}
-use Rattle.af_session.specs.Met.{MeetsFlag}
+use Rattle.af_engine.specs.Met.{MeetsFlag}
 use Rattle.af_told_law.specs.Tells.{TellsServer}
 use Rattle.af_told_law.proofs.KeptAlike.{met_alike}
 use Rattle.af_told_law.proofs.TameRuns.{lawful_before}

@@ -21,7 +21,7 @@ use Rattle.af_runs.specs.Sessions.{Session}
 use Rattle.af_server.specs.Order.{ServerState}
 use Rattle.af_stateq.specs.Mutates.{at}
 use Rattle.af_judge.proofs.SoundTurns.{welcomed_at}
-use Rattle.af_session.specs.Met.{slot_for}
+use Rattle.af_engine.specs.Met.{slot_for}
 use Rattle.af_session.specs.Together.{AreTogether, SessionState}
 use Rattle.af_told_law.specs.Between.{StandsBefore}
 use Rattle.af_told_law.specs.Comers.{ComersTell, ComesBy}

@@ -22,7 +22,7 @@ use Rattle.af_stateq.specs.Ends.{Polls, Pushes}
 use Rattle.af_stateq.specs.Laws.{pushed_states}
 use Rattle.af_stateq.specs.Mutates.{at}
 use Rattle.af_rendering.specs.Leads.{Leads}
-use Rattle.af_session.specs.Met.{slot_for}
+use Rattle.af_engine.specs.Met.{slot_for}
 use Rattle.af_session.specs.Together.{AreTogether, SessionState}
 use Rattle.af_rendering.proofs.NormalSteps.{turned_leads}
 use Rattle.af_rendering.proofs.QueueSeen.{SawUpTo, few_seen}

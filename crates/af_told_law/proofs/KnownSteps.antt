@@ -16,7 +16,7 @@ use Rattle.af_runs.specs.Told.{Item, QueueTold, is_look_at, observer_does, queue
 use Rattle.af_runs.specs.TurnRuns.{calls_alone, cycle_alone}
 use Rattle.af_script.specs.Data.{ScriptData}
 use Rattle.af_session.specs.NewSession.{IsNewSession}
-use Rattle.af_session.specs.Shares.{SharedState}
+use Rattle.af_engine.specs.Shares.{SharedState}
 use Rattle.af_session.specs.Together.{SessionState}
 use Rattle.af_base.specs.declared.frame.Frame.{Frame}
 use Rattle.af_runs.specs.LegalRuns.{session_of}

@@ -25,7 +25,8 @@ use Rattle.af_normal.specs.Mixing.{stream_at}
 use Rattle.af_party.specs.Parties.{PartyState}
 use Rattle.af_server.specs.Order.{ServerState}
 use Rattle.af_rendering.specs.Leads.{LeadAway}
-use Rattle.af_session.specs.Met.{MeetsAway, Met, SpotMet, TrackMet, item_at, proxies_of, slot_for, spot_of}
+use Rattle.af_engine.specs.Met.{MeetsAway, SpotMet, item_at, proxies_of, slot_for, spot_of}
+use Rattle.af_session.specs.Met.{Met, TrackMet}
 use Rattle.af_session.specs.Together.{AreTogether, SessionState}
 use Rattle.af_stateq.specs.Mutates.{at}
 use Rattle.af_told_law.specs.Sizes.{AreSmall}

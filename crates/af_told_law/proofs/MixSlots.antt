@@ -16,7 +16,7 @@ use Rattle.af_server.specs.Order.{IsInOrder, ServerState}
 use Rattle.af_stateq.specs.Mutates.{at}
 use Rattle.af_stateq.specs.Observes.{Observes}
 use Rattle.af_rendering.specs.Leads.{LeadAway}
-use Rattle.af_session.specs.Met.{slot_for}
+use Rattle.af_engine.specs.Met.{slot_for}
 use Rattle.af_session.specs.Together.{AreTogether, SessionState}
 use Rattle.af_told_law.proofs.SlotHeld.{found_carries, found_track, none_carries}
 

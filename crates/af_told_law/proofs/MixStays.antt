@@ -22,7 +22,7 @@ use Rattle.af_runs.specs.Sessions.{Session, cycle_frames}
 use Rattle.af_server.specs.Order.{ServerState}
 use Rattle.af_stateq.specs.Mutates.{at}
 use Rattle.af_stateq.specs.Observes.{Observes}
-use Rattle.af_session.specs.Met.{item_at, slot_for}
+use Rattle.af_engine.specs.Met.{item_at, slot_for}
 use Rattle.af_told_law.specs.Tells.{IfThere, TellsAway, TellsStream, items_sent, mutated_by}
 use Rattle.af_base.specs.declared.event.ServerEvent.{ServerEvent}
 use Rattle.af_told_law.specs.Deeds.{ServerDone, done_on}

@@ -29,7 +29,7 @@ use Rattle.af_server.specs.Order.{ServerState}
 use Rattle.af_stateq.specs.Mutates.{at}
 use Rattle.af_stateq.specs.Observes.{Observes}
 use Rattle.af_rendering.specs.Leads.{LeadAway}
-use Rattle.af_session.specs.Met.{is_slot_of, item_at, or_else, slot_below, slot_for}
+use Rattle.af_engine.specs.Met.{is_slot_of, item_at, or_else, slot_below, slot_for}
 use Rattle.af_session.specs.Together.{AreTogether, SessionState}
 use Rattle.af_told_law.specs.Alike.{TellAlike}
 use Rattle.af_told_law.specs.Tells.{SawTold, TellsAway, TellsServer, TellsStream, held_slot, is_coming, is_going, items_given, mutated_by}

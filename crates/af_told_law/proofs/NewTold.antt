@@ -23,9 +23,10 @@ use Rattle.af_script.specs.declared.op.Op.{Op}
 use Rattle.af_script.specs.declared.track.TrackSpec.{TrackSpec}
 use Rattle.af_server.specs.Order.{ServerState}
 use Rattle.af_session.specs.NewSession.{IsNewSession}
-use Rattle.af_session.specs.NewTracks.{IsNewServer, IsTrackAt}
+use Rattle.af_engine.specs.NewTracks.{IsNewServer}
+use Rattle.af_session.specs.NewTracks.{IsTrackAt}
 use Rattle.af_session.specs.Rounds.{file_at, ops_at, ops_of}
-use Rattle.af_session.specs.Shares.{SharedState}
+use Rattle.af_engine.specs.Shares.{SharedState}
 use Rattle.af_session.specs.Together.{SessionState}
 use Rattle.af_told_law.specs.Tells.{Tells, TellsCommands, TellsFast, TellsNormal, TellsServer, TellsShared, TellsStream, TellsTrack, given_of, marked_poll, reports_stored}
 use Rattle.af_told_law.proofs.KeptAlike.{same_alike}

@@ -12,7 +12,7 @@ use Rattle.af_runs.specs.Sessions.{setup_of}
 use Rattle.af_script.specs.Data.{ScriptData}
 use Rattle.af_script.specs.Ops.{power_above}
 use Rattle.af_session.specs.NewSession.{IsNewSession}
-use Rattle.af_session.specs.Shares.{SharedState}
+use Rattle.af_engine.specs.Shares.{SharedState}
 use Rattle.af_session.specs.Together.{SessionState}
 
 -- ## The least power of two that is not below a number

@@ -28,7 +28,7 @@ use Rattle.af_stateq.specs.Ends.{acknowledged, took}
 use Rattle.af_stateq.specs.Mutates.{at}
 use Rattle.af_stateq.specs.Observes.{IsSettled, Observes}
 use Rattle.af_rendering.specs.Leads.{LeadAway}
-use Rattle.af_session.specs.Met.{item_at, slot_for}
+use Rattle.af_engine.specs.Met.{item_at, slot_for}
 use Rattle.af_session.specs.Together.{AreTogether, SessionState}
 use Rattle.af_told_law.specs.Tells.{FindsLast, Tells, TellsAway, TellsServer, TellsStream, is_coming, is_going, items_given, items_sent, marked_poll, mutated_by, none_comes}
 use Rattle.af_told_law.proofs.PollTold.{marks_are, poll_told, stream_still}

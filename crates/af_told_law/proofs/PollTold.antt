@@ -23,7 +23,7 @@ use Rattle.af_server.specs.Order.{ServerState}
 use Rattle.af_stateq.specs.Answers.{sees_same}
 use Rattle.af_stateq.specs.Mutates.{at}
 use Rattle.af_stateq.specs.Observes.{Observes}
-use Rattle.af_session.specs.Met.{item_at, slot_for}
+use Rattle.af_engine.specs.Met.{item_at, slot_for}
 use Rattle.af_session.specs.Together.{SessionState}
 use Rattle.af_told_law.specs.Tells.{Tells, TellsAway, TellsStream, TellsTrack, held_slot, is_coming, is_going, items_given, marked_poll, mutated_by, none_comes, reports_stored}
 use Rattle.af_told_law.proofs.SharedMeets.{of_two, ones_two, twos_append, twos_two}

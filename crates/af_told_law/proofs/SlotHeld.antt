@@ -7,7 +7,7 @@ use Rattle.std.proofs.lemmas.List.Folds.{list_any-append}
 use Rattle.af_base.specs.declared.state.FastState.{FastState}
 use Rattle.af_base.specs.Log.{slots}
 use Rattle.af_model.specs.StateQueue.{carries, slot_of}
-use Rattle.af_session.specs.Met.{is_slot_of, or_else, slot_below, slot_for}
+use Rattle.af_engine.specs.Met.{is_slot_of, or_else, slot_below, slot_for}
 
 pub range_end : (a n : ℕ) → range_with_len a (suc n) ≡ range_with_len a n ++ (a + n) ∷ []
 range_end a zero = ap (λ (k : ℕ). k ∷ []) (omega arith)

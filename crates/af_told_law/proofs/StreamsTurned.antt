@@ -29,7 +29,7 @@ use Rattle.af_runs.specs.Sessions.{Session, cycle_frames, setup_of}
 use Rattle.af_runs.specs.Told.{is_pushed}
 use Rattle.af_server.specs.Order.{ServerState}
 use Rattle.af_stateq.specs.Mutates.{at}
-use Rattle.af_session.specs.Met.{item_at}
+use Rattle.af_engine.specs.Met.{item_at}
 use Rattle.af_session.specs.Together.{AreTogether, SessionState}
 use Rattle.af_told_law.specs.Between.{StandsBefore}
 use Rattle.af_told_law.specs.Comers.{ComersTell}

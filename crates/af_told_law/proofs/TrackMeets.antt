@@ -28,7 +28,8 @@ use Rattle.af_runs.specs.Runs.{Run, met, side_of, stream_met, takes_part, told_a
 use Rattle.af_runs.specs.Sessions.{Session, track_count}
 use Rattle.af_server.specs.Order.{ServerState}
 use Rattle.af_stateq.specs.Mutates.{at}
-use Rattle.af_session.specs.Met.{Met, MeetsAway, MeetsFlag, SpotMet, TrackMet, item_at, proxies_of, slot_for, spot_of}
+use Rattle.af_engine.specs.Met.{MeetsAway, MeetsFlag, SpotMet, item_at, proxies_of, slot_for, spot_of}
+use Rattle.af_session.specs.Met.{Met, TrackMet}
 use Rattle.af_session.specs.Rounds.{ops_at}
 use Rattle.af_session.specs.Together.{AreTogether, SessionState}
 use Rattle.af_told_law.specs.Tells.{IfThere, Tells, TellsAway, TellsCommands, TellsServer, TellsStream, TellsTrack, given_of, held_slot, is_coming, is_going, items_given, items_sent, mutated_by, none_comes}

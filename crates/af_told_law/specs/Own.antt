@@ -7,7 +7,7 @@ use Rattle.af_model.specs.Spelled.{AllSeeOwn}
 use Rattle.af_normal.specs.Mixing.{stream_at}
 use Rattle.af_party.specs.Parties.{PartyState}
 use Rattle.af_server.specs.Order.{ServerState}
-use Rattle.af_session.specs.Met.{item_at, slot_for}
+use Rattle.af_engine.specs.Met.{item_at, slot_for}
 use Rattle.af_session.specs.Together.{SessionState}
 
 -- each front that the proxy saw is its own

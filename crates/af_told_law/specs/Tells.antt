@@ -28,7 +28,7 @@ use Rattle.af_server.specs.Order.{ServerState}
 use Rattle.af_stateq.specs.Ends.{acknowledged, took}
 use Rattle.af_stateq.specs.Laws.{pushed_states}
 use Rattle.af_stateq.specs.Mutates.{at}
-use Rattle.af_session.specs.Met.{item_at, slot_for}
+use Rattle.af_engine.specs.Met.{item_at, slot_for}
 use Rattle.af_session.specs.Rounds.{Given, file_at, ops_at}
 use Rattle.af_session.specs.Together.{SessionState}
 use Rattle.af_base.specs.declared.event.ServerEvent.{ServerEvent}

@@ -4,10 +4,12 @@ use Rattle.af_base.specs.declared.state.FastState.{FastState}
 use Rattle.af_fast.specs.Mixer.{MixerState}
 use Rattle.af_normal.specs.Meeting.{AreClientsOf}
 use Rattle.af_normal.specs.State.{NormalState}
-use Rattle.af_session.specs.Met.{Proxies, TracksMet, proxies_of}
+use Rattle.af_engine.specs.Met.{Proxies, TracksMet, proxies_of}
+use Rattle.af_session.specs.Met.{TrackMet}
 use Rattle.af_party.specs.Parties.{PartyState}
-use Rattle.af_session.proofs.EndsMeet.{still_met}
-use Rattle.af_session.proofs.MetTracks.{items_by_number, met_by_number, one_met, others_by_number, still_together}
+use Rattle.af_engine.proofs.EndsMeet.{still_met}
+use Rattle.af_engine.proofs.MetTracks.{items_by_number, met_by_number, one_met, others_by_number}
+use Rattle.af_session.proofs.MetTracks.{still_together}
 use Rattle.af_session.proofs.meetings.meet.Goals as goal
 
 pub meet_party-requires-clause-party : goal.meet_party-requires-clause-party
@@ -50,7 +52,7 @@ loop-i-preserved g c =
     let x : FastState = f.observer.past.state in
     let y : FastState = f0.observer.past.state in
     let state : x ≡ y = ap (λ (z : MixerState). z.observer.past.state) so_far.same_fast in
-    let here = met_by_number x y p.track i (proxies_of m f) (proxies_of n h) p q state track done.met in
+    let here = met_by_number TrackMet x y p.track i (proxies_of m f) (proxies_of n h) p q state track done.met in
     let others = others_by_number x y p.track i (proxies_of m f) (proxies_of n h) state track done.others in
     let items = items_by_number x y p.track i f.observer.items h.observer.items state track done.items in
     record {
@@ -58,7 +60,7 @@ loop-i-preserved g c =
           (subst (λ (k : ℕ). AreClientsOf c.args.links.now k q.stream q.command) track done.party);
       same_normal = done.same_normal ∙ ap (λ (z : NormalState). record z { streams = n.streams; commands = n.commands; hands = n.hands }) so_far.same_normal;
       same_fast = done.same_fast ∙ ap (λ (z : MixerState). record z { observer = record z.observer { items = h.observer.items } }) so_far.same_fast;
-      met = one_met y i c.args.clients.now clients (proxies_of m0 f0) (proxies_of m f) (proxies_of n h) p q so_far.met is here others items;
+      met = one_met TrackMet y i c.args.clients.now clients (proxies_of m0 f0) (proxies_of m f) (proxies_of n h) p q so_far.met is here others items;
     }
 
 pub returns-clause-met : goal.returns-clause-met
@@ -71,5 +73,5 @@ returns-clause-met g c =
     let state : f0.observer.past.state ≡ c.args.fast.now.observer.past.state = ap (λ (z : MixerState). z.observer.past.state) ends.met.fast in
     record {
       ends = still_met c.args.normal.now m0 c.loop-i.normal c.args.fast.now f0 c.loop-i.fast ends.met so_far.same_normal so_far.same_fast;
-      tracks = subst (λ (z : FastState × ℕ × Proxies). TracksMet z.0 z.1 c.args.clients.now c.loop-i.clients z.2 (proxies_of c.loop-i.normal c.loop-i.fast)) (λ j. (state j, all j, ends.same j)) so_far.met;
+      tracks = subst (λ (z : FastState × ℕ × Proxies). TracksMet TrackMet z.0 z.1 c.args.clients.now c.loop-i.clients z.2 (proxies_of c.loop-i.normal c.loop-i.fast)) (λ j. (state j, all j, ends.same j)) so_far.met;
     }

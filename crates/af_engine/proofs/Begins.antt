@@ -1,0 +1,183 @@
+-- The ends of a new mixer: they are new, in order, and belong together.
+use Rattle.std.proofs.Common.{◌≡◌, ℕ, zero, suc, ◌<◌, ◌≤◌, true, false, List, [], ◌∷◌, length, map, replicate, Option, Some, refl, sym, ap, ◌∙◌, subst, arith}
+use Rattle.std.specs.Prelude.{All, slice_get, unwrap_or}
+use Rattle.std.proofs.lemmas.List.{length-replicate}
+use Rattle.std.proofs.lemmas.List.Elements.{All-map}
+use Rattle.std.proofs.lemmas.Option.{slice_get_within}
+use Rattle.af_cblk.specs.Sides.{Made}
+use Rattle.af_cblk.specs.declared.view.ClientPart.{ClientPart}
+use Rattle.af_server.specs.Order.{ServerState}
+use Rattle.af_link.specs.Linked.{AreLinked}
+use Rattle.af_link.specs.Names.{IsStreamOf}
+use Rattle.af_link.specs.PipeEnds.{out_made}
+use Rattle.af_link.specs.declared.links.Links.{Links}
+use Rattle.af_fast.specs.Mixer.{MixerState, made_of, IsLinked, IsInOrder as IsFastInOrder}
+use Rattle.af_life.specs.declared.kept.Setting.{Setting}
+use Rattle.af_life.specs.Kept.{new_track, new_normal}
+use Rattle.af_normal.specs.Making.{TrackList, IsMade, AreNew}
+use Rattle.af_normal.specs.Meeting.{AreClientsOf}
+use Rattle.af_normal.specs.Mixing.{stream_at}
+use Rattle.af_normal.specs.Order.{IsInOrder as IsNormalInOrder}
+use Rattle.af_normal.specs.State.{NormalState, setup_of as setup_in, kept_of}
+use Rattle.af_engine.specs.declared.ends.TrackEnds.{TrackEnds}
+use Rattle.af_engine.specs.declared.spec.EngineTrack.{EngineTrack}
+use Rattle.af_engine.specs.declared.spec.MixerSpec.{MixerSpec}
+use Rattle.af_engine.specs.Engines.{EngineState, AreTogether}
+use Rattle.af_engine.specs.MixerSpecs.{IsEngineTrack, setting_of, setup_of}
+use Rattle.af_engine.specs.NewEnds.{EndStates, AreNewEnds, ends_of}
+use Rattle.af_engine.specs.NewEngine.{IsNewEngine, tracks_of}
+use Rattle.af_engine.specs.NewTracks.{AreNewTracks, IsNewTrack}
+use Rattle.af_engine.specs.Shares.{SharedState, AreLinksOf}
+
+same_one : {X : Type 0} (x y : X) → Some x ≡ Some y → x ≡ y
+same_one x y e = ap (λ (o : Option _). unwrap_or o x) e
+
+-- ## The settings
+
+-- the settings are those of the specs, where they are so place by place
+settings_by : (xs : List Setting) (specs : List EngineTrack) → length xs ≡ length specs
+    → ((i : ℕ) → i < length specs → (spec : EngineTrack) × (slice_get specs i ≡ Some spec) × (slice_get xs i ≡ Some (setting_of spec))) → xs ≡ map setting_of specs
+settings_by [] [] long each = refl
+settings_by [] (s ∷ specs) long each = absurd (omega arith)
+settings_by (x ∷ xs) [] long each = absurd (omega arith)
+settings_by (x ∷ xs) (s ∷ specs) long each =
+    let first = each 0 (omega arith) in
+    let head : x ≡ setting_of s = same_one x (setting_of first.0) first.2 ∙ ap setting_of (same_one first.0 s (sym first.1)) in
+    let rest : xs ≡ map setting_of specs = settings_by xs specs (omega arith) (λ i lt. let there = each (suc i) (omega arith) in (there.0, there.1, there.2)) in
+    λ i. head i ∷ rest i
+
+pub settings_are : (specs : List EngineTrack) (streams commands : List Made) (clients : List TrackEnds) (tracks : TrackList) → AreNewTracks IsNewTrack (length specs) specs streams commands clients tracks → tracks.settings ≡ map setting_of specs
+settings_are specs streams commands clients tracks ts =
+    settings_by tracks.settings specs ts.lists.0 (λ i lt. let one = ts.each i lt in (one.spec, one.spec_at, one.setting_at ∙ ap (λ (s : Setting). Some s) one.new.setting_is))
+
+-- no scale is above 1
+pub scales_fit : (specs : List EngineTrack) (settings : List Setting) → settings ≡ map setting_of specs → All IsEngineTrack specs → All (λ (s : Setting). s.scale ≤ 4096) settings
+scales_fit specs settings same each = subst (All (λ (s : Setting). s.scale ≤ 4096)) (sym same) (All-map (λ (s : Setting). s.scale ≤ 4096) setting_of specs (λ k d lt. (each k d lt).scale))
+
+-- ## The proxies
+
+-- the track at a place where there is a stream proxy
+within : (streams : List (Option ServerState)) (i : ℕ) (s : ServerState) → stream_at streams i ≡ Some s → i < length streams
+within [] i s here = absurd (cc)
+within (x ∷ streams) zero s here = omega arith
+within (x ∷ streams) (suc i) s here = let rest = within streams i s here in omega arith
+
+module _ (specs : List EngineTrack) (shared : SharedState) (clients : List TrackEnds) (tracks : TrackList) (ts : AreNewTracks IsNewTrack (length specs) specs shared.streams shared.commands clients tracks) (links : Links) (l : AreLinksOf shared links) where
+  -- the stream proxies are of the links' blocks, and have their hands
+  streams_of : (i : ℕ) (s : ServerState) → stream_at tracks.streams i ≡ Some s → IsStreamOf links.streams.now i s × (s.pass.has_hand ≡ true)
+  streams_of i s here =
+      let one = ts.each i (omega (arith, within tracks.streams i s here, ts.lists.1)) in
+      let line = one.new.stream_line in
+      let is : one.setup.stream ≡ s = same_one one.setup.stream s (sym one.proxy_at ∙ here) in
+      let P : ServerState → Type 0 = λ x. IsStreamOf links.streams.now i x × (x.pass.has_hand ≡ true) in
+      subst P is (record { made = ap (λ (b : List Made). slice_get b i) l.streams_are ∙ one.stream_at_place ∙ ap (λ (b : Made). Some b) (sym line.server_is.0); in_order = line.server_is.1 }, line.server_new.whole)
+
+  commands_of : (i : ℕ) (s : ServerState) → slice_get tracks.commands i ≡ Some s → IsStreamOf links.commands.now i s
+  commands_of i s here =
+      let one = ts.each i (omega (arith, slice_get_within tracks.commands i s here, ts.lists.2)) in
+      let line = one.new.command_line in
+      let is : one.setup.command ≡ s = same_one one.setup.command s (sym one.control_at ∙ here) in
+      subst (IsStreamOf links.commands.now i) is (record { made = ap (λ (b : List Made). slice_get b i) l.commands_are ∙ one.command_at ∙ ap (λ (b : Made). Some b) (sym line.server_is.0); in_order = line.server_is.1 })
+
+  -- the client of each track has its place, and the proxies of its two blocks
+  clients_of : (i : ℕ) (p : TrackEnds) → slice_get clients i ≡ Some p → (p.track ≡ i) × AreClientsOf links i p.stream p.command
+  clients_of i p here =
+      let one = ts.each i (omega (arith, slice_get_within clients i p here, ts.parties)) in
+      let stream = one.new.stream_line in
+      let command = one.new.command_line in
+      let is : one.party ≡ p = same_one one.party p (sym one.party_at ∙ here) in
+      let P : TrackEnds → Type 0 = λ x. (x.track ≡ i) × AreClientsOf links i x.stream x.command in
+      subst P is (
+        one.new.place_is,
+        record {
+          stream_is = ap (λ (b : List Made). slice_get b i) l.streams_are ∙ one.stream_at_place ∙ ap (λ (b : Made). Some b) (sym stream.client_is.0);
+          command_is = ap (λ (b : List Made). slice_get b i) l.commands_are ∙ one.command_at ∙ ap (λ (b : Made). Some b) (sym command.client_is.0);
+          in_order = (stream.client_is.1, command.client_is.1);
+        },
+      )
+
+  -- ## The mixers
+
+  module _ (frames normal : ℕ) (e : EndStates) (ends : AreNewEnds frames normal shared e) where
+    pub are_new : AreNew links frames normal tracks e.mutator e.reader e.from
+    are_new = record {
+      names = ends.names;
+      mutator_is = ends.mutator;
+      linked = record {
+        names = (ends.names, ends.mutator.has_key, ends.names_are ∙ sym l.streams_are);
+        queue_is = ends.ends.queue_is.0 ∙ sym l.queue_is;
+        report_is = ends.ends.report_is.0 ∙ sym l.report_is;
+        pipe_is = ends.ends.pipe_is.0 ∙ sym l.pipe_is;
+      };
+      streams_of = λ i s here. (streams_of i s here).0;
+      hands_of = λ i s here. (streams_of i s here).1;
+      commands_of = commands_of;
+      pipe_is = ap (λ (k : ClientPart). k.shape.frames) ends.from.0 ∙ ends.pipe.0;
+    }
+
+    fast_linked : AreLinked links e.observer.past.key e.observer.past.queue e.writer.cell (out_made e.to)
+    fast_linked = record {
+      names = (ends.names, ends.observer.0.has_key, ends.names_are ∙ sym l.streams_are);
+      queue_is = ends.ends.queue_is.1 ∙ sym l.queue_is;
+      report_is = ends.ends.report_is.1 ∙ sym l.report_is;
+      pipe_is = ends.ends.pipe_is.1 ∙ sym l.pipe_is;
+    }
+
+    -- ## All parties
+
+    pub together : (cycles : ℕ) (m : NormalState) (f : MixerState) → IsMade frames normal tracks e.mutator e.reader e.from m → IsNormalInOrder links m → f ≡ made_of e.observer e.writer e.to cycles frames → IsFastInOrder f
+        → AreTogether links (record { tracks = clients; normal = m; fast = f })
+    together cycles m f made in_order fast fast_order = record {
+      normal = in_order;
+      fast = (fast_order, subst (IsLinked links) (sym fast) fast_linked);
+      count = ts.parties ∙ sym (ap (λ (x : NormalState). length x.tracks) made.is ∙ length-replicate (length tracks.settings) new_track ∙ ts.lists.0);
+      tracks = λ i p here. (clients_of i p here).0;
+      clients = λ i p here. (clients_of i p here).1;
+    }
+
+module _ (spec : MixerSpec) (shared : SharedState) (clients : List TrackEnds) (tracks : TrackList) (e : EndStates) (m : NormalState) (f : MixerState)
+    (ts : AreNewTracks IsNewTrack (length spec.tracks.now) spec.tracks.now shared.streams shared.commands clients tracks) (ends : AreNewEnds spec.frames spec.normal shared e)
+    (made : IsMade spec.frames spec.normal tracks e.mutator e.reader e.from m) (fast : f ≡ made_of e.observer e.writer e.to spec.cycles spec.frames) where
+  abbrev engine : EngineState
+  engine = record { tracks = clients; normal = m; fast = f }
+
+  settings_same : tracks.settings ≡ map setting_of spec.tracks.now
+  settings_same = settings_are spec.tracks.now shared.streams shared.commands clients tracks ts
+
+  tracks_same : tracks ≡ tracks_of spec m
+  tracks_same =
+      let streams : tracks.streams ≡ m.streams = sym (ap (λ (x : NormalState). x.streams) made.is) in
+      let commands : tracks.commands ≡ m.commands = sym (ap (λ (x : NormalState). x.commands) made.is) in
+      λ i. record { settings = settings_same i; streams = streams i; commands = commands i }
+
+  ends_same : e ≡ ends_of m f
+  ends_same =
+      let mutator : e.mutator ≡ m.mutator = sym (ap (λ (x : NormalState). x.mutator) made.is) in
+      let reader : e.reader ≡ m.reader = sym (ap (λ (x : NormalState). x.reader) made.is) in
+      let from : e.from ≡ m.pipe = sym (ap (λ (x : NormalState). x.pipe) made.is) in
+      let observer : e.observer ≡ f.observer = sym (ap (λ (x : MixerState). x.observer) fast) in
+      let writer : e.writer ≡ f.writer = sym (ap (λ (x : MixerState). x.writer) fast) in
+      let to : e.to ≡ f.pipe = sym (ap (λ (x : MixerState). x.pipe) fast) in
+      λ i. record { mutator = mutator i; reader = reader i; from = from i; observer = observer i; writer = writer i; to = to i }
+
+  setup_same : setup_in m ≡ setup_of spec
+  setup_same =
+      let there : setup_in m ≡ record { frames = spec.frames; normal = spec.normal; settings = tracks.settings } = ap setup_in made.is in
+      there ∙ (λ i. record { frames = spec.frames; normal = spec.normal; settings = settings_same i })
+
+  kept_same : kept_of m ≡ new_normal (setup_of spec)
+  kept_same =
+      let new = ends.mutator in
+      let many : replicate (length tracks.settings) new_track ≡ replicate (length (map setting_of spec.tracks.now)) new_track = ap (λ (xs : List Setting). replicate (length xs) new_track) settings_same in
+      let there : kept_of m ≡ record { tracks = replicate (length tracks.settings) new_track; draft = e.mutator.draft; dirty = e.mutator.dirty; pushed = e.mutator.past.number; last = e.mutator.past.last; ended = false } = ap kept_of made.is in
+      there ∙ (λ i. record { tracks = many i; draft = new.begins.2 i; dirty = new.idle.0 i; pushed = new.silent.0 i; last = new.begins.1 i; ended = false })
+
+  pub new_engine : IsNewEngine spec shared engine
+  new_engine = record {
+    tracks = subst (AreNewTracks IsNewTrack (length spec.tracks.now) spec.tracks.now shared.streams shared.commands clients) tracks_same ts;
+    ends = subst (AreNewEnds spec.frames spec.normal shared) ends_same ends;
+    normal = subst (λ (x : TrackList × EndStates). IsMade spec.frames spec.normal x.0 x.1.mutator x.1.reader x.1.from m) (λ i. (tracks_same i, ends_same i)) made;
+    setup = setup_same;
+    kept = kept_same;
+    fast = subst (λ (x : EndStates). f ≡ made_of x.observer x.writer x.to spec.cycles spec.frames) ends_same fast;
+  }

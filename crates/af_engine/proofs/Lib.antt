@@ -1,0 +1,9 @@
+pub mod Specs
+pub mod NewLines
+pub mod MoreTracks
+pub mod Begins
+pub mod EndsMeet
+pub mod MetSlots
+pub mod MetAway
+pub mod MetSpot
+pub mod MetTracks

@@ -1,0 +1,107 @@
+-- The slot in which a state carries the proxy of a track.
+use Rattle.std.proofs.Common.{◌≡◌, ◌≢◌, ℕ, zero, suc, ◌<◌, ◌≤◌, ◌==◌, ◌⊎◌, inl, inr, Bool, true, false, true≢false, if◌then◌else◌, List, Option, Some, None, refl, sym, ap, subst, ◌∙◌, ⊎_elim, arith}
+use Rattle.std.proofs.lemmas.Bool.{and_from, and_left, and_parts, cases_eq, eq-eqb, eqb-true}
+use Rattle.std.proofs.lemmas.Option.{none-some, same_Some}
+use Rattle.af_base.specs.declared.state.FastState.{FastState}
+use Rattle.af_base.specs.Log.{slots}
+use Rattle.af_fast.specs.Mixer.{CarriesNone}
+use Rattle.af_model.specs.StateQueue.{carries, slot_of}
+use Rattle.af_server.specs.Order.{ServerState}
+use Rattle.af_stateq.specs.Mutates.{at}
+use Rattle.af_engine.specs.Met.{is_slot_of, item_at, or_else, slot_below, slot_for}
+
+module _ (x : FastState) (track : ℕ) where
+  by_last : (n k : ℕ) (o : Option ℕ) (b : Bool) → slot_below x track n ≡ o → is_slot_of x track n ≡ b → or_else o (if b then Some n else None) ≡ Some k
+      → (slot_below x track n ≡ Some k) ⊎ ((n ≡ k) × (is_slot_of x track n ≡ true))
+  by_last n k (Some j) b found here is = inl (found ∙ is)
+  by_last n k None true found here is = inr (same_Some n k is, here)
+  by_last n k None false found here is = absurd (none-some k is)
+
+  below_or_last : (n k : ℕ) → (slot_below x track n ≡ Some k → (k < n) × (is_slot_of x track k ≡ true)) → (slot_below x track n ≡ Some k) ⊎ ((n ≡ k) × (is_slot_of x track n ≡ true)) → (k < suc n) × (is_slot_of x track k ≡ true)
+  below_or_last n k before (inl found) = let b = before found in (omega (arith, b.0), b.1)
+  below_or_last n k before (inr here) = (omega (arith, here.0), subst (λ (j : ℕ). is_slot_of x track j ≡ true) here.0 here.1)
+
+  -- what is found among so many slots lies among them and carries the track
+  below_is : (n k : ℕ) → slot_below x track n ≡ Some k → (k < n) × (is_slot_of x track k ≡ true)
+  below_is zero k is = absurd (none-some k is)
+  below_is (suc n) k is = below_or_last n k (below_is n k) (by_last n k (slot_below x track n) (is_slot_of x track n) refl refl is)
+
+  or_before : (n k j : ℕ) → slot_below x track k ≡ Some j → (slot_below x track (suc n) ≡ Some j) ⊎ (k ≤ n) → (k ≤ n → slot_below x track n ≡ Some j) → slot_below x track (suc n) ≡ Some j
+  or_before n k j found (inl e) before = e
+  or_before n k j found (inr le) before = ap (λ (o : Option ℕ). or_else o (if is_slot_of x track n then Some n else None)) (before le)
+
+  at_end : (n k j : ℕ) → slot_below x track k ≡ Some j → k ≤ suc n → (k ≡ suc n) ⊎ (k ≡ suc n → ⊥) → (slot_below x track (suc n) ≡ Some j) ⊎ (k ≤ n)
+  at_end n k j found le (inl e) = inl (subst (λ (m : ℕ). slot_below x track m ≡ Some j) e found)
+  at_end n k j found le (inr ne) = inr (omega (arith, le, ne))
+
+  -- and it is found among more slots
+  below_stays : (n k j : ℕ) → slot_below x track k ≡ Some j → k ≤ n → slot_below x track n ≡ Some j
+  below_stays zero k j found le = subst (λ (m : ℕ). slot_below x track m ≡ Some j) (let e : k ≡ 0 = omega arith in e) found
+  below_stays (suc n) k j found le = or_before n k j found (at_end n k j found le (cases_eq k (suc n))) (λ fits. below_stays n k j found fits)
+
+  -- one slot more, which carries it or not
+  pub none_more : (k : ℕ) → slot_below x track k ≡ None → is_slot_of x track k ≡ false → slot_below x track (suc k) ≡ None
+  none_more k none not = λ i. or_else (none i) (if not i then Some k else None)
+
+  found_more : (k : ℕ) → slot_below x track k ≡ None → is_slot_of x track k ≡ true → slot_below x track (suc k) ≡ Some k
+  found_more k none carried = λ i. or_else (none i) (if carried i then Some k else None)
+
+  pub found_at : (k : ℕ) → k < slots → slot_below x track k ≡ None → is_slot_of x track k ≡ true → slot_for x track ≡ Some k
+  unfolding slot_for
+  found_at k lt none carried = below_stays slots (suc k) k (found_more k none carried) (omega (arith, lt))
+
+  pub none_found : slot_below x track slots ≡ None → slot_for x track ≡ None
+  unfolding slot_for
+  none_found none = none
+
+  -- the slot that is found carries the track
+  pub slot_is : (k : ℕ) → slot_for x track ≡ Some k → (k < slots) × (carries x k ≡ true) × ((slot_of x k).track ≡ track)
+  unfolding slot_for
+  slot_is k is = let b = below_is slots k is in let parts = and_parts (carries x k) ((slot_of x k).track == track) b.1 in
+      (b.0, parts.0, eqb-true (slot_of x k).track track parts.1)
+
+  none_of : (n k : ℕ) (o : Option ℕ) (b : Bool) → slot_below x track n ≡ o → is_slot_of x track n ≡ b → or_else o (if b then Some n else None) ≡ None → (slot_below x track n ≡ None) × (is_slot_of x track n ≡ false)
+  none_of n k (Some j) b found here is = absurd (none-some j (sym is))
+  none_of n k None true found here is = absurd (none-some n (sym is))
+  none_of n k None false found here is = (found, here)
+
+  none_at : (n k : ℕ) → slot_below x track n ≡ None → k < n → is_slot_of x track k ≡ false
+  none_at zero k none lt = absurd (omega (arith, lt))
+  none_at (suc n) k none lt =
+      let before = none_of n k (slot_below x track n) (is_slot_of x track n) refl refl none in
+      ⊎_elim (λ (e : k ≡ n). subst (λ (j : ℕ). is_slot_of x track j ≡ false) (sym e) before.1) (λ (ne : k ≢ n). none_at n k before.0 (omega (arith, lt, ne))) (cases_eq k n)
+
+  -- where none is found no slot carries the track
+  pub none_there : slot_for x track ≡ None → (k : ℕ) → k < slots → is_slot_of x track k ≡ false
+  unfolding slot_for
+  none_there none k lt = none_at slots k none lt
+
+  only_by : (k : ℕ) (o : Option ℕ) → slot_for x track ≡ o → k < slots → is_slot_of x track k ≡ true → ((j : ℕ) → j < slots → is_slot_of x track j ≡ true → j ≡ k) → slot_for x track ≡ Some k
+  only_by k None is lt carried only = absurd (true≢false (sym carried ∙ none_there is k lt))
+  only_by k (Some j) is lt carried only = let s = slot_is j is in is ∙ ap (λ (n : ℕ). Some n) (only j s.0 (and_from (carries x j) ((slot_of x j).track == track) s.1 (eq-eqb (slot_of x j).track track s.2)))
+
+  -- a slot that alone carries it is found
+  pub only_slot : (k : ℕ) → k < slots → is_slot_of x track k ≡ true → ((j : ℕ) → j < slots → is_slot_of x track j ≡ true → j ≡ k) → slot_for x track ≡ Some k
+  only_slot k lt carried only = only_by k (slot_for x track) refl lt carried only
+
+  none_below : CarriesNone x → (n : ℕ) → n ≤ slots → slot_below x track n ≡ None
+  none_below none zero le = refl
+  none_below none (suc n) le = none_more n (none_below none n (omega (arith, le))) (and_left (carries x n) ((slot_of x n).track == track) (none n (omega (arith, le))))
+
+  -- a state that carries nothing has no slot for it
+  pub none_carried : CarriesNone x → slot_for x track ≡ None
+  unfolding slot_for
+  none_carried none = none_below none slots (omega arith)
+
+-- no slot is that of two tracks
+pub one_track : (x : FastState) (i j k : ℕ) → slot_for x i ≡ Some k → slot_for x j ≡ Some k → i ≡ j
+one_track x i j k is_i is_j = sym (slot_is x i k is_i).2 ∙ (slot_is x j k is_j).2
+
+module _ (x : FastState) (i : ℕ) (items items' : List (Option ServerState)) (others : (k : ℕ) → slot_for x i ≢ Some k → at items' k ≡ at items k) where
+  by_slot : (j : ℕ) → j ≢ i → (o : Option ℕ) → slot_for x j ≡ o → item_at items' o ≡ item_at items o
+  by_slot j ne None is = refl
+  by_slot j ne (Some k) is = others k (λ e. ne (one_track x j i k is e))
+
+  -- where only the item of one track changed, that of any other stays
+  pub held_other : (j : ℕ) → j ≢ i → item_at items' (slot_for x j) ≡ item_at items (slot_for x j)
+  held_other j ne = by_slot j ne (slot_for x j) refl

@@ -1,0 +1,119 @@
+-- One track more, each with its parts at its place.
+use Rattle.std.proofs.Common.{◌≡◌, ℕ, zero, suc, ◌+◌, ◌<◌, ◌⊎◌, inl, inr, List, [], ◌∷◌, ◌++◌, length, Some, None, refl, sym, ap, ◌∙◌, subst, arith}
+use Rattle.std.specs.Prelude.{slice_get}
+use Rattle.std.proofs.lemmas.Bool.{cases_eq}
+use Rattle.std.proofs.lemmas.List.{length-append, get_or_append_left, get_or_at}
+use Rattle.af_cblk.specs.Sides.{Made}
+use Rattle.af_normal.specs.Making.{TrackList, setting_of, with_track}
+use Rattle.af_normal.specs.declared.make.TrackSetup.{TrackSetup}
+use Rattle.af_engine.specs.NewTracks.{IsTrackAt, AreNewTracks}
+
+-- no tracks
+pub no_tracks : {S P : Type 0} (New : ℕ → S → Made → Made → P → TrackSetup → Type 0) (specs : List S) (streams commands : List Made) (clients : List P) (tracks : TrackList) → streams ≡ [] → commands ≡ [] → clients ≡ [] → tracks ≡ record { settings = []; streams = []; commands = [] }
+    → AreNewTracks New 0 specs streams commands clients tracks
+no_tracks New specs streams commands clients tracks no_streams no_commands no_clients none = record {
+  blocks = (ap (λ (xs : List Made). length xs) no_streams, ap (λ (xs : List Made). length xs) no_commands);
+  parties = ap (λ (xs : List _). length xs) no_clients;
+  lists = (ap (λ (t : TrackList). length t.settings) none, ap (λ (t : TrackList). length t.streams) none, ap (λ (t : TrackList). length t.commands) none);
+  each = λ i lt. absurd (omega (arith, lt));
+}
+
+-- the last of a list
+pub at_last : {X : Type 0} (xs : List X) (x : X) (n : ℕ) → length xs ≡ n → slice_get (xs ++ x ∷ []) n ≡ Some x
+at_last [] x zero long = refl
+at_last [] x (suc n) long = absurd (omega arith)
+at_last (y ∷ xs) x zero long = absurd (omega arith)
+at_last (y ∷ xs) x (suc n) long = at_last xs x n (omega arith)
+
+-- and those before it
+pub at_before : {X : Type 0} (xs ys : List X) (i : ℕ) (x : X) → slice_get xs i ≡ Some x → slice_get (xs ++ ys) i ≡ Some x
+at_before [] ys i x here = absurd (cc)
+at_before (y ∷ xs) ys zero x here = here
+at_before (y ∷ xs) ys (suc i) x here = at_before xs ys i x here
+
+module _ {S P : Type 0} (New : ℕ → S → Made → Made → P → TrackSetup → Type 0) (n : ℕ) (specs : List S) (streams commands : List Made) (clients : List P) (tracks : TrackList) (before : AreNewTracks New n specs streams commands clients tracks)
+    (spec : S) (stream command : Made) (p : P) (t : TrackSetup) (here : slice_get specs n ≡ Some spec) (new : New n spec stream command p t) where
+  abbrev Grown : ℕ → Type 0
+  Grown i = IsTrackAt New i specs (streams ++ stream ∷ []) (commands ++ command ∷ []) (clients ++ p ∷ []) (with_track t tracks)
+
+  last : Grown n
+  last = record {
+    spec = spec;
+    stream = stream;
+    command = command;
+    party = p;
+    setup = t;
+    spec_at = here;
+    stream_at_place = at_last streams stream n before.blocks.0;
+    command_at = at_last commands command n before.blocks.1;
+    party_at = at_last clients p n before.parties;
+    setting_at = at_last tracks.settings (setting_of t) n before.lists.0;
+    proxy_at = get_or_at tracks.streams (Some t.stream) [] None n before.lists.1;
+    control_at = at_last tracks.commands t.command n before.lists.2;
+    new = new;
+  }
+
+  earlier : (i : ℕ) → i < n → Grown i
+  earlier i lt =
+      let old = before.each i lt in
+      record {
+        spec = old.spec;
+        stream = old.stream;
+        command = old.command;
+        party = old.party;
+        setup = old.setup;
+        spec_at = old.spec_at;
+        stream_at_place = at_before streams (stream ∷ []) i old.stream old.stream_at_place;
+        command_at = at_before commands (command ∷ []) i old.command old.command_at;
+        party_at = at_before clients (p ∷ []) i old.party old.party_at;
+        setting_at = at_before tracks.settings (setting_of t ∷ []) i (setting_of old.setup) old.setting_at;
+        proxy_at = get_or_append_left tracks.streams (Some t.stream ∷ []) None i (omega (arith, lt, before.lists.1)) ∙ old.proxy_at;
+        control_at = at_before tracks.commands (t.command ∷ []) i old.setup.command old.control_at;
+        new = old.new;
+      }
+
+  grown : (i : ℕ) → i < n + 1 → (i ≡ n) ⊎ (i ≡ n → ⊥) → Grown i
+  grown i lt (inl eq) = subst Grown (sym eq) last
+  grown i lt (inr ne) = earlier i (omega (arith, lt, ne))
+
+  pub one_track_more : AreNewTracks New (n + 1) specs (streams ++ stream ∷ []) (commands ++ command ∷ []) (clients ++ p ∷ []) (with_track t tracks)
+  one_track_more = record {
+    blocks = (omega (arith, before.blocks.0, length-append streams (stream ∷ [])), omega (arith, before.blocks.1, length-append commands (command ∷ [])));
+    parties = omega (arith, before.parties, length-append clients (p ∷ []));
+    lists = (
+      omega (arith, before.lists.0, length-append tracks.settings (setting_of t ∷ [])),
+      omega (arith, before.lists.1, length-append tracks.streams (Some t.stream ∷ [])),
+      omega (arith, before.lists.2, length-append tracks.commands (t.command ∷ [])),
+    );
+    each = λ i lt. grown i lt (cases_eq i n);
+  }
+
+-- ## The same tracks told in other words
+
+-- where each spec and each client stands for another one, of which the same can be said in other words
+module _ {S S' P P' : Type 0} (New : ℕ → S → Made → Made → P → TrackSetup → Type 0) (New' : ℕ → S' → Made → Made → P' → TrackSetup → Type 0) (count : ℕ) (specs : List S) (specs' : List S') (streams commands : List Made) (clients : List P) (clients' : List P') (tracks : TrackList)
+    (known : AreNewTracks New count specs streams commands clients tracks) (long : length clients' ≡ length clients)
+    (retold : (i : ℕ) (spec : S) (stream command : Made) (p : P) (t : TrackSetup) → slice_get specs i ≡ Some spec → slice_get clients i ≡ Some p → New i spec stream command p t
+    → (spec' : S') × (p' : P') × (slice_get specs' i ≡ Some spec') × (slice_get clients' i ≡ Some p') × New' i spec' stream command p' t) where
+  there : (i : ℕ) → i < count → IsTrackAt New' i specs' streams commands clients' tracks
+  there i lt =
+      let one = known.each i lt in
+      let new = retold i one.spec one.stream one.command one.party one.setup one.spec_at one.party_at one.new in
+      record {
+        spec = new.0;
+        stream = one.stream;
+        command = one.command;
+        party = new.1;
+        setup = one.setup;
+        spec_at = new.2;
+        stream_at_place = one.stream_at_place;
+        command_at = one.command_at;
+        party_at = new.3;
+        setting_at = one.setting_at;
+        proxy_at = one.proxy_at;
+        control_at = one.control_at;
+        new = new.4;
+      }
+
+  pub in_other_words : AreNewTracks New' count specs' streams commands clients' tracks
+  in_other_words = record { blocks = known.blocks; parties = long ∙ known.parties; lists = known.lists; each = there }

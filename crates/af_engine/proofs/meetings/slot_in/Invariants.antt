@@ -1,0 +1,6 @@
+use Rattle.std.proofs.Common.{◌≡◌, None}
+use Rattle.af_engine.specs.Met.{slot_below}
+use Rattle.af_engine.proofs.meetings.slot_in.Given as goal
+
+abbrev pub invariant-loop-slot : goal.invariant-loop-slot
+invariant-loop-slot l = slot_below l.state l.track l.slot ≡ None

@@ -1,0 +1,7 @@
+use Rattle.std.specs.Prelude.{ℕ, ◌<◌, slice_index_or}
+use Rattle.af_engine.specs.declared.spec.EngineTrack.{EngineTrack}
+use Rattle.af_engine.specs.MixerSpecs.{IsEngineTrack}
+use Rattle.af_engine.proofs.spec.MixerSpec.check_tracks.Given as goal
+
+abbrev pub invariant-loop-index : goal.invariant-loop-index
+invariant-loop-index l = (k : ℕ) (d : EngineTrack) → k < l.index → IsEngineTrack (slice_index_or l.self.tracks.now k d)

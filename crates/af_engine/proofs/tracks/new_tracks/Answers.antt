@@ -1,0 +1,30 @@
+use Rattle.std.proofs.Common.{◌≡◌, ◌+◌, ◌<◌, List, [], ◌∷◌, ◌++◌, length, sym, ap, ◌∙◌, subst}
+use Rattle.std.proofs.lemmas.Option.{slice_get-get_or}
+use Rattle.af_cblk.specs.Sides.{Made}
+use Rattle.af_normal.specs.Making.{TrackList, with_track}
+use Rattle.af_engine.specs.declared.ends.TrackEnds.{TrackEnds}
+use Rattle.af_engine.specs.NewTracks.{AreNewTracks, IsNewTrack}
+use Rattle.af_engine.proofs.MoreTracks.{no_tracks, one_track_more}
+use Rattle.af_engine.proofs.tracks.new_tracks.Goals as goal
+
+pub loop-index-init : goal.loop-index-init
+loop-index-init c =
+    let made = c.empty-made.result in
+    let none = c.empty-made.ensures in
+    no_tracks IsNewTrack c.args.specs.now made.streams.items made.commands.items made.clients.items made.tracks none.blocks.0 none.blocks.1 none.parties.0 none.parties.1
+
+pub loop-index-preserved : goal.loop-index-preserved
+loop-index-preserved c =
+    let l = c.loop-index in
+    let specs = c.args.specs.now in
+    let one = c.in_ok-track in
+    let same = c.reserve_one.ensures in
+    let added = c.push.ensures in
+    let streams : c.push.new.self.streams.items ≡ l.made.streams.items ++ one.track.stream ∷ [] = added.streams ∙ ap (λ (xs : List Made). xs ++ one.track.stream ∷ []) same.blocks.0 in
+    let commands : c.push.new.self.commands.items ≡ l.made.commands.items ++ one.track.command ∷ [] = added.commands ∙ ap (λ (xs : List Made). xs ++ one.track.command ∷ []) same.blocks.1 in
+    let clients : c.push.new.self.clients.items ≡ l.made.clients.items ++ one.track.ends ∷ [] = added.clients ∙ ap (λ (xs : List TrackEnds). xs ++ one.track.ends ∷ []) same.parties.0 in
+    let tracks : c.push.new.self.tracks ≡ with_track one.track.setup l.made.tracks = c.in_ok-push.ensures.tracks ∙ ap (with_track one.track.setup) same.parties.1 in
+    let inside : l.index < length specs = c.loop-index-test.true in
+    let here = slice_get-get_or specs l.index _ inside in
+    subst (λ (y : List Made × List Made × List TrackEnds × TrackList). AreNewTracks IsNewTrack (l.index + 1) specs y.0 y.1 y.2 y.3) (λ i. (sym streams i, sym commands i, sym clients i, sym tracks i))
+    (one_track_more IsNewTrack l.index specs l.made.streams.items l.made.commands.items l.made.clients.items l.made.tracks l.invariant _ one.track.stream one.track.command one.track.ends one.track.setup here one.ensures)

@@ -1,0 +1,7 @@
+use Rattle.std.specs.Prelude.{◌≡◌, ◌++◌}
+use Rattle.std.specs.Vec.Iter.{into_iter_items}
+use Rattle.af_session.specs.NewTracks.{AreNewClients}
+use Rattle.af_session.proofs.tracks.new_clients.Given as goal
+
+abbrev pub invariant-loop-one : goal.invariant-loop-one
+invariant-loop-one l = AreNewClients l.yielded l.clients.items × (l.fn.ends.items ≡ l.yielded ++ into_iter_items l.one-iterator)
