@@ -2,6 +2,7 @@
 use Rattle.std.specs.List.{list_any}
 use Rattle.std.proofs.Common.{◌≡◌, ℕ, ◌<◌, ◌≤◌, Bool, true, false, fold, List, [], ◌∷◌, ◌++◌, take, All, Option, Some, None, refl, sym, ap, ◌∙◌, subst, arith}
 use Rattle.std.proofs.lemmas.List.Elements.{All-head, All-tail}
+use Rattle.std.proofs.lemmas.Option.{none-some}
 use Rattle.af_base.specs.declared.frame.Frame.{Frame}
 use Rattle.af_base.specs.Turn.{Turn}
 use Rattle.af_life.specs.Drained.{IsDrainedBy, LifeStep, StoppedAt, most_heard}
@@ -96,9 +97,9 @@ module _ (s : Session) (marks : Marks) (run : Run) (turn : TurnSpec) (round : Ro
   own_legal e is = by turn made
     where
       by : (turn : TurnSpec) → IsMadeBy s marks run turn round → LegalTurnBy (setup_of s) marks (found_before s run [] e) run.normal e
-      by (makes.Client track) made = let clash : None ≡ Some e = sym made.1 ∙ is in cc
+      by (makes.Client track) made = absurd (none-some e (sym made.1 ∙ is))
       by makes.Normal made = turn_legal run.normal.ended (λ e. LegalTurnBy (setup_of s) marks (found_before s run [] e) run.normal e) round.turn e made.2 is
-      by (makes.Fast cycles) made = let clash : None ≡ Some e = sym made.1 ∙ is in cc
+      by (makes.Fast cycles) made = absurd (none-some e (sym made.1 ∙ is))
 
 -- ## A round of a turn run
 

@@ -15,7 +15,7 @@ use Rattle.af_audit.proofs.CommandRounds.{CommandsAt, CommandsSo, called_so}
 use Rattle.af_audit.proofs.FewFlushes.{all_flushes, turn_few}
 use Rattle.af_audit.proofs.FewRounds.{HasFew, each_few, ends_have, load_has, met_has, mix_has, told_flushes, turn_has}
 use Rattle.af_audit.proofs.Growing.{RunGrows as AllGrow, grows_turned}
-use Rattle.af_audit.proofs.Grown.{RunGrows, TrackGrows, called_grows, each_grows, ends_grow, load_grows, meet_grows, mix_grows, run_none, run_twice, track_none, turn_grows}
+use Rattle.af_audit.proofs.Grown.{RunGrows, TrackGrows, called_grows, each_grows, ends_grow, load_grows, meet_grows, mix_grows, run_twice, track_none, turn_grows}
 use Rattle.af_journal_laws.proofs.Walk.{IsKept}
 
 -- what the calls of one client change of a track
@@ -43,7 +43,7 @@ grows_calls_alone track round run = record { many = each_long (changed track rou
 
 pub grows_polled : (s : Session) (k : ℕ) (run : Run) → AllGrow run (with_poll s k run)
 unfolding with_poll
-grows_polled s k run = record { many = refl; tracks = λ n low. run_none n run low }
+grows_polled s k run = record { many = refl; tracks = λ n low. record { there = low; track = track_none (told_at run n) } }
 
 pub grows_turn : (s : Session) (e : Turn) (run : Run) → AllGrow run (with_turn s (found_before s run [] e) e run)
 grows_turn s e run = grows_turned s (λ x. found_before s run [] x) (Some e) run

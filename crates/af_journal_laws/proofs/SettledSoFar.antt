@@ -4,6 +4,7 @@ use Rattle.std.proofs.Common.{◌≡◌, ◌⊎◌, inl, inr, ℕ, ◌<◌, ◌�
 use Rattle.std.proofs.lemmas.Bool.Decides.{nat_tests}
 use Rattle.std.proofs.lemmas.List.Elements.{All-head, All-tail}
 use Rattle.af_base.specs.declared.event.ClientCall.{ClientCall}
+use Rattle.af_base.specs.declared.event.ClientCall.TheVariants as call
 use Rattle.af_base.specs.declared.frame.Frame.{Frame}
 use Rattle.af_life.specs.Kept.{track_at}
 use Rattle.af_model.proofs.Logic.{both_left, both_right}
@@ -59,8 +60,12 @@ settled-so-far cut script files j is legal now later begins =
 -- ## A round of a turn run
 
 -- a client that sees a START settled makes the turn
+none_among : (before : List ClientCall) (one : ClientCall) (later : List ClientCall) → before ++ one ∷ later ≡ [] → ⊥
+none_among [] one later is = (let many = ap length is in omega (arith, many))
+none_among (x ∷ before) one later is = (let many = ap length is in omega (arith, many))
+
 none_seen : (t : Track) (calls : List ClientCall) (count : ℕ) → calls ≡ [] → SeesSettled t calls count → ⊥
-none_seen t calls count none sees = (let many = ap length (sym sees.calls_are ∙ none) in omega (arith, many))
+none_seen t calls count none sees = none_among sees.before (call.Status sees.word) sees.later (sym sees.calls_are ∙ none)
 
 module _ (s : Session) (marks : Marks) (n : ℕ) (run : Run) (low : n < length run.tracks) (round : RoundSeen) where
   called_told : (track : ℕ) → (n == track) ≡ true → told_at (calls_alone track round run) n ≡ called (calls_in round n) (told_at run n)
