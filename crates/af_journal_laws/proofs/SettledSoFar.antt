@@ -120,14 +120,14 @@ module _ (s : Session) (script : IsScript s.script) (marks : Marks) (tracks n : 
       seen_low (of_run flushes played n) b (told_at played n).client (track_at played.normal.tracks n) count played_so.commands.commands history seen
 
   -- what a later block of the stream discards of what is released from here on
-  module _ (last : BlockTold) (grows : Grows (told_at after n).stream last) (h : HasBlockHistory last) (narrow : last.shape.wrap ≤ 32768) (few : flushes_of (client_list last) ≤ 65536) (noticed : DropsByFlush last.shape [] (server_list last)) where
+  module _ (last : BlockTold) (grows : Grows (told_at after n).stream last) (told : HasBlockHistory last) (narrow : last.shape.wrap ≤ 32768) (few : flushes_of (client_list last) ≤ 65536) (noticed : DropsByFlush last.shape [] (server_list last)) where
     met_there : n < length (met s played).tracks
     met_there = (meet_grows n s played played_so.tells.low).there
 
     met_grows_last : Grows (told_at (met s played) n).stream last
     met_grows_last = grows_twice (told_at (met s played) n).stream (told_at after n).stream last (ends_grow n (met s played) met_there).track.stream grows
 
-    pub start_keeps : (count : ℕ) → SeesSettled (sides_of (told_at run n)) (calls_in round n) count → takes_part s played n ≡ true → DiscardsAbove last.shape (length (told_at after n).stream.released) count h.order
+    pub start_keeps : (count : ℕ) → SeesSettled (sides_of (told_at run n)) (calls_in round n) count → takes_part s played n ≡ true → DiscardsAbove last.shape (length (told_at after n).stream.released) count told.order
     unfolding met
     start_keeps count saw part =
         let b : BlockTold = (told_at played n).stream in
@@ -135,10 +135,10 @@ module _ (s : Session) (script : IsScript s.script) (marks : Marks) (tracks n : 
         let met_stream = ap (λ (t : TrackTold). t.stream) (met_at s played n played_so.tells.low) ∙ ap (λ (x : Bool). stream_met x hands b) part in
         let after_is = ends_stream n (met s played) met_there ∙ met_stream in
         let grown : Grows (meets b) last = grows_twice (meets b) (told_at after n).stream last (subst (Grows (meets b)) (sym after_is) (stream_grows hands b)) grows in
-        let tame = grown_tame (told_at (met s played) n).stream last met_grows_last h in
+        let tame = grown_tame (told_at (met s played) n).stream last met_grows_last told in
         let history = subst HasBlockHistory met_stream (sees.streams n low part tame).0 in
         let released : released_in (client_list b) ≤ length (told_at after n).stream.released = subst (λ (x : BlockTold). released_in (client_list b) ≤ length x.released) (sym after_is) (released_met hands b history) in
-        block-discards b last grown h (length (told_at after n).stream.released) count narrow few noticed (seen_by s played n last.shape count (sym grown.shape) (start_seen count saw)) released
+        block-discards b last grown told (length (told_at after n).stream.released) count narrow few noticed (seen_by s played n last.shape count (sym grown.shape) (start_seen count saw)) released
 
 -- ## Turns
 

@@ -52,13 +52,13 @@ mark_behind true true = omega arith
 mark_behind true false = omega arith
 mark_behind false c = omega arith
 
-ever_grows : (k : Shape) (es more : List ServerEvent) → mark (ever_shut k (server_begins k) es) ≤ mark (ever_shut k (server_begins k) (es ++ more))
+pub ever_grows : (k : Shape) (es more : List ServerEvent) → mark (ever_shut k (server_begins k) es) ≤ mark (ever_shut k (server_begins k) (es ++ more))
 ever_grows k es more =
     subst (λ (b : Bool). mark (ever_shut k (server_begins k) es) ≤ mark b) (sym (ever_more k (server_begins k) es more))
     (mark_or (ever_shut k (server_begins k) es) (ever_shut k (fold (server_keeps k) (server_begins k) es) more))
 
 -- one that is shut now was
-now_ever : (k : Shape) (kept : ServerKept) (es : List ServerEvent) → mark (is_some (fold (server_keeps k) kept es).shut) ≤ mark (ever_shut k kept es)
+pub now_ever : (k : Shape) (kept : ServerKept) (es : List ServerEvent) → mark (is_some (fold (server_keeps k) kept es).shut) ≤ mark (ever_shut k kept es)
 now_ever k kept [] = omega arith
 now_ever k kept (e ∷ es) = let a = now_ever k (server_keeps k kept e) es in let b = mark_behind (is_some kept.shut) (ever_shut k (server_keeps k kept e) es) in omega (arith, a, b)
 

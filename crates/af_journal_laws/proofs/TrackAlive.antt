@@ -215,7 +215,7 @@ module _ (c : Setup) (f : TurnFound) (m : NormalKept) (e : Turn) (o : Outside) (
       by_end false is =
           let looked : List ServerEvent = all_command_events (told.commands n) looks (told.command_fronts n) in
           let flags : List ServerEvent = invalid (learnt told) (track_in e n) tracks n in
-          all_join is_calm looked (flags ++ status_events (track_in e n).status) (calm_looks (told.commands n) looks (told.command_fronts n)) (all_join is_calm flags (status_events (track_in e n).status) calm_invalid (calm_status is))
+          all_join is_calm (looked ++ flags) (status_events (track_in e n).status) (all_join is_calm looked flags (calm_looks (told.commands n) looks (told.command_fronts n)) calm_invalid) (calm_status is)
 
   calm_takes : (takes : List TakeSeen) → list_all (λ (take : TakeSeen). not (is_shut take.slot.seen)) takes ≡ true → list_all is_calm (flat_map (λ (take : TakeSeen). cycle_events (asked c) (told.streams n) take.slot (told.stream_front n)) takes) ≡ true
   calm_takes [] h = refl
