@@ -1,5 +1,5 @@
 -- Both parts of the entries of a legal round are legal, those before the turn and those behind it.
-use Rattle.std.proofs.Common.{◌≡◌, Bool, true, false, [], take, drop, sym, ap, subst}
+use Rattle.std.proofs.Common.{◌≡◌, ℕ, Bool, true, false, [], take, drop, sym, ap, subst}
 use Rattle.std.specs.Prelude.{MatchBool}
 use Rattle.std.specs.List.{prefix_len}
 use Rattle.af_model.specs.Journals.{RoundSeen}

@@ -13,7 +13,7 @@ use Rattle.af_model.proofs.UsedStates.{last_used-push, state_of-newest}
 use Rattle.af_runs.specs.Blocks.{Marks}
 use Rattle.af_runs.specs.Fronts.{is_shown}
 use Rattle.af_runs.specs.Rounds.{LegalEntries, LegalEntry}
-use Rattle.af_runs.specs.Runs.{Run, state_for, with_poll, with_cycle, with_cycles}
+use Rattle.af_runs.specs.Runs.{Run, state_for, with_poll, with_mix, with_cycle, with_cycles}
 use Rattle.af_runs.specs.Sessions.{Session}
 use Rattle.af_runs.proofs.StatesFor.{polled_waits, state_known}
 use Rattle.af_judge.specs.Entries.{CarriesApart}
