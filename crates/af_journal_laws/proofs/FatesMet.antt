@@ -1,5 +1,5 @@
 -- By each meeting of its stream block's proxies each frame that a client released has one fate.
-use Rattle.std.proofs.Common.{◌≡◌, ℕ, ◌+◌, ◌<◌, Bool, false, true, List, ◌++◌, refl, ap, ◌∙◌}
+use Rattle.std.proofs.Common.{◌≡◌, ℕ, ◌<◌, Bool, false, true, List, ◌++◌, refl, ap, ◌∙◌}
 use Rattle.af_base.specs.declared.frame.Frame.{Frame}
 use Rattle.af_model.specs.Journals.{JournalData}
 use Rattle.af_runs.specs.LegalRuns.{HasLegalRounds, run_from, session_of}

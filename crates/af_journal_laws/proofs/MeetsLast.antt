@@ -5,7 +5,6 @@ use Rattle.af_life.specs.Kept.{is_home, track_at}
 use Rattle.af_model.proofs.Logic.{both_left}
 use Rattle.af_model.specs.Journals.{JournalData, RoundSeen}
 use Rattle.af_runs.specs.Blocks.{Marks}
-use Rattle.af_runs.specs.Clients.{ends}
 use Rattle.af_runs.specs.LegalRuns.{IsLegalRun, LegalRounds, is_lawful_block, marks_of, run_from, run_of, session_of}
 use Rattle.af_runs.specs.Rounds.{after_round}
 use Rattle.af_runs.specs.Runs.{Run, holds, new_run, takes_part}
