@@ -23,7 +23,7 @@ is_dead _ = false
 abbrev pub none_dead : List ClientCall → Bool
 none_dead calls = list_all (λ call. not (is_dead call)) calls
 
--- no call of a track's client did in the rounds up to a meeting in which the stream proxy of the track takes part, no poke on either block of the track among them. Neither its REMOVE nor the end of the session makes an exception: a mixer sets INVALID and stores 15 only for a track that it found shut
+-- no call did in the rounds up to a meeting in which the stream proxy of its track takes part, no poke on either of its blocks among them; a REMOVE or the session's end makes no exception
 abbrev pub NoMetCallIsDead : ScriptData → List (List Frame) → JournalData → Type 0
 NoMetCallIsDead script files j = let s = session_of script files in
     (now : List RoundSeen) (later : List RoundSeen) → j.rounds ≡ now ++ later → (track : ℕ) → track < track_count s → takes_part s (run_from s (new_run s) now) track ≡ true → is_lawful_track now track ≡ true

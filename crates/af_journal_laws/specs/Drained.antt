@@ -16,7 +16,7 @@ use Rattle.af_audit.specs.Drained.{HasReachedStop, Sent, WhereDrained, consumed_
 
 -- ## Rounds of all parties
 
--- In the rounds so far each track that is reported drained has reached its STOP: its server has consumed by that round's end the count of the STOP that stopped it last, no START has changed it since, and where none of these rounds has a poke on the track, its client sent that STOP
+-- in the rounds so far each track that is reported drained has reached the STOP that stopped it last, with no START since; its client sent that STOP, if none of these rounds has a poke on it
 abbrev pub EachDrainedTrackHasStopped : ScriptData → List (List Frame) → JournalData → Type 0
 EachDrainedTrackHasStopped script files j = let s = session_of script files in
     (now : List RoundSeen) (later : List RoundSeen) → j.rounds ≡ now ++ later → (track : ℕ) → track < track_count s

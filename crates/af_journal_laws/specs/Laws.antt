@@ -15,7 +15,7 @@ use Rattle.af_journal_laws.specs.Meetings.{EachProxyMeetsLast}
 use Rattle.af_journal_laws.specs.Settled.{EachSettledStartKeeps, EachSettledStartKeepsAlone}
 use Rattle.af_journal_laws.specs.Spared.{EachMetBlockIsSpared}
 
--- Of rounds of all parties, ended or cut off: up to each meeting of its proxies a block without a poke is spared, each frame on it has one fate, and no call tells its client that the track was shut. In the rounds so far each track that is reported drained has reached its STOP, and a START that was seen settled bounds what is discarded
+-- of rounds of all parties, ended or cut off: what holds up to each meeting of the proxies of a block without a poke, and what drained and settled mean in the rounds so far
 pub record HoldsAtMeetings (script : ScriptData) (files : List (List Frame)) (j : JournalData) : Type 0 where
   pub spared : EachMetBlockIsSpared script files j
   pub fates : EachMetFrameHasOneFate script files j

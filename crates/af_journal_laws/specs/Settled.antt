@@ -14,7 +14,7 @@ use Rattle.af_audit.specs.Settled.{DiscardsAbove, SeesSettled}
 
 -- ## Rounds of all parties
 
--- Where the client of a track without a poke so far saw a START settled in a round, and the track's stream proxy took part in the meeting after it, what it released in later rounds is discarded only by looks that saw a flush count above that of the START, in each history of its stream block so far
+-- where the client of a track without a poke saw a START settled, and its stream proxy met it after that round, only looks that saw a flush count above the START's discard what it released afterwards
 abbrev pub EachSettledStartKeeps : ScriptData → List (List Frame) → JournalData → Type 0
 EachSettledStartKeeps script files j = let s = session_of script files in
     (now : List RoundSeen) (later : List RoundSeen) → j.rounds ≡ now ++ later
