@@ -1,6 +1,6 @@
 -- No report tells of more than the list of the server of its slot's track.
 use Rattle.std.specs.List.{AllByRecursion}
-use Rattle.std.proofs.Common.{◌≡◌, inl, inr, ℕ, zero, suc, ◌≤◌, ◌==◌, ◌||◌, if◌then◌else◌, is_some, unwrap_or, Bool, true, false, List, [], ◌∷◌, ◌++◌, fold, Option, Some, None, refl, sym, ap, subst, arith}
+use Rattle.std.proofs.Common.{◌≡◌, inl, inr, ℕ, zero, suc, ◌≤◌, ◌==◌, ◌||◌, if◌then◌else◌, is_some, Bool, true, false, List, [], ◌∷◌, ◌++◌, fold, Some, refl, sym, ap, subst, arith}
 use Rattle.std.specs.Prelude.{◌-◌, slice_index_or, replicate}
 use Rattle.std.proofs.lemmas.Bool.{cases_lt}
 use Rattle.std.proofs.lemmas.List.{get_or_past}
@@ -23,7 +23,7 @@ use Rattle.af_runs.specs.Told.{state_at}
 use Rattle.af_runs.proofs.StatesFor.{state_among}
 use Rattle.af_judge.proofs.EntryTold.{cycle_beside}
 use Rattle.af_audit.proofs.Older.{IsOlder}
-use Rattle.af_audit.proofs.Growing.{grows_cycle, run_told}
+use Rattle.af_audit.proofs.Growing.{grows_mix, run_told}
 use Rattle.af_audit.proofs.Measure.{Measure, of_run, IsBounded}
 
 index_all : (P : Report → Type 0) (xs : List Report) (k : ℕ) (d : Report) → AllByRecursion P xs → P d → P (slice_index_or xs k d)
@@ -122,14 +122,18 @@ module _ (measure : Measure) where
           | inr high ↦ none_bounded draft (of_run measure now) i (report_at (next_report s now entry).slots i) (get_or_past (next_report s now entry).slots i no_slot (let m = length-map-range_with_len (next_slot s now entry (last_report now.reports).slots) 0 slots in omega (arith, m, high)))
         ]
 
-    pub bounded_cycle : (e : EntrySeen) (run : Run) → AllOlder s run draft → IsOlder run.normal.draft draft → AreBounded draft run → AreBounded draft (with_cycle s run e)
-    unfolding with_mix with_poll
-    bounded_cycle e run older own all =
-        let now : Run = with_looks s e (with_poll s e.entry.state run) in
+    pub bounded_mix : (e : EntrySeen) (run : Run) → AllOlder s run draft → IsOlder run.normal.draft draft → AreBounded draft run → AreBounded draft (with_mix s e run)
+    unfolding with_mix
+    bounded_mix e run older own all =
+        let now : Run = with_looks s e run in
         let grown : AllByRecursion (IsBounded measure draft (of_run measure now)) run.reports = weaker_all (IsBounded measure draft (of_run measure run)) (IsBounded measure draft (of_run measure now)) run.reports
-        (λ r. bounded_more draft draft (of_run measure run) (of_run measure now) r (record { low = λ i. omega arith; same = λ i g. refl }) (run_told measure run (with_cycle s run e) (grows_cycle s e run))) all in
+        (λ r. bounded_more draft draft (of_run measure run) (of_run measure now) r (record { low = λ i. omega arith; same = λ i g. refl }) (run_told measure run (with_mix s e run) (grows_mix s e run))) all in
         more_all (IsBounded measure draft (of_run measure now)) run.reports (next_report s now e.entry) grown
         (report_next now e.entry older own (last_all (IsBounded measure draft (of_run measure now)) run.reports no_report grown (no_bounded draft (of_run measure now))))
+
+    pub bounded_cycle : (e : EntrySeen) (run : Run) → AllOlder s run draft → IsOlder run.normal.draft draft → AreBounded draft run → AreBounded draft (with_cycle s run e)
+    unfolding with_poll
+    bounded_cycle e run older own all = bounded_mix e (with_poll s e.entry.state run) older own all
 
     pub bounded_cycles : (es : List EntrySeen) (run : Run) → AllOlder s run draft → IsOlder run.normal.draft draft → AreBounded draft run → AreBounded draft (with_cycles s es run)
     bounded_cycles [] run older own all = all

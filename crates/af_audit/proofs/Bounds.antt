@@ -12,15 +12,15 @@ use Rattle.af_runs.specs.Blocks.{BlockTold, Marks, listed}
 use Rattle.af_runs.specs.Clients.{ends}
 use Rattle.af_runs.specs.Found.{TurnFound, outside_of}
 use Rattle.af_runs.specs.Rounds.{LegalRound, after_round, after_turn, all_played, before_turn, early_of, found_in, late_of, loaded, met_after, turned}
-use Rattle.af_runs.specs.Runs.{Run, told_at, each_track, met, new_run, with_calls, with_cycles, with_ends, with_load, with_turn}
+use Rattle.af_runs.specs.Runs.{Run, told_at, each_track, met, new_run, with_calls, with_cycles, with_ends, with_load, with_mix, with_turn}
 use Rattle.af_runs.specs.Sessions.{Session, cycle_frames, setup_of}
 use Rattle.af_runs.specs.Told.{state_at, is_pushed}
 use Rattle.af_judge.proofs.EntriesFollow.{cycles_beside}
 use Rattle.af_judge.proofs.StatesKept.{at_each}
 use Rattle.af_audit.proofs.Older.{IsOlder, older_self, older_both, older_draft, draft_goes, draft_ends}
-use Rattle.af_audit.proofs.Growing.{RunGrows, run_told, grows_calls, grows_cycles, grows_turned, grows_loaded, grows_met, grows_ends}
+use Rattle.af_audit.proofs.Growing.{RunGrows, run_told, grows_calls, grows_cycles, grows_mix, grows_turned, grows_loaded, grows_met, grows_ends}
 use Rattle.af_audit.proofs.Attached.{turn_keeps, attached_more, attached_new}
-use Rattle.af_audit.proofs.Bounded.{AllOlder, AreBounded, bounded_more, bounded_cycles, weaker_all}
+use Rattle.af_audit.proofs.Bounded.{AllOlder, AreBounded, bounded_more, bounded_cycles, bounded_mix, weaker_all}
 use Rattle.af_audit.proofs.MixerTurns.{turn_legal}
 use Rattle.af_audit.proofs.Measure.{Measure, of_run, of_server, IsBounded, AreAttached}
 
@@ -33,7 +33,7 @@ module _ (measure : Measure) where
 
   module _ (s : Session) where
     -- a step that changes neither the mixer, nor the states, nor the reports
-    bounds_same : (a b : Run) → b.normal ≡ a.normal → b.states ≡ a.states → b.reports ≡ a.reports → RunGrows a b → RunBounds s a → RunBounds s b
+    pub bounds_same : (a b : Run) → b.normal ≡ a.normal → b.states ≡ a.states → b.reports ≡ a.reports → RunGrows a b → RunBounds s a → RunBounds s b
     bounds_same a b normal states reports grows h = record {
       older = subst (λ (p : NormalKept × List FastState). (k : ℕ) → IsOlder (state_at (cycle_frames s) p.1 k) p.0.draft) (λ i. (sym normal i, sym states i)) h.older;
       bounded = subst (λ (p : NormalKept × List Report). AllByRecursion (IsBounded measure p.0.draft (of_run measure b)) p.1) (λ i. (sym normal i, sym reports i))
@@ -45,6 +45,14 @@ module _ (measure : Measure) where
     pub bounds_calls : (round : RoundSeen) (run : Run) → RunBounds s run → RunBounds s (with_calls round run)
     unfolding with_calls
     bounds_calls round run = bounds_same run (with_calls round run) refl refl refl (grows_calls s round run)
+
+    pub bounds_mix : (e : EntrySeen) (run : Run) → RunBounds s run → RunBounds s (with_mix s e run)
+    unfolding with_mix
+    bounds_mix e run h = let after : Run = with_mix s e run in record {
+      older = h.older;
+      bounded = bounded_mix measure s run.normal.draft e run h.older (older_self run.normal.draft) h.bounded;
+      attached = attached_more measure (of_run measure run) (of_run measure after) run.normal.tracks (run_told measure run after (grows_mix s e run)) h.attached;
+    }
 
     pub bounds_cycles : (es : List EntrySeen) (run : Run) → RunBounds s run → RunBounds s (with_cycles s es run)
     bounds_cycles es run h = let b = cycles_beside s es run in let after : Run = with_cycles s es run in record {

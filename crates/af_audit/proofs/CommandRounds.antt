@@ -103,7 +103,7 @@ calm_calls : (t : Track) (calls : List ClientCall) → flushes_of t.commands.eve
 calm_calls t [] h = h
 calm_calls t (answer ∷ calls) h = calm_calls (after_call t answer) calls (calm_call t answer h)
 
-called_so : (most : ℕ) (calls : List ClientCall) (t : TrackTold) (s : TrackKept) → LegalClientTurn (sides_of t) calls → CommandsSo most t.commands t.client s → CommandsSo most (called calls t).commands (called calls t).client s
+pub called_so : (most : ℕ) (calls : List ClientCall) (t : TrackTold) (s : TrackKept) → LegalClientTurn (sides_of t) calls → CommandsSo most t.commands t.client s → CommandsSo most (called calls t).commands (called calls t).client s
 called_so most calls t s legal h =
     let u : TrackTold = called calls t in
     let after : Track = after_calls (sides_of t) calls in
@@ -263,7 +263,7 @@ module _ (most n : ℕ) where
         commands = subst (λ (x : BlockTold × Client × NormalKept). CommandsSo most x.0 x.1 (track_at x.2.tracks n)) (λ i. (sym (b.commands n) i, sym (b.client n) i, sym b.normal i)) h.commands;
       }
 
-  turn_at : (s : Session) (marks : Marks) (f : TurnFound) (e : Turn) (run : Run) → f.commands n ≡ (told_at run n).commands → LegalTurnBy (setup_of s) marks f run.normal e
+  pub turn_at : (s : Session) (marks : Marks) (f : TurnFound) (e : Turn) (run : Run) → f.commands n ≡ (told_at run n).commands → LegalTurnBy (setup_of s) marks f run.normal e
       → (let k = learnt (outside_of (setup_of s) f e) in (heard k n (track_at (tracks_at (setup_of s) k run.normal e n) n)).flush_seen ≤ most) → CommandsAt most n run → CommandsAt most n (with_turn s f e run)
   unfolding with_turn
   turn_at s marks f e run is legal heard_low h =

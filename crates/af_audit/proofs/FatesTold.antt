@@ -39,7 +39,7 @@ module _ (s : Session) (track : ℕ) (low : track < track_count s) where
   pub told_new : told_at (new_run s) track ≡ new_track s track
   told_new = get_or-map-range_with_len (new_track s) 0 (track_count s) track track no_track low (omega arith)
 
-  new_stands : RunStands s track (new_run s)
+  pub new_stands : RunStands s track (new_run s)
   new_stands = record {
     stands = record {
       there = new_there;
@@ -66,7 +66,7 @@ mixed_waiting : (released : List ℕ) (base : ℕ) (spans : List Span) (b : Bloc
 mixed_waiting released base [] b h = refl
 mixed_waiting released base (x ∷ spans) b h = ap (λ l. mixed_in released base x ++ l) (mixed_waiting released base spans b h)
 
-fates_told : (file words : List ℕ) (t : TrackTold) → TrackStands file t → HasBlockHistory t.stream → t.stream.taken ≡ words → HasFates file words t.stream
+pub fates_told : (file words : List ℕ) (t : TrackTold) → TrackStands file t → HasBlockHistory t.stream → t.stream.taken ≡ words → HasFates file words t.stream
 fates_told file words t stands h is = record {
   history = h;
   from_file = begins_by_length file t.stream.released (subst (λ (f : List ℕ). Begins f t.stream.released) stands.file_is stands.client.begins);

@@ -63,7 +63,7 @@ pub record HasFew (most n : ℕ) (run : Run) : Type 0 where
   pub few : told_flushes (told_at run n) ≤ most
 
 module _ (most n : ℕ) where
-  each_few : (change : ℕ → TrackTold → TrackTold) (run : Run) → HasFew most n run → told_flushes (change n (told_at run n)) ≤ told_flushes (told_at run n) → HasFew most n (each_track change run)
+  pub each_few : (change : ℕ → TrackTold → TrackTold) (run : Run) → HasFew most n run → told_flushes (change n (told_at run n)) ≤ told_flushes (told_at run n) → HasFew most n (each_track change run)
   each_few change run h low = record {
     there = (let m = each_long change 0 run.tracks in let t = h.there in omega (arith, m, t));
     few = (let e = ap told_flushes (told_each change run n h.there) in let f = h.few in omega (arith, e, f, low));
@@ -76,20 +76,23 @@ module _ (most n : ℕ) where
       let e = ap all_flushes (sides_called (told_at run n) (calls_in round n)) in
       each_few (λ track t. called (calls_in round track) t) run h (omega (arith, a, e))
 
-  cycle_has : (s : Session) (e : EntrySeen) (run : Run) → HasFew most n run → HasFew most n (with_cycle s run e)
-  unfolding with_mix with_poll
-  cycle_has s e run h =
-      let r : Run = with_poll s e.entry.state run in
-      let x = state_for s r e.entry.state in
+  pub mix_has : (s : Session) (e : EntrySeen) (run : Run) → HasFew most n run → HasFew most n (with_mix s e run)
+  unfolding with_mix
+  mix_has s e run h =
+      let x = state_for s run e.entry.state in
       let same = mixed_same s x e n (told_at run n) in
       let a = each_few (mixed_track s x e) run h (omega (arith, same)) in
       record { there = a.there; few = a.few }
+
+  cycle_has : (s : Session) (e : EntrySeen) (run : Run) → HasFew most n run → HasFew most n (with_cycle s run e)
+  unfolding with_poll
+  cycle_has s e run h = mix_has s e (with_poll s e.entry.state run) (record { there = h.there; few = h.few })
 
   cycles_have : (s : Session) (es : List EntrySeen) (run : Run) → HasFew most n run → HasFew most n (with_cycles s es run)
   cycles_have s [] run h = h
   cycles_have s (e ∷ es) run h = cycles_have s es (with_cycle s run e) (cycle_has s e run h)
 
-  turn_has : (s : Session) (found : Turn → TurnFound) (o : Option Turn) (run : Run) → HasFew most n run → HasFew most n (turned s found o run)
+  pub turn_has : (s : Session) (found : Turn → TurnFound) (o : Option Turn) (run : Run) → HasFew most n run → HasFew most n (turned s found o run)
   unfolding with_turn
   turn_has s found None run h = h
   turn_has s found (Some e) run h =
@@ -98,18 +101,18 @@ module _ (most n : ℕ) where
       let a = each_few (turned_track c o run.normal e) run h (omega (arith, same)) in
       record { there = a.there; few = a.few }
 
-  load_has : (o : Option Turn) (run : Run) → HasFew most n run → HasFew most n (loaded o run)
+  pub load_has : (o : Option Turn) (run : Run) → HasFew most n run → HasFew most n (loaded o run)
   unfolding with_load
   load_has None run h = h
   load_has (Some e) run h = record { there = h.there; few = h.few }
 
-  met_has : (s : Session) (run : Run) → HasFew most n run → HasFew most n (met s run)
+  pub met_has : (s : Session) (run : Run) → HasFew most n run → HasFew most n (met s run)
   met_has s run h = record {
     there = (let m = met_many s run in let t = h.there in omega (arith, m, t));
     few = (let e = ap told_flushes (met_at s run n h.there) in let f = h.few in let same = met_same (takes_part s run n) run.handed (told_at run n).stream in omega (arith, e, f, same));
   }
 
-  ends_have : (run : Run) → HasFew most n run → HasFew most n (with_ends run)
+  pub ends_have : (run : Run) → HasFew most n run → HasFew most n (with_ends run)
   unfolding with_ends
   ends_have run h = by_end run.normal.ended
     where

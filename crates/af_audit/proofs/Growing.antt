@@ -8,14 +8,14 @@ use Rattle.af_model.specs.Journals.{EntrySeen, RoundSeen}
 use Rattle.af_runs.specs.Blocks.{server_list}
 use Rattle.af_runs.specs.Found.{TurnFound, outside_of}
 use Rattle.af_runs.specs.Rounds.{loaded, turned}
-use Rattle.af_runs.specs.Runs.{Run, TrackTold, called, calls_in, met, no_track, told_at, turned_track, with_calls, with_cycle, with_cycles, with_ends, with_load, with_turn}
+use Rattle.af_runs.specs.Runs.{Run, TrackTold, called, calls_in, met, mixed_track, no_track, state_for, told_at, turned_track, with_calls, with_cycle, with_cycles, with_ends, with_load, with_mix, with_turn}
 use Rattle.af_runs.specs.Sessions.{Session, setup_of}
 use Rattle.af_judge.proofs.BlocksMeet.{met_many}
 use Rattle.af_judge.proofs.EachTrack.{each_long}
 use Rattle.af_judge.proofs.EntryTold.{cycle_beside}
 use Rattle.af_judge.proofs.EntriesFollow.{cycles_beside}
 use Rattle.af_audit.proofs.Drops.{server_append}
-use Rattle.af_audit.proofs.Grown.{RunGrows as TrackGrows, calls_grow, cycle_grows, cycles_grow, ends_grow, load_grows, meet_grows, run_none, run_twice, turn_grows}
+use Rattle.af_audit.proofs.Grown.{RunGrows as TrackGrows, calls_grow, cycle_grows, cycles_grow, ends_grow, load_grows, meet_grows, mix_grows, run_none, run_twice, turn_grows}
 use Rattle.af_audit.proofs.SparedTold.{ends_many}
 use Rattle.af_audit.proofs.Measure.{Measure, of_run}
 
@@ -31,13 +31,17 @@ run_both a b c first next = record {
 }
 
 -- what the list of a track's server tells grows
+pub track_told : (measure : Measure) (a b : Run) (n : ℕ) → TrackGrows n a b → of_run measure a n ≤ of_run measure b n
+track_told measure a b n g =
+    let grown = g.track.stream in
+    let list : server_list (told_at b n).stream ≡ server_list (told_at a n).stream ++ server_of grown.more = ap server_of grown.told ∙ server_append grown.more (told_at a n).stream.told in
+    let same : of_run measure b n ≡ measure.of_list (told_at a n).stream.shape (server_list (told_at a n).stream ++ server_of grown.more) = (λ i. measure.of_list (grown.shape i) (list i)) in
+    let more = measure.grows (told_at a n).stream.shape (server_list (told_at a n).stream) (server_of grown.more) in
+    omega (arith, same, more)
+
 pub run_told : (measure : Measure) (a b : Run) → RunGrows a b → (n : ℕ) → of_run measure a n ≤ of_run measure b n
 run_told measure a b g n = elim (cases_lt n (length a.tracks)) as (λ x. of_run measure a n ≤ of_run measure b n) [
-  | inl low ↦ (let grown = (g.tracks n low).track.stream in
-      let list : server_list (told_at b n).stream ≡ server_list (told_at a n).stream ++ server_of grown.more = ap server_of grown.told ∙ server_append grown.more (told_at a n).stream.told in
-      let same : of_run measure b n ≡ measure.of_list (told_at a n).stream.shape (server_list (told_at a n).stream ++ server_of grown.more) = (λ i. measure.of_list (grown.shape i) (list i)) in
-      let more = measure.grows (told_at a n).stream.shape (server_list (told_at a n).stream) (server_of grown.more) in
-      omega (arith, same, more))
+  | inl low ↦ track_told measure a b n (g.tracks n low)
   | inr high ↦ (let m = g.many in
       let one : told_at a n ≡ no_track = get_or_past a.tracks n no_track (omega (arith, high)) in
       let two : told_at b n ≡ no_track = get_or_past b.tracks n no_track (omega (arith, high, m)) in
@@ -45,10 +49,17 @@ run_told measure a b g n = elim (cases_lt n (length a.tracks)) as (λ x. of_run 
       omega (arith, same))
 ]
 
+mix_many : (s : Session) (e : EntrySeen) (run : Run) → length (with_mix s e run).tracks ≡ length run.tracks
+unfolding with_mix
+mix_many s e run = each_long (mixed_track s (state_for s run e.entry.state) e) 0 run.tracks
+
 module _ (s : Session) where
   pub grows_calls : (round : RoundSeen) (run : Run) → RunGrows run (with_calls round run)
   unfolding with_calls
   grows_calls round run = record { many = each_long (λ track t. called (calls_in round track) t) 0 run.tracks; tracks = λ n low. calls_grow n round run low }
+
+  pub grows_mix : (e : EntrySeen) (run : Run) → RunGrows run (with_mix s e run)
+  grows_mix e run = record { many = mix_many s e run; tracks = λ n low. mix_grows n s e run low }
 
   pub grows_cycle : (e : EntrySeen) (run : Run) → RunGrows run (with_cycle s run e)
   grows_cycle e run = record { many = (let b = cycle_beside s run e in b.many); tracks = λ n low. cycle_grows n s e run low }

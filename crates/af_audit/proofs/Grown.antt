@@ -74,13 +74,13 @@ server_grows words es hs b =
 
 -- ## Tracks
 
-track_none : (t : TrackTold) → TrackGrows t t
+pub track_none : (t : TrackTold) → TrackGrows t t
 track_none t = record { stream = grows_none t.stream; commands = grows_none t.commands }
 
 pub track_twice : (a b c : TrackTold) → TrackGrows a b → TrackGrows b c → TrackGrows a c
 track_twice a b c f g = record { stream = grows_twice a.stream b.stream c.stream f.stream g.stream; commands = grows_twice a.commands b.commands c.commands f.commands g.commands }
 
-called_grows : (calls : List ClientCall) (t : TrackTold) → TrackGrows t (called calls t)
+pub called_grows : (calls : List ClientCall) (t : TrackTold) → TrackGrows t (called calls t)
 called_grows calls t =
     let u = after_calls (sides_of t) calls in
     let a = client_grows (drop (length (client_list t.stream)) u.stream.events) t.stream in
@@ -132,7 +132,7 @@ run_none n a low = record { there = low; track = track_none (told_at a n) }
 
 module _ (n : ℕ) where
   -- each track changed by its number
-  each_grows : (change : ℕ → TrackTold → TrackTold) (a b : Run) → b.tracks ≡ (each_track change a).tracks → n < length a.tracks → TrackGrows (told_at a n) (change n (told_at a n)) → RunGrows n a b
+  pub each_grows : (change : ℕ → TrackTold → TrackTold) (a b : Run) → b.tracks ≡ (each_track change a).tracks → n < length a.tracks → TrackGrows (told_at a n) (change n (told_at a n)) → RunGrows n a b
   each_grows change a b is low grows = record {
     there = (let m = each_long change 0 a.tracks in let l = ap length is in omega (arith, m, l, low));
     track = subst (TrackGrows (told_at a n)) (sym (told_each change a n low) ∙ sym (ap (λ ts. told_at (record a { tracks = ts }) n) is)) grows;
@@ -142,12 +142,16 @@ module _ (n : ℕ) where
   unfolding with_calls
   calls_grow round run low = each_grows (λ track t. called (calls_in round track) t) run (with_calls round run) refl low (called_grows (calls_in round n) (told_at run n))
 
+  -- a mix, and a whole cycle
+  pub mix_grows : (s : Session) (e : EntrySeen) (run : Run) → n < length run.tracks → RunGrows n run (with_mix s e run)
+  unfolding with_mix
+  mix_grows s e run low =
+      let x = state_for s run e.entry.state in
+      each_grows (mixed_track s x e) run (with_mix s e run) refl low (mixed_grows s x e n (told_at run n))
+
   pub cycle_grows : (s : Session) (e : EntrySeen) (run : Run) → n < length run.tracks → RunGrows n run (with_cycle s run e)
-  unfolding with_mix with_poll
-  cycle_grows s e run low =
-      let r : Run = with_poll s e.entry.state run in
-      let x = state_for s r e.entry.state in
-      each_grows (mixed_track s x e) run (with_cycle s run e) refl low (mixed_grows s x e n (told_at run n))
+  unfolding with_poll
+  cycle_grows s e run low = let g = mix_grows s e (with_poll s e.entry.state run) low in record { there = g.there; track = g.track }
 
   pub cycles_grow : (s : Session) (es : List EntrySeen) (run : Run) → n < length run.tracks → RunGrows n run (with_cycles s es run)
   cycles_grow s [] run low = run_none n run low

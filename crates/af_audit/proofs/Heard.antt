@@ -1,7 +1,5 @@
 -- What a turn hears of a track's server is no more than the server's list tells once the round's turns were made.
-use Rattle.std.proofs.Common.{◌≡◌, ℕ, ◌<◌, ◌≤◌, ◌==◌, max, if◌then◌else◌, Bool, true, false, List, [], ◌∷◌, length, Option, Some, None, refl, sym, ap, ◌∙◌, subst, eqb-true, length-append, arith}
-use Rattle.std.specs.Prelude.{nat_le}
-use Rattle.std.proofs.lemmas.Bool.Decides.{nat_tests}
+use Rattle.std.proofs.Common.{◌≡◌, ℕ, ◌<◌, ◌≤◌, ◌==◌, ◌&&◌, if◌then◌else◌, Bool, true, false, List, [], length, Option, Some, refl, sym, ap, ◌∙◌, subst, eqb-true, arith}
 use Rattle.af_base.specs.declared.report.SlotReport.{SlotReport}
 use Rattle.af_base.specs.declared.state.FastState.{FastState}
 use Rattle.af_base.specs.Turn.{Turn}
@@ -13,13 +11,12 @@ use Rattle.af_life.specs.Kept.{Setup, NormalKept, Learnt, track_at, is_home, slo
 use Rattle.af_life.specs.Sound.{IsSound}
 use Rattle.af_life.specs.TurnEvents.{tracks_at, stream_list}
 use Rattle.af_model.specs.JournalForm.{IsRound}
-use Rattle.af_model.specs.Journals.{EntrySeen, RoundSeen}
+use Rattle.af_model.specs.Journals.{RoundSeen}
 use Rattle.af_model.specs.StateQueue.{slot_of}
 use Rattle.af_runs.specs.Blocks.{Marks, listed}
-use Rattle.af_runs.specs.Clients.{ends}
 use Rattle.af_runs.specs.Found.{TurnFound, outside_of}
-use Rattle.af_runs.specs.Rounds.{LegalEntries, LegalRound, after_round, after_turn, all_played, before_turn, early_of, found_in, late_of, loaded, met_after, turned}
-use Rattle.af_runs.specs.Runs.{Run, load_of, each_track, fast_ended, met, new_run, pushed_by, told_at, with_calls, with_cycle, with_cycles, with_ends, with_load, with_mix, with_poll, with_turn}
+use Rattle.af_runs.specs.Rounds.{LegalEntries, LegalRound, after_round, after_turn, all_played, before_turn, early_of, found_in, late_of, met_after, turned, fills}
+use Rattle.af_runs.specs.Runs.{Run, load_of, fast_ended, new_run, told_at, with_calls, with_cycles, with_turn}
 use Rattle.af_runs.specs.Sessions.{Session, setup_of, track_count}
 use Rattle.af_script.specs.Form.{IsScript}
 use Rattle.af_judge.proofs.EntriesFollow.{cycles_beside}
@@ -61,7 +58,7 @@ pub from_played : (s : Session) (run : Run) (round : RoundSeen) → RunGrows (al
 from_played s run round = run_both (all_played s run round) (met_after s run round) (after_round s run round) (grows_met s (all_played s run round)) (grows_ends s (met_after s run round))
 
 module _ (measure : Measure) where
-  heard_low : (n : ℕ) (own : Heard) (r : SlotReport) (t : TrackKept) → (is_home t.holder ≡ true → measure.of_heard own ≤ n) → (is_home t.holder ≡ false → r.generation ≡ t.generation → measure.of_report r ≤ n) → measure.of_heard t.at_attach ≤ n → measure.of_heard (heard_by own r t) ≤ n
+  pub heard_low : (n : ℕ) (own : Heard) (r : SlotReport) (t : TrackKept) → (is_home t.holder ≡ true → measure.of_heard own ≤ n) → (is_home t.holder ≡ false → r.generation ≡ t.generation → measure.of_report r ≤ n) → measure.of_heard t.at_attach ≤ n → measure.of_heard (heard_by own r t) ≤ n
   unfolding heard_by
   heard_low n own r t home away attach = by (is_home t.holder) refl
     where
@@ -79,7 +76,7 @@ module _ (measure : Measure) where
     pub kept_so : RunKept s run
     pub bounds : RunBounds measure s run
 
-  module _ (s : Session) (form : IsScript s.script) (marks : Marks) (run : Run) (round : RoundSeen) (tracks n : ℕ) (is_round : IsRound tracks round) (legal : LegalRound false s marks run round) (h : TellsSo s n run) where
+  module _ (cut : Bool) (s : Session) (form : IsScript s.script) (marks : Marks) (run : Run) (round : RoundSeen) (tracks n : ℕ) (is_round : IsRound tracks round) (legal : LegalRound cut s marks run round) (h : TellsSo s n run) where
     abbrev c : Setup
     c = setup_of s
 
@@ -90,7 +87,7 @@ module _ (measure : Measure) where
     played = all_played s run round
 
     parts : LegalEntries s marks (with_calls round run) (early_of run round) × LegalEntries s marks (after_turn s run round) (late_of run round)
-    parts = legal_parts (fast_ended run) false s marks run round legal.turns.fast
+    parts = legal_parts (fast_ended run) (cut && fills s run round) s marks run round legal.turns.fast
 
     module _ (e : Turn) (is : round.turn ≡ Some e) where
       abbrev f : TurnFound
@@ -105,7 +102,7 @@ module _ (measure : Measure) where
       -- what is told without the turn is no more than with it, where the track is away
       untold_low : is_home (track_at (tracks_at c k run.normal e n) n).holder ≡ false → of_run measure (untold s run round) n ≤ of_run measure played n
       untold_low away =
-          let by = turn_legal false s marks run round legal e is in
+          let by = turn_legal cut s marks run round legal e is in
           let same = before_normal s run round in
           let quiet = subst (λ (m : NormalKept). stream_list c (outside_of c f e) e (tracks_at c k m e n) n ≡ []) (sym same) (stream_quiet c n run.normal e h.kept_so.carried.sound by.outside (outside_of c f e) by.legal (ap learnt by.found) away) in
           let there : n < length before.tracks = (let m = (before_grows s run round).many in let l = h.low in omega (arith, m, l)) in
@@ -159,7 +156,7 @@ module _ (measure : Measure) where
     tells_round = record {
       low = (let m = (to_played s run round).many in let o = (from_played s run round).many in let l = h.low in omega (arith, m, o, l));
       kept_so = kept_round s form tracks run round is_round.turn h.kept_so;
-      bounds = bounds_round measure false s marks run round legal h.bounds;
+      bounds = bounds_round measure cut s marks run round legal h.bounds;
     }
 
   pub new_tells : (s : Session) (n : ℕ) → n < track_count s → TellsSo s n (new_run s)

@@ -1,5 +1,5 @@
 pub mod Booleans
-mod FirstFound
+pub mod FirstFound
 pub mod JudgedExactly
 mod JournalJudged
 pub mod RunEnds
@@ -28,16 +28,16 @@ mod VerdictLaws
 mod TurnTells
 pub mod DoneTracks
 pub mod MixerEnds
-mod MixerTurns
-mod Older
-mod MixerRounds
+pub mod MixerTurns
+pub mod Older
+pub mod MixerRounds
 mod PipeDrains
 mod PipeRounds
 mod DropsNoticed
 pub mod FileReleased
 pub mod TrackStands
-mod RunStands
-mod TakenRecorded
+pub mod RunStands
+pub mod TakenRecorded
 pub mod FatesTold
 pub mod EmptiedTold
 mod CallsUnshut
@@ -46,41 +46,41 @@ pub mod RearsSeen
 pub mod TrackUnshut
 mod RunUnshut
 pub mod SparedTold
-mod Sending
-mod StepsTaken
-mod TracksSeen
-mod StopSent
-mod Stopped
-mod Measure
-mod Growing
-mod Attached
-mod Bounded
+pub mod Sending
+pub mod StepsTaken
+pub mod TracksSeen
+pub mod StopSent
+pub mod Stopped
+pub mod Measure
+pub mod Growing
+pub mod Attached
+pub mod Bounded
 pub mod Late
-mod Bounds
+pub mod Bounds
 pub mod Quiet
 pub mod LateRuns
-mod EntryParts
+pub mod EntryParts
 mod LateRound
-mod Heard
-mod Consumed
-mod Reached
-mod SentTold
+pub mod Heard
+pub mod Consumed
+pub mod Reached
+pub mod SentTold
 mod Flushes
-mod Drops
-mod Grown
-mod Meeting
-mod FewFlushes
-mod FewRounds
-mod SeenKept
-mod KnownSeen
-mod TurnSees
+pub mod Drops
+pub mod Grown
+pub mod Meeting
+pub mod FewFlushes
+pub mod FewRounds
+pub mod SeenKept
+pub mod KnownSeen
+pub mod TurnSees
 mod StartWords
 mod SentWords
 mod StartsSettled
-mod StatusWords
+pub mod StatusWords
 mod TurnSettles
-mod CommandDrops
-mod CommandRounds
-mod SettledRounds
+pub mod CommandDrops
+pub mod CommandRounds
+pub mod SettledRounds
 pub mod DrainedTold
 pub mod SettledTold

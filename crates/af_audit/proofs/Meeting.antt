@@ -53,7 +53,7 @@ lawful_front (x ∷ xs) ys h = both_are (is_tame x) (is_lawful xs) (both_left (i
 -- ## A block at its meeting
 
 -- the block after a meeting in which its proxy takes part
-stream_grows : (hands : Bool) (b : BlockTold) → Grows (meets b) (stream_met true hands b)
+pub stream_grows : (hands : Bool) (b : BlockTold) → Grows (meets b) (stream_met true hands b)
 stream_grows true b = record { shape = refl; more = by_hand (hand.Met (length (client_list (meets b)))) ∷ []; told = refl }
 stream_grows false b = grows_none (meets b)
 
@@ -62,7 +62,7 @@ met_clients true b = refl
 met_clients false b = refl
 
 -- in a history after it the client's list before it released no more than the block has released
-released_met : (hands : Bool) (b : BlockTold) → HasBlockHistory (stream_met true hands b) → released_in (client_list b) ≤ length (stream_met true hands b).released
+pub released_met : (hands : Bool) (b : BlockTold) → HasBlockHistory (stream_met true hands b) → released_in (client_list b) ≤ length (stream_met true hands b).released
 released_met hands b h =
     let k : Shape = (stream_met true hands b).shape in
     let a = h.released_is in
@@ -97,7 +97,7 @@ module _ (b last : BlockTold) (g : Grows (meets b) last) (h : HasBlockHistory la
   })
 
 -- a block had no poke where it has none later
-grown_tame : (a last : BlockTold) → Grows a last → HasBlockHistory last → is_lawful (client_list a) ≡ true
+pub grown_tame : (a last : BlockTold) → Grows a last → HasBlockHistory last → is_lawful (client_list a) ≡ true
 grown_tame a last g h =
     let list : client_of h.order ≡ client_list a ++ client_of g.more = h.client_is ∙ ap client_of g.told ∙ client_append g.more a.told in
     lawful_front (client_list a) (client_of g.more) (subst (λ (es : List ClientEvent). is_lawful es ≡ true) list (legal_lawful (start last.shape) h.order h.legal))
@@ -105,7 +105,7 @@ grown_tame a last g h =
 -- ## A run
 
 -- once the normal mixer has ended, the clients end, and no block changes
-ends_stream : (n : ℕ) (run : Run) → n < length run.tracks → (told_at (with_ends run) n).stream ≡ (told_at run n).stream
+pub ends_stream : (n : ℕ) (run : Run) → n < length run.tracks → (told_at (with_ends run) n).stream ≡ (told_at run n).stream
 unfolding with_ends
 ends_stream n run low = by_end run.normal.ended
   where

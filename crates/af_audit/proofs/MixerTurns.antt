@@ -20,12 +20,12 @@ module _ (s : Session) (run : Run) (round : RoundSeen) where
   unfolding with_calls
   before_normal = (cycles_beside s (early_of run round) (with_calls round run)).normal
 
-  loaded_normal : (o : Option Turn) (r : Run) → (loaded o r).normal ≡ r.normal
+  pub loaded_normal : (o : Option Turn) (r : Run) → (loaded o r).normal ≡ r.normal
   unfolding with_load
   loaded_normal None r = refl
   loaded_normal (Some e) r = refl
 
-  ends_normal : (r : Run) → (with_ends r).normal ≡ r.normal
+  pub ends_normal : (r : Run) → (with_ends r).normal ≡ r.normal
   unfolding with_ends
   ends_normal r = by_end r.normal.ended
     where
@@ -33,7 +33,7 @@ module _ (s : Session) (run : Run) (round : RoundSeen) where
       by_end true = refl
       by_end false = refl
 
-  met_normal : (r : Run) → (met s r).normal ≡ r.normal
+  pub met_normal : (r : Run) → (met s r).normal ≡ r.normal
   unfolding met
   met_normal r = refl
 

@@ -47,7 +47,7 @@ looks_heard n given flush_seen (look ∷ looks) s before h =
 both_low : (a b n : ℕ) → a ≤ n → b ≤ n → max a b ≤ n
 both_low a b n h g = omega (arith, h, g)
 
-steps_heard : (c : Setup) (k : Learnt) (m : NormalKept) (e : Turn) (i n : ℕ) (before : List LifeStep) → (heard k i (track_at (tracks_at c k m e i) i)).known.consumed ≤ n → most_heard before ≤ n → most_heard (track_steps c k m e i before) ≤ n
+pub steps_heard : (c : Setup) (k : Learnt) (m : NormalKept) (e : Turn) (i n : ℕ) (before : List LifeStep) → (heard k i (track_at (tracks_at c k m e i) i)).known.consumed ≤ n → most_heard before ≤ n → most_heard (track_steps c k m e i before) ≤ n
 unfolding track_steps
 steps_heard c k m e i n before now h =
     let tracks = tracks_at c k m e i in
@@ -68,7 +68,7 @@ pub record Keeps (s : Session) (n : ℕ) (run : Run) (steps : List LifeStep) : T
   pub turns : AreTurns s n run steps
   pub heard_so : most_heard steps ≤ consumed_of run n
 
-module _ (s : Session) (form : IsScript s.script) (marks : Marks) (run : Run) (round : RoundSeen) (tracks n : ℕ) (steps : List LifeStep) (is_round : IsRound tracks round) (legal : LegalRound false s marks run round) (h : Keeps s n run steps) where
+module _ (cut : Bool) (s : Session) (form : IsScript s.script) (marks : Marks) (run : Run) (round : RoundSeen) (tracks n : ℕ) (steps : List LifeStep) (is_round : IsRound tracks round) (legal : LegalRound cut s marks run round) (h : Keeps s n run steps) where
   abbrev after : Run
   after = after_round s run round
 
@@ -80,7 +80,7 @@ module _ (s : Session) (form : IsScript s.script) (marks : Marks) (run : Run) (r
 
   -- what the turn heard is consumed by the round's end
   heard_consumed : (e : Turn) → round.turn ≡ Some e → (let k = learnt (outside_of (setup_of s) (found_in s run round e) e) in (heard k n (track_at (tracks_at (setup_of s) k run.normal e n) n)).known.consumed ≤ consumed_of after n)
-  heard_consumed e is = let a = heard_told consumed s form marks run round tracks n is_round legal h.tells e is in let b = played_more in omega (arith, a, b)
+  heard_consumed e is = let a = heard_told consumed cut s form marks run round tracks n is_round legal h.tells e is in let b = played_more in omega (arith, a, b)
 
   round_heard : most_heard (round_steps s run round round.turn n steps) ≤ consumed_of after n
   round_heard = by round.turn refl
@@ -91,14 +91,14 @@ module _ (s : Session) (form : IsScript s.script) (marks : Marks) (run : Run) (r
 
   pub keeps_round : Keeps s n after (round_steps s run round round.turn n steps)
   keeps_round = record {
-    tells = tells_round consumed s form marks run round tracks n is_round legal h.tells;
-    turns = round_turns false s marks run round legal n steps h.turns;
+    tells = tells_round consumed cut s form marks run round tracks n is_round legal h.tells;
+    turns = round_turns cut s marks run round legal n steps h.turns;
     heard_so = round_heard;
   }
 
   -- where the track is reported drained, its STOP's count is consumed
   pub reached_round : Reaches → n < track_count s → says_drained round.turn n ≡ true → (count : ℕ) × StoppedAt count (round_steps s run round round.turn n steps) × (count ≤ consumed_of after n)
-  reached_round reached low says = let d = round_drained false s marks run round legal n steps h.turns reached low says in
+  reached_round reached low says = let d = round_drained cut s marks run round legal n steps h.turns reached low says in
       (d.0, d.1, (let a = d.2 in let b = round_heard in omega (arith, a, b)))
 
 -- ## Before the first round

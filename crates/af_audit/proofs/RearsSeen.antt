@@ -30,7 +30,7 @@ use Rattle.af_audit.proofs.Booleans.{no}
 module _ (shape : Shape) where
   -- ## Lists
 
-  rear_split : (b : Bool) (xs ys : List ServerEvent) → AllFollowRear shape b (xs ++ ys) → AllFollowRear shape b xs × AllFollowRear shape (fold (saw_rear shape) b xs) ys
+  pub rear_split : (b : Bool) (xs ys : List ServerEvent) → AllFollowRear shape b (xs ++ ys) → AllFollowRear shape b xs × AllFollowRear shape (fold (saw_rear shape) b xs) ys
   rear_split b [] ys h = (tt, h)
   rear_split b (x ∷ xs) ys h = let r = rear_split (saw_rear shape b x) xs ys h.1 in ((h.0, r.0), r.1)
 
@@ -84,10 +84,10 @@ module _ (shape : Shape) where
         ap (λ (b : Bool). if b then Some (wrapped consumed, wrapped released) else None) f
 
     -- it isn't shut, and knows the rear seen last, behind which nothing was consumed
-    record SeesRoom (k : ServerKept) (b : Bool) (p : TrackPoint) : Type 0 where
-      rear_is : k.rear ≡ wrapped p.rear_seen
-      unshut : k.shut ≡ None
-      shows : b ≡ true → p.consumed ≤ p.rear_seen
+    pub record SeesRoom (k : ServerKept) (b : Bool) (p : TrackPoint) : Type 0 where
+      pub rear_is : k.rear ≡ wrapped p.rear_seen
+      pub unshut : k.shut ≡ None
+      pub shows : b ≡ true → p.consumed ≤ p.rear_seen
 
     either_none : (b : Bool) (o : Option (ℕ × ℕ)) → o ≡ None → (if b then None else o) ≡ None
     either_none true o is = refl
@@ -133,7 +133,7 @@ module _ (shape : Shape) where
     client_leaves k b p (client.Poke word value) s = s
     client_leaves k b p (client.Learn count) s = s
 
-    sees_in : (order : List Moment) → IsLegal (start shape) order → AllFit shape (client_begins shape.base) None (client_of order) → AllFollowRear shape false (server_of order)
+    pub sees_in : (order : List Moment) → IsLegal (start shape) order → AllFit shape (client_begins shape.base) None (client_of order) → AllFollowRear shape false (server_of order)
         → SeesRoom (server_kept shape (server_of order)) (fold (saw_rear shape) false (server_of order)) (after (start shape) order)
     sees_in [] h fit f = record { rear_is = refl; unshut = refl; shows = no }
     sees_in (by_client e ∷ order) h fit f = client_leaves _ _ (after (start shape) order) e (sees_in order h.1 (fit_split shape (client_begins shape.base) None (client_of order) (e ∷ []) fit).0 f)

@@ -1,26 +1,30 @@
--- In a legal run: where the server of a track without a poke had seen so many flushes by the meeting after a round, what the client releases in later rounds is discarded only by looks that saw more.
-use Rattle.std.proofs.Common.{◌≡◌, ℕ, zero, suc, ◌+◌, ◌*◌, ◌^◌, ◌<◌, ◌≤◌, ◌==◌, nat_le, Bool, true, false, if◌then◌else◌, List, [], ◌∷◌, ◌++◌, length, refl, sym, ap, ◌∙◌, subst, arith}
+-- In legal rounds: where the server of a track without a poke had seen so many flushes by the meeting after a round, what the client releases in later rounds is discarded only by looks that saw more.
+use Rattle.std.specs.Prelude.{All, []}
+use Rattle.std.proofs.Common.{◌≡◌, ℕ, zero, suc, ◌+◌, ◌*◌, ◌^◌, ◌<◌, ◌≤◌, ◌==◌, nat_le, Bool, true, false, if◌then◌else◌, List, ◌∷◌, ◌++◌, length, refl, sym, ap, ◌∙◌, subst, arith}
+use Rattle.std.specs.List.{list_any}
 use Rattle.std.proofs.lemmas.List.Elements.{All-get_or}
 use Rattle.std.proofs.Math.Pow.{pow_mono}
-use Rattle.af_base.specs.declared.frame.Frame.{Frame}
 use Rattle.af_model.specs.History.{flushes_of}
-use Rattle.af_model.specs.Journals.{JournalData, RoundSeen}
+use Rattle.af_model.specs.JournalForm.{IsRound}
+use Rattle.af_model.specs.Journals.{RoundSeen}
+use Rattle.af_model.proofs.Logic.{both_left}
 use Rattle.af_runs.specs.Blocks.{HasBlockHistory, Marks, client_list, server_list}
-use Rattle.af_runs.specs.LegalRuns.{IsLegalRun, LegalRounds, is_lawful_track, marks_of, run_from, run_of, session_of}
+use Rattle.af_runs.specs.LegalRuns.{LegalRounds, is_lawful_block, is_lawful_track, is_poke_on, run_from}
 use Rattle.af_runs.specs.Rounds.{LegalRound, after_round, all_played}
-use Rattle.af_runs.specs.Runs.{Run, new_run, takes_part, told_at}
+use Rattle.af_runs.specs.Runs.{Run, TrackTold, calls_in, new_run, takes_part, told_at}
 use Rattle.af_runs.specs.Sessions.{Session, no_spec, spec_of, stream_shape, track_count}
 use Rattle.af_script.specs.Form.{IsScript, IsTrack}
-use Rattle.af_script.specs.Data.{ScriptData}
 use Rattle.af_script.specs.Ops.{cells_of, power_above}
 use Rattle.af_script.specs.declared.track.TrackSpec.{TrackSpec}
 use Rattle.af_audit.specs.Fates.{DropsByFlush}
-use Rattle.af_audit.proofs.FatesTold.{frames-have-fates, new_there, told_new}
+use Rattle.af_audit.proofs.Booleans.{not_true}
+use Rattle.af_audit.proofs.FatesTold.{new_stands, new_there, told_new}
 use Rattle.af_audit.specs.Known.{most_seen}
 use Rattle.af_audit.specs.Settled.{DiscardsAbove}
-use Rattle.af_audit.proofs.FewRounds.{rounds_have, told_flushes}
+use Rattle.af_audit.proofs.FewRounds.{HasFew, rounds_have, told_flushes}
 use Rattle.af_audit.proofs.Grown.{rounds_grow}
 use Rattle.af_audit.proofs.Meeting.{meeting-discards}
+use Rattle.af_audit.proofs.RunStands.{rounds_stand}
 
 -- ## Sizes
 
@@ -41,6 +45,27 @@ stream_narrow version spec = by_version (version == 2)
     by_version true = let m = most_cells 13 spec.frames in omega (arith, m)
     by_version false = omega arith
 
+-- what a client of a script flushes at most
+abbrev pub most_flushes : ℕ
+most_flushes = 4097
+
+pub new_few : (s : Session) → IsScript s.script → (track : ℕ) → track < track_count s → HasFew most_flushes track (new_run s)
+new_few s is track low =
+    let new : told_flushes (told_at (new_run s) track) ≡ 0 + (0 + length (spec_of s track).ops) = ap told_flushes (told_new s track low) in
+    let ops = (All-get_or IsTrack s.script.tracks track no_spec low is.tracks).count in
+    record { there = new_there s track low; few = omega (arith, new, ops) }
+
+pub flushes_few : (t : TrackTold) → told_flushes t ≤ most_flushes → flushes_of (client_list t.stream) ≤ 65536
+flushes_few t few = omega (arith, few)
+
+-- a stream block that is shaped as before the first round
+pub new_narrow : (s : Session) (track : ℕ) → track < track_count s → (run : Run) → (told_at run track).stream.shape ≡ (told_at (new_run s) track).stream.shape → (told_at run track).stream.shape.wrap ≤ 32768
+new_narrow s track low run same =
+    let new = ap (λ t. t.stream.shape.wrap) (told_new s track low) in
+    let all : (told_at run track).stream.shape.wrap ≡ (stream_shape s.script.version (spec_of s track)).wrap = ap (λ k. k.wrap) same ∙ new in
+    let few = stream_narrow s.script.version (spec_of s track) in
+    omega (arith, all, few)
+
 -- ## Rounds, cut at one of them
 
 run_cut : (s : Session) (run : Run) (before : List RoundSeen) (round : RoundSeen) (later : List RoundSeen) → run_from s run (before ++ round ∷ later) ≡ run_from s (after_round s (run_from s run before) round) later
@@ -53,16 +78,13 @@ legal_at cut s marks run (first ∷ before) round later legal = legal_at cut s m
 
 -- ## The law
 
-module _ (script : ScriptData) (files : List (List Frame)) (j : JournalData) (legal : IsLegalRun script files j) (before : List RoundSeen) (round : RoundSeen) (later : List RoundSeen) (whole : j.rounds ≡ before ++ round ∷ later) (track : ℕ)
-    (low : track < track_count (session_of script files)) (lawful : is_lawful_track j.rounds track ≡ true) where
-  abbrev pub s : Session
-  s = session_of script files
-
+module _ (cut : Bool) (s : Session) (marks : Marks) (tracks : ℕ) (rounds : List RoundSeen) (forms : All (IsRound tracks) rounds) (legal : LegalRounds cut s marks (new_run s) rounds) (before : List RoundSeen) (round : RoundSeen) (later : List RoundSeen) (whole : rounds ≡ before ++ round ∷ later)
+    (track : ℕ) (low : track < track_count s) (lawful : is_lawful_track rounds track ≡ true) where
   abbrev pub run : Run
   run = run_from s (new_run s) before
 
   abbrev pub last : Run
-  last = run_of script files j
+  last = run_from s (new_run s) rounds
 
   run_there : track < length run.tracks
   run_there = (rounds_grow track s before (new_run s) (new_there s track low)).there
@@ -70,29 +92,22 @@ module _ (script : ScriptData) (files : List (List Frame)) (j : JournalData) (le
   last_is : last ≡ run_from s (after_round s run round) later
   last_is = ap (run_from s (new_run s)) whole ∙ run_cut s (new_run s) before round later
 
-  narrow : (told_at last track).stream.shape.wrap ≤ 32768
-  narrow =
-      let same = (rounds_grow track s j.rounds (new_run s) (new_there s track low)).track.stream.shape in
-      let new = ap (λ t. t.stream.shape.wrap) (told_new s track low) in
-      let all : (told_at last track).stream.shape.wrap ≡ (stream_shape script.version (spec_of s track)).wrap = ap (λ k. k.wrap) same ∙ new in
-      let few = stream_narrow script.version (spec_of s track) in
-      omega (arith, all, few)
+  -- its server drops only behind looks that saw a new flush
+  noticed : DropsByFlush (told_at last track).stream.shape [] (server_list (told_at last track).stream)
+  noticed = (rounds_stand cut s marks tracks track rounds (new_run s) low forms legal
+      (not_true (list_any (λ (round : RoundSeen). list_any (is_poke_on false) (calls_in round track)) rounds) (both_left (is_lawful_block false rounds track) (is_lawful_block true rounds track) lawful))
+      (new_stands s track low)).stands.track.drops
 
-  few : IsScript script → flushes_of (client_list (told_at last track).stream) ≤ 65536
-  few is =
-      let new : told_flushes (told_at (new_run s) track) ≡ 0 + (0 + length (spec_of s track).ops) = ap told_flushes (told_new s track low) in
-      let ops = (All-get_or IsTrack script.tracks track no_spec low is.tracks).count in
-      let h = rounds_have 4097 track false s (marks_of j.rounds) j.rounds (new_run s) low legal.rounds.rounds (record { there = new_there s track low; few = omega (arith, new, ops) }) in
-      let all = h.few in
-      omega (arith, all)
-
-  pub seen-kept : IsScript script → (count : ℕ) → takes_part s (all_played s run round) track ≡ true
+  pub seen-kept : IsScript s.script → (count : ℕ) → takes_part s (all_played s run round) track ≡ true
       → count ≤ most_seen (told_at last track).stream.shape (server_list (told_at (all_played s run round) track).stream)
       → (h : HasBlockHistory (told_at last track).stream) → DiscardsAbove (told_at last track).stream.shape (length (told_at (after_round s run round) track).stream.released) count h.order
   seen-kept is count part seen h =
       let n : ℕ = length (told_at (after_round s run round) track).stream.released in
-      let at : LegalRound false s (marks_of j.rounds) run round = legal_at false s (marks_of j.rounds) (new_run s) before round later (subst (LegalRounds false s (marks_of j.rounds) (new_run s)) whole legal.rounds.rounds) in
+      let start = new_there s track low in
+      let narrow = new_narrow s track low last (rounds_grow track s rounds (new_run s) start).track.stream.shape in
+      let few = (rounds_have most_flushes track cut s marks rounds (new_run s) low legal (new_few s is track low)).few in
+      let at : LegalRound cut s marks run round = legal_at cut s marks (new_run s) before round later (subst (LegalRounds cut s marks (new_run s)) whole legal) in
       subst (λ (x : Run). (h : HasBlockHistory (told_at x track).stream) → (told_at x track).stream.shape.wrap ≤ 32768 → flushes_of (client_list (told_at x track).stream) ≤ 65536
       → DropsByFlush (told_at x track).stream.shape [] (server_list (told_at x track).stream) → count ≤ most_seen (told_at x track).stream.shape (server_list (told_at (all_played s run round) track).stream)
       → DiscardsAbove (told_at x track).stream.shape n count h.order)
-      (sym last_is) (meeting-discards false s (marks_of j.rounds) run round later track run_there low at part count) h narrow (few is) (frames-have-fates script files j legal track low lawful).noticed seen
+      (sym last_is) (meeting-discards cut s marks run round later track run_there low at part count) h narrow (flushes_few (told_at last track) few) noticed seen

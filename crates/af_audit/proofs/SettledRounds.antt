@@ -1,5 +1,5 @@
 -- What is kept of a track through the legal rounds of a run: what its client sent, what its mixer settled, and which flush counts its stream's server had seen by then.
-use Rattle.std.proofs.Common.{◌≡◌, inr, inl, ℕ, ◌<◌, ◌≤◌, true, false, List, [], ◌∷◌, ◌++◌, length, Some, refl, sym, subst, arith}
+use Rattle.std.proofs.Common.{◌≡◌, inr, inl, ℕ, ◌<◌, ◌≤◌, true, false, List, [], ◌∷◌, ◌++◌, length, Some, refl, sym, subst, arith, Bool}
 use Rattle.std.specs.List.{list_any}
 use Rattle.std.specs.Prelude.{All}
 use Rattle.std.proofs.lemmas.List.{length-map, length-replicate}
@@ -58,7 +58,7 @@ pub record SettlesSo (s : Session) (n : ℕ) (run : Run) : Type 0 where
 
 -- ## A round
 
-module _ (s : Session) (form : IsScript s.script) (marks : Marks) (run : Run) (round : RoundSeen) (tracks n : ℕ) (low : n < track_count s) (is_round : IsRound tracks round) (legal : LegalRound false s marks run round) (h : SettlesSo s n run) where
+module _ (cut : Bool) (s : Session) (form : IsScript s.script) (marks : Marks) (run : Run) (round : RoundSeen) (tracks n : ℕ) (low : n < track_count s) (is_round : IsRound tracks round) (legal : LegalRound cut s marks run round) (h : SettlesSo s n run) where
   abbrev played : Run
   played = all_played s run round
 
@@ -69,12 +69,12 @@ module _ (s : Session) (form : IsScript s.script) (marks : Marks) (run : Run) (r
   found_commands e is = sym ((cycles_beside s (early_of run round) (with_calls round run)).commands n)
 
   found_legal : (e : Turn) → round.turn ≡ Some e → LegalTurnBy (setup_of s) marks (found_in s run round e) (before_turn s run round).normal e
-  found_legal e is = subst (λ (m : NormalKept). LegalTurnBy (setup_of s) marks (found_in s run round e) m e) (sym (before_normal s run round)) (turn_legal false s marks run round legal e is)
+  found_legal e is = subst (λ (m : NormalKept). LegalTurnBy (setup_of s) marks (found_in s run round e) m e) (sym (before_normal s run round)) (turn_legal cut s marks run round legal e is)
 
   found_heard : (e : Turn) → round.turn ≡ Some e → (let k = learnt (outside_of (setup_of s) (found_in s run round e) e) in (heard k n (track_at (tracks_at (setup_of s) k (before_turn s run round).normal e n) n)).flush_seen ≤ most)
   found_heard e is =
       let k : Learnt = learnt (outside_of (setup_of s) (found_in s run round e) e) in
-      subst (λ (m : NormalKept). (heard k n (track_at (tracks_at (setup_of s) k m e n) n)).flush_seen ≤ most) (sym (before_normal s run round)) (heard_told flushes s form marks run round tracks n is_round legal h.tells e is)
+      subst (λ (m : NormalKept). (heard k n (track_at (tracks_at (setup_of s) k m e n) n)).flush_seen ≤ most) (sym (before_normal s run round)) (heard_told flushes cut s form marks run round tracks n is_round legal h.tells e is)
 
   -- when its turns were made
   pub played_at : CommandsAt most n played
@@ -89,32 +89,32 @@ module _ (s : Session) (form : IsScript s.script) (marks : Marks) (run : Run) (r
   -- and after it
   pub round_settles : list_any (is_poke_on true) (calls_in round n) ≡ false → SettlesSo s n (after_round s run round)
   round_settles calm = record {
-    tells = tells_round flushes s form marks run round tracks n is_round legal h.tells;
+    tells = tells_round flushes cut s form marks run round tracks n is_round legal h.tells;
     commands = at_more most (of_run flushes (after_round s run round) n) n (after_round s run round) (run_told flushes played (after_round s run round) (from_played s run round) n)
         (ends_at most n (met_after s run round) (met_at_so most n s played played_at));
-    trim = (spares_round true false s marks run round tracks n is_round legal low h.tells.low (λ on. calm)).trim h.trim;
+    trim = (spares_round true cut s marks run round tracks n is_round legal low h.tells.low (λ on. calm)).trim h.trim;
   }
 
 -- ## Rounds, up to one of them
 
-pub record AtRound (s : Session) (marks : Marks) (tracks n : ℕ) (run : Run) (round : RoundSeen) : Type 0 where
+pub record AtRound (cut : Bool) (s : Session) (marks : Marks) (tracks n : ℕ) (run : Run) (round : RoundSeen) : Type 0 where
   pub settles : SettlesSo s n run
   pub form : IsRound tracks round
-  pub legal : LegalRound false s marks run round
+  pub legal : LegalRound cut s marks run round
   pub calm : list_any (is_poke_on true) (calls_in round n) ≡ false
 
-pub at_round : (s : Session) (script : IsScript s.script) (marks : Marks) (tracks n : ℕ) → n < track_count s → (before : List RoundSeen) (round : RoundSeen) (later : List RoundSeen) (run : Run) → All (IsRound tracks) (before ++ round ∷ later) → LegalRounds false s marks run (before ++ round ∷ later)
-    → list_any (λ round. list_any (is_poke_on true) (calls_in round n)) (before ++ round ∷ later) ≡ false → SettlesSo s n run → AtRound s marks tracks n (run_from s run before) round
-at_round s script marks tracks n low [] round later run forms legal calm h = record {
+pub at_round : (cut : Bool) (s : Session) (script : IsScript s.script) (marks : Marks) (tracks n : ℕ) → n < track_count s → (before : List RoundSeen) (round : RoundSeen) (later : List RoundSeen) (run : Run) → All (IsRound tracks) (before ++ round ∷ later) → LegalRounds cut s marks run (before ++ round ∷ later)
+    → list_any (λ round. list_any (is_poke_on true) (calls_in round n)) (before ++ round ∷ later) ≡ false → SettlesSo s n run → AtRound cut s marks tracks n (run_from s run before) round
+at_round cut s script marks tracks n low [] round later run forms legal calm h = record {
   settles = h;
   form = All-head (IsRound tracks) round later forms;
   legal = legal.0;
   calm = (neither (list_any (is_poke_on true) (calls_in round n)) (list_any (λ round. list_any (is_poke_on true) (calls_in round n)) later) calm).0;
 }
-at_round s script marks tracks n low (first ∷ before) round later run forms legal calm h =
+at_round cut s script marks tracks n low (first ∷ before) round later run forms legal calm h =
     let two = neither (list_any (is_poke_on true) (calls_in first n)) (list_any (λ round. list_any (is_poke_on true) (calls_in round n)) (before ++ round ∷ later)) calm in
-    at_round s script marks tracks n low before round later (after_round s run first) (All-tail (IsRound tracks) first (before ++ round ∷ later) forms) legal.1 two.1
-    (round_settles s script marks run first tracks n low (All-head (IsRound tracks) first (before ++ round ∷ later) forms) legal.0 h two.0)
+    at_round cut s script marks tracks n low before round later (after_round s run first) (All-tail (IsRound tracks) first (before ++ round ∷ later) forms) legal.1 two.1
+    (round_settles cut s script marks run first tracks n low (All-head (IsRound tracks) first (before ++ round ∷ later) forms) legal.0 h two.0)
 
 -- ## Before the first round
 

@@ -1,7 +1,7 @@
 -- In a legal run of a script: where a client saw its START settled, the frames that it released in later rounds are discarded only by looks that saw a flush count above that of the START.
-use Rattle.std.specs.Prelude.{All, slice_get}
+use Rattle.std.specs.Prelude.{All, slice_get, []}
 use Rattle.std.specs.List.{list_any}
-use Rattle.std.proofs.Common.{◌≡◌, ◌⊎◌, inl, inr, ℕ, ◌+◌, ◌*◌, ◌/◌, ◌<◌, ◌≤◌, true, false, List, [], ◌∷◌, ◌++◌, take, drop, length, Option, Some, None, refl, sym, ap, ◌∙◌, subst, append_assoc, arith}
+use Rattle.std.proofs.Common.{◌≡◌, ◌⊎◌, inl, inr, ℕ, ◌+◌, ◌*◌, ◌/◌, ◌<◌, ◌≤◌, true, false, List, ◌∷◌, ◌++◌, take, drop, length, Option, Some, None, refl, sym, ap, ◌∙◌, subst, append_assoc, arith, Bool}
 use Rattle.std.proofs.Math.Nat.{zero-div}
 use Rattle.std.proofs.lemmas.List.{take-append-drop}
 use Rattle.af_base.specs.declared.event.ClientEvent.{ClientEvent}
@@ -22,10 +22,10 @@ use Rattle.af_runs.specs.Blocks.{BlockTold, HasBlockHistory, Marks, client_list,
 use Rattle.af_runs.specs.Clients.{Client, settled_in}
 use Rattle.af_runs.specs.ClientTurns.{Side, Track, after_calls}
 use Rattle.af_runs.specs.Found.{TurnFound, outside_of}
-use Rattle.af_runs.specs.LegalRuns.{IsLegalRun, LegalRounds, is_lawful_block, is_poke_on, marks_of, run_from, run_of, session_of}
-use Rattle.af_runs.specs.Rounds.{after_turn, all_played, before_turn, early_of, found_in, late_of, loaded, met_after, turned}
-use Rattle.af_runs.specs.Runs.{Run, TrackTold, called, calls_in, new_run, no_track, side_of, sides_of, told_at, turned_track, with_calls, with_cycles, with_load, with_turn}
-use Rattle.af_runs.specs.Sessions.{Session, setup_of}
+use Rattle.af_runs.specs.LegalRuns.{IsLegalRun, LegalRounds, is_lawful_block, is_lawful_track, is_poke_on, marks_of, run_from, session_of}
+use Rattle.af_runs.specs.Rounds.{after_round, after_turn, all_played, before_turn, early_of, found_in, late_of, loaded, met_after, turned}
+use Rattle.af_runs.specs.Runs.{Run, TrackTold, called, calls_in, new_run, no_track, side_of, sides_of, takes_part, told_at, turned_track, with_calls, with_cycles, with_load, with_turn}
+use Rattle.af_runs.specs.Sessions.{Session, setup_of, track_count}
 use Rattle.af_script.specs.Data.{ScriptData}
 use Rattle.af_script.specs.Form.{IsScript}
 use Rattle.af_judge.proofs.BlocksMeet.{met_at}
@@ -33,7 +33,7 @@ use Rattle.af_judge.proofs.EachTrack.{each_at, told_each}
 use Rattle.af_judge.proofs.EntriesFollow.{cycles_beside}
 use Rattle.af_judge.proofs.TracksTold.{sides_called}
 use Rattle.af_audit.specs.Known.{most_seen}
-use Rattle.af_audit.specs.Settled.{SettledMeansKept}
+use Rattle.af_audit.specs.Settled.{DiscardsAbove, SeesSettled, SettledMeansKept}
 use Rattle.af_audit.proofs.CommandDrops.{taken_first}
 use Rattle.af_audit.proofs.CommandRounds.{CommandsAt, CommandsSo, met_so}
 use Rattle.af_audit.proofs.FatesTold.{new_there}
@@ -54,7 +54,7 @@ use Rattle.af_audit.proofs.Booleans.{not_true}
 -- ## A block that has met
 
 -- a status that its client saw counts no START as settled whose flush count wasn't seen
-seen_low : (most : ℕ) (b : BlockTold) (c : Client) (s : TrackKept) (count : ℕ) → CommandsSo most b c s → HasBlockHistory (meets b) → HasSeenSettled (side_of b) count → count ≤ most
+pub seen_low : (most : ℕ) (b : BlockTold) (c : Client) (s : TrackKept) (count : ℕ) → CommandsSo most b c s → HasBlockHistory (meets b) → HasSeenSettled (side_of b) count → count ≤ most
 seen_low most b c s count h history saw = by_word (saw-stored b.shape saw.before saw.word (saw.later ++ client.Learn (length (server_list b)) ∷ []) b.released (server_list (meets b)) b.taken (hand_list (meets b)) listed_so)
   where
     listed_so : HasHistory b.shape (saw.before ++ client.SawStatus saw.word ∷ (saw.later ++ client.Learn (length (server_list b)) ∷ [])) b.released (server_list (meets b)) b.taken (hand_list (meets b))
@@ -134,24 +134,32 @@ module _ (s : Session) (run : Run) (round : RoundSeen) (n : ℕ) (low : n < leng
 before_there : (s : Session) (run : Run) (round : RoundSeen) (n : ℕ) → n < length run.tracks → n < length (before_turn s run round).tracks
 before_there s run round n low = (let a = (grows_calls s round run).many in let b = (grows_cycles s (early_of run round) (with_calls round run)).many in omega (arith, a, b, low))
 
-seen_by : (s : Session) (played : Run) (n : ℕ) (k : Shape) (count : ℕ) → (told_at played n).stream.shape ≡ k → count ≤ of_run flushes played n → count ≤ most_seen k (server_list (told_at played n).stream)
+pub seen_by : (s : Session) (played : Run) (n : ℕ) (k : Shape) (count : ℕ) → (told_at played n).stream.shape ≡ k → count ≤ of_run flushes played n → count ≤ most_seen k (server_list (told_at played n).stream)
 seen_by s played n k count same seen = subst (λ (x : Shape). count ≤ most_seen x (server_list (told_at played n).stream)) same seen
 
-pub settled : (script : ScriptData) (files : List (List Frame)) (j : JournalData) → IsScript script → IsLegalRun script files j → SettledMeansKept script files j
-settled script files j is legal before round later whole track low lawful count sees part h =
-    let s : Session = session_of script files in
+-- where a client saw a START settled, what it released in later rounds is discarded only so, in each history of its stream block after these rounds
+abbrev pub AreKept : Session → List RoundSeen → Type 0
+AreKept s rounds =
+    (before : List RoundSeen) (round : RoundSeen) (later : List RoundSeen) → rounds ≡ before ++ round ∷ later → (track : ℕ) → track < track_count s → is_lawful_track rounds track ≡ true
+    → (let run = run_from s (new_run s) before in
+    (count : ℕ) → SeesSettled (sides_of (told_at run track)) (calls_in round track) count → takes_part s (all_played s run round) track ≡ true
+    → (let b = (told_at (run_from s (new_run s) rounds) track).stream in
+    (h : HasBlockHistory b) → DiscardsAbove b.shape (length (told_at (after_round s run round) track).stream.released) count h.order))
+
+pub rounds-settled : (cut : Bool) (s : Session) (marks : Marks) (tracks : ℕ) (rounds : List RoundSeen) → IsScript s.script → All (IsRound tracks) rounds → LegalRounds cut s marks (new_run s) rounds → AreKept s rounds
+rounds-settled cut s marks tracks rounds is forms legal before round later whole track low lawful count sees part h =
     let run : Run = run_from s (new_run s) before in
-    let marks : Marks = marks_of j.rounds in
     let played : Run = all_played s run round in
-    let commands : is_lawful_block true j.rounds track ≡ true = both_right (is_lawful_block false j.rounds track) (is_lawful_block true j.rounds track) lawful in
-    let calm = not_true (list_any (λ (round : RoundSeen). list_any (is_poke_on true) (calls_in round track)) j.rounds) commands in
-    let at : AtRound s marks j.tracks track run round = at_round s is marks j.tracks track low before round later (new_run s)
-    (subst (All (IsRound j.tracks)) whole legal.rounds.form.rounds)
-    (subst (LegalRounds false s marks (new_run s)) whole legal.rounds.rounds)
+    let last : Run = run_from s (new_run s) rounds in
+    let commands : is_lawful_block true rounds track ≡ true = both_right (is_lawful_block false rounds track) (is_lawful_block true rounds track) lawful in
+    let calm = not_true (list_any (λ (round : RoundSeen). list_any (is_poke_on true) (calls_in round track)) rounds) commands in
+    let at : AtRound cut s marks tracks track run round = at_round cut s is marks tracks track low before round later (new_run s)
+    (subst (All (IsRound tracks)) whole forms)
+    (subst (LegalRounds cut s marks (new_run s)) whole legal)
     (subst (λ (rs : List RoundSeen). list_any (λ (round : RoundSeen). list_any (is_poke_on true) (calls_in round track)) rs ≡ false) whole calm)
     (new_settles s is track low) in
     let there : track < length run.tracks = at.settles.tells.low in
-    let c : CommandsAt (of_run flushes played track) track played = played_at s is marks run round j.tracks track low at.form at.legal at.settles in
+    let c : CommandsAt (of_run flushes played track) track played = played_at cut s is marks run round tracks track low at.form at.legal at.settles in
     let b : BlockTold = (told_at played track).commands in
     let side : side_of b ≡ (after_calls (sides_of (told_at run track)) (calls_in round track)).commands = played_side s run round track there (before_there s run round track there) in
     let saw : HasSeenSettled (side_of b) count = subst (λ (x : Side). HasSeenSettled x count) (sym side) (turn-sees (sides_of (told_at run track)) (calls_in round track) count sees) in
@@ -160,8 +168,12 @@ settled script files j is legal before round later whole track low lawful count 
     let history : HasBlockHistory (meets b) = subst HasBlockHistory met ((at.legal.histories.blocks track low).commands refl (ap (λ (x : BlockTold). is_lawful (client_list x)) met ∙ lawful_more (client_list b) (client.Learn (length (server_list b))) refl tame)) in
     let seen : count ≤ of_run flushes played track = seen_low (of_run flushes played track) b (told_at played track).client (track_at played.normal.tracks track) count c.commands history saw in
     let start = new_there s track low in
-    let shape_last : (told_at (run_of script files j) track).stream.shape ≡ (told_at (new_run s) track).stream.shape = (rounds_grow track s j.rounds (new_run s) start).track.stream.shape in
+    let shape_last : (told_at last track).stream.shape ≡ (told_at (new_run s) track).stream.shape = (rounds_grow track s rounds (new_run s) start).track.stream.shape in
     let shape_run : (told_at run track).stream.shape ≡ (told_at (new_run s) track).stream.shape = (rounds_grow track s before (new_run s) start).track.stream.shape in
     let shape_played : (told_at played track).stream.shape ≡ (told_at run track).stream.shape = (played_grow track s run round there).track.stream.shape in
-    let shape : (told_at played track).stream.shape ≡ (told_at (run_of script files j) track).stream.shape = shape_played ∙ shape_run ∙ sym shape_last in
-    seen-kept script files j legal before round later whole track low lawful is count part (seen_by s played track (told_at (run_of script files j) track).stream.shape count shape seen) h
+    let shape : (told_at played track).stream.shape ≡ (told_at last track).stream.shape = shape_played ∙ shape_run ∙ sym shape_last in
+    seen-kept cut s marks tracks rounds forms legal before round later whole track low lawful is count part (seen_by s played track (told_at last track).stream.shape count shape seen) h
+
+-- by the end of a legal run too
+pub settled : (script : ScriptData) (files : List (List Frame)) (j : JournalData) → IsScript script → IsLegalRun script files j → SettledMeansKept script files j
+settled script files j is legal = rounds-settled false (session_of script files) (marks_of j.rounds) j.tracks j.rounds is legal.rounds.form.rounds legal.rounds.rounds

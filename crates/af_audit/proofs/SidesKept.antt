@@ -45,7 +45,7 @@ fit_by s n t u file spelled stream commands h = record {
 }
 
 -- after a legal turn of its client
-fit_called : (s : Session) (n : ℕ) (t : TrackTold) (calls : List ClientCall) → LegalClientTurn (sides_of t) calls → IsFit s n (sides_of t) → IsFit s n (sides_of (called calls t))
+pub fit_called : (s : Session) (n : ℕ) (t : TrackTold) (calls : List ClientCall) → LegalClientTurn (sides_of t) calls → IsFit s n (sides_of t) → IsFit s n (sides_of (called calls t))
 fit_called s n t calls legal h =
     let shapes = shapes_called (sides_of t) calls in
     subst (IsFit s n) (sym (sides_called t calls))
@@ -141,7 +141,7 @@ module _ (s : Session) (run : Run) (round : RoundSeen) where
       let late = fit-cycles s (late_of run round) (after_turn s run round) n (let m = after-many in omega (arith, low, m)) turn in
       fit-loaded s (with_cycles s (late_of run round) (after_turn s run round)) round.turn n late
 
-shape_met : (there hands : Bool) (b : BlockTold) → (stream_met there hands b).shape ≡ b.shape
+pub shape_met : (there hands : Bool) (b : BlockTold) → (stream_met there hands b).shape ≡ b.shape
 shape_met true true b = refl
 shape_met true false b = refl
 shape_met false true b = refl

@@ -69,7 +69,7 @@ rounds_so cut s marks n (round ∷ rounds) run low legal h = rounds_so cut s mar
 -- ## Before the first round
 
 module _ (s : Session) (script : IsScript s.script) (n : ℕ) (low : n < track_count s) where
-  new_fit : IsFit s n (sides_of (new_track s n))
+  pub new_fit : IsFit s n (sides_of (new_track s n))
   new_fit = record {
     file = refl;
     spelled = record { stream = list.begins; commands = list.begins };

@@ -13,7 +13,7 @@ use Rattle.af_runs.specs.Clients.{settled_in}
 
 -- ## A word
 
-code_low : (state : LifeState) → code_of state ≤ 15
+pub code_low : (state : LifeState) → code_of state ≤ 15
 code_low Absent = omega arith
 code_low Idle = omega arith
 code_low Active = omega arith

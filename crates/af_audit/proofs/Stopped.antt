@@ -9,14 +9,14 @@ use Rattle.af_life.specs.declared.kept.TrackKept.{TrackKept}
 use Rattle.af_life.specs.Turn.{LegalTurn, turn_after}
 use Rattle.af_model.specs.Journals.{RoundSeen}
 use Rattle.af_runs.specs.Blocks.{Marks}
-use Rattle.af_runs.specs.Found.{LegalTurnBy, outside_of}
+use Rattle.af_runs.specs.Found.{LegalTurnBy, TurnFound, outside_of}
 use Rattle.af_runs.specs.Rounds.{LegalRound, after_round, found_in}
 use Rattle.af_runs.specs.Runs.{Run, new_run}
 use Rattle.af_runs.specs.Sessions.{Session, setup_of, spec_setting, track_count}
 use Rattle.af_judge.proofs.SoundTurns.{at_new}
 use Rattle.af_audit.proofs.Booleans.{no}
 use Rattle.af_audit.proofs.MixerTurns.{mixer_after, round_normal, turn_legal}
-use Rattle.af_audit.specs.Drained.{says_drained, turn_steps, round_steps}
+use Rattle.af_audit.specs.Drained.{says_drained, round_steps}
 
 -- ## The turns so far
 
@@ -40,49 +40,57 @@ track_new s track low = (
   at_new (length (setup_of s).settings) track,
 )
 
-module _ (cut : Bool) (s : Session) (marks : Marks) (run : Run) (round : RoundSeen) (legal : LegalRound cut s marks run round) where
-  module _ (track : ℕ) (steps : List LifeStep) (h : AreTurns s track run steps) where
-    abbrev c : Setup
-    c = setup_of s
+module _ (s : Session) (marks : Marks) (run : Run) (track : ℕ) (steps : List LifeStep) (h : AreTurns s track run steps) where
+  abbrev c : Setup
+  c = setup_of s
 
-    abbrev start : NormalKept
-    start = new_normal c
+  abbrev start : NormalKept
+  start = new_normal c
 
-    module _ (e : Turn) (is : round.turn ≡ Some e) where
-      abbrev by : LegalTurnBy c marks (found_in s run round e) run.normal e
-      by = turn_legal cut s marks run round legal e is
+  -- a turn that is legal by what it found
+  module _ (f : TurnFound) (e : Turn) (by : LegalTurnBy c marks f run.normal e) where
+    abbrev turn : Turned
+    turn = (by.outside, e)
 
-      abbrev turn : Turned
-      turn = (by.outside, e)
+    abbrev now_steps : List LifeStep
+    now_steps = track_steps c (learnt (outside_of c f e)) run.normal e track steps
 
-      same_learnt : learnt by.outside ≡ learnt (outside_of c (found_in s run round e) e)
-      same_learnt = ap learnt by.found
+    same_learnt : learnt by.outside ≡ learnt (outside_of c f e)
+    same_learnt = ap learnt by.found
 
-      same_steps : track_steps c (learnt by.outside) (kept_after c start h.turns) e track (steps_of c start h.turns track) ≡ turn_steps s run round e track steps
-      same_steps = λ i. track_steps c (same_learnt i) (h.mixer i) e track (h.made i)
+    same_steps : track_steps c (learnt by.outside) (kept_after c start h.turns) e track (steps_of c start h.turns track) ≡ now_steps
+    same_steps = λ i. track_steps c (same_learnt i) (h.mixer i) e track (h.made i)
 
-      now_legal : AreLegal c start (turn ∷ h.turns)
-      now_legal = (subst (λ (m : NormalKept). LegalTurn c by.outside m e) (sym h.mixer) by.legal, h.legal)
+    now_legal : AreLegal c start (turn ∷ h.turns)
+    now_legal = (subst (λ (m : NormalKept). LegalTurn c by.outside m e) (sym h.mixer) by.legal, h.legal)
 
-      now_mixer : kept_after c start (turn ∷ h.turns) ≡ turn_after c (learnt (outside_of c (found_in s run round e) e)) run.normal e
-      now_mixer = λ i. turn_after c (same_learnt i) (h.mixer i) e
+    now_mixer : kept_after c start (turn ∷ h.turns) ≡ turn_after c (learnt (outside_of c f e)) run.normal e
+    now_mixer = λ i. turn_after c (same_learnt i) (h.mixer i) e
 
-      -- where its status says drained
-      pub turn_drained : Reaches → track < track_count s → reports_drained (track_in e track) ≡ true → IsDrainedBy (turn_steps s run round e track steps)
-      turn_drained reached low drained =
-          let new = track_new s track low in
-          subst IsDrainedBy same_steps (reached c start turn h.turns track (most_heard (steps_of c start (turn ∷ h.turns) track)) new.0 (ap (λ (t : TrackKept). t.life) new.1) now_legal (omega arith) drained)
+    pub turn_turns : (after : Run) → after.normal ≡ turn_after c (learnt (outside_of c f e)) run.normal e → AreTurns s track after now_steps
+    turn_turns after same = record { turns = turn ∷ h.turns; legal = now_legal; mixer = now_mixer ∙ sym same; made = same_steps }
 
-    by_turn : (o : Option Turn) → round.turn ≡ o → (after_round s run round).normal ≡ mixer_after s run round o → AreTurns s track (after_round s run round) (round_steps s run round o track steps)
-    by_turn None is same = record { turns = h.turns; legal = h.legal; mixer = h.mixer ∙ sym same; made = h.made }
-    by_turn (Some e) is same = record { turns = turn e is ∷ h.turns; legal = now_legal e is; mixer = now_mixer e is ∙ sym same; made = same_steps e is }
+    -- where its status says drained
+    pub turn_drained : Reaches → track < track_count s → reports_drained (track_in e track) ≡ true → IsDrainedBy now_steps
+    turn_drained reached low drained =
+        let new = track_new s track low in
+        subst IsDrainedBy same_steps (reached c start turn h.turns track (most_heard (steps_of c start (turn ∷ h.turns) track)) new.0 (ap (λ (t : TrackKept). t.life) new.1) now_legal (omega arith) drained)
 
-    pub round_turns : AreTurns s track (after_round s run round) (round_steps s run round round.turn track steps)
-    round_turns = by_turn round.turn refl (round_normal s run round)
+  -- a step that leaves the mixer alone
+  pub same_turns : (after : Run) → after.normal ≡ run.normal → AreTurns s track after steps
+  same_turns after same = record { turns = h.turns; legal = h.legal; mixer = h.mixer ∙ sym same; made = h.made }
 
-    drained_by : Reaches → track < track_count s → (o : Option Turn) → round.turn ≡ o → says_drained o track ≡ true → IsDrainedBy (round_steps s run round o track steps)
-    drained_by reached low None is says = no says
-    drained_by reached low (Some e) is says = turn_drained e is reached low says
+module _ (cut : Bool) (s : Session) (marks : Marks) (run : Run) (round : RoundSeen) (legal : LegalRound cut s marks run round) (track : ℕ) (steps : List LifeStep) (h : AreTurns s track run steps) where
+  by_turn : (o : Option Turn) → round.turn ≡ o → (after_round s run round).normal ≡ mixer_after s run round o → AreTurns s track (after_round s run round) (round_steps s run round o track steps)
+  by_turn None is same = same_turns s marks run track steps h (after_round s run round) same
+  by_turn (Some e) is same = turn_turns s marks run track steps h (found_in s run round e) e (turn_legal cut s marks run round legal e is) (after_round s run round) same
 
-    pub round_drained : Reaches → track < track_count s → says_drained round.turn track ≡ true → IsDrainedBy (round_steps s run round round.turn track steps)
-    round_drained reached low = drained_by reached low round.turn refl
+  pub round_turns : AreTurns s track (after_round s run round) (round_steps s run round round.turn track steps)
+  round_turns = by_turn round.turn refl (round_normal s run round)
+
+  drained_by : Reaches → track < track_count s → (o : Option Turn) → round.turn ≡ o → says_drained o track ≡ true → IsDrainedBy (round_steps s run round o track steps)
+  drained_by reached low None is says = no says
+  drained_by reached low (Some e) is says = turn_drained s marks run track steps h (found_in s run round e) e (turn_legal cut s marks run round legal e is) reached low says
+
+  pub round_drained : Reaches → track < track_count s → says_drained round.turn track ≡ true → IsDrainedBy (round_steps s run round round.turn track steps)
+  round_drained reached low = drained_by reached low round.turn refl

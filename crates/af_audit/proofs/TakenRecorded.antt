@@ -78,7 +78,7 @@ module _ (s : Session) (n : ℕ) where
   takes_loaded None run low = takes_none n run run low refl
   takes_loaded (Some e) run low = takes_none n run (with_load e run) low refl
 
-  taken_met : (there hands : Bool) (b : BlockTold) → (stream_met there hands b).taken ≡ b.taken
+  pub taken_met : (there hands : Bool) (b : BlockTold) → (stream_met there hands b).taken ≡ b.taken
   taken_met true true b = refl
   taken_met true false b = refl
   taken_met false true b = refl

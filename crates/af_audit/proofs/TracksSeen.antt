@@ -28,12 +28,19 @@ module _ (c : Setup) (f : TurnFound) (m : NormalKept) (e : Turn) (o : Outside) (
   not_there is high = get_or_past e.tracks n nothing_seen (let w = (legal.goes_on is).whole in let h : length m.tracks ≤ n = grind (arith, nat_tests, high) in omega (arith, w, h))
 
   -- what is seen of a track is legal, if it is looked at
-  pub track_legal : e.ended ≡ false → (looks ≡ []) ⊎ LegalTrack c (learnt told) (track_in e n) (tracks_at c (learnt told) m e n) n
-  track_legal is = by_low (nat_lt n (length m.tracks)) refl
+  pub seen_legal : e.ended ≡ false → (track_in e n ≡ nothing_seen) ⊎ LegalTrack c (learnt told) (track_in e n) (tracks_at c (learnt told) m e n) n
+  seen_legal is = by_low (nat_lt n (length m.tracks)) refl
     where
-      by_low : (x : Bool) → nat_lt n (length m.tracks) ≡ x → (looks ≡ []) ⊎ LegalTrack c (learnt told) (track_in e n) (tracks_at c (learnt told) m e n) n
+      by_low : (x : Bool) → nat_lt n (length m.tracks) ≡ x → (track_in e n ≡ nothing_seen) ⊎ LegalTrack c (learnt told) (track_in e n) (tracks_at c (learnt told) m e n) n
       by_low true low = inr (subst (λ k. LegalTrack c k (track_in e n) (tracks_at c k m e n) n) (ap learnt found) ((legal.goes_on is).tracks n (let l : n < length m.tracks = grind (arith, nat_tests, low) in l)))
-      by_low false high = inl (ap (λ (seen : TrackSeen). seen.looks) (not_there is high))
+      by_low false high = inl (not_there is high)
+
+  pub track_legal : e.ended ≡ false → (looks ≡ []) ⊎ LegalTrack c (learnt told) (track_in e n) (tracks_at c (learnt told) m e n) n
+  track_legal is = by_seen (seen_legal is)
+    where
+      by_seen : (track_in e n ≡ nothing_seen) ⊎ LegalTrack c (learnt told) (track_in e n) (tracks_at c (learnt told) m e n) n → (looks ≡ []) ⊎ LegalTrack c (learnt told) (track_in e n) (tracks_at c (learnt told) m e n) n
+      by_seen (inl none) = inl (ap (λ (seen : TrackSeen). seen.looks) none)
+      by_seen (inr legal_so) = inr legal_so
 
   -- and so are its looks, by some fronts
   pub looks_legal : e.ended ≡ false → (fronts : List ℕ) × LegalLooks (listed b) looks fronts

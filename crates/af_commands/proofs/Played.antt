@@ -5,7 +5,8 @@ use Rattle.af_model.specs.Journals.{JournalData}
 use Rattle.af_io.specs.Files.{Files, SetsFile}
 use Rattle.af_io.specs.declared.store.StoreError.{StoreError}
 use Rattle.af_tally.specs.declared.summary.Summary.{Summary}
-use Rattle.af_journal_laws.proofs.AllHolds.{holds-at-meetings-alone}
+use Rattle.af_journal_laws.specs.Laws.{HoldsAtMeetingsAlone}
+use Rattle.af_journal_laws.proofs.AllHolds.{OfTurnRuns}
 use Rattle.af_one_turn_run.proofs.OneTurnRun.{one_turn_run}
 use Rattle.af_render_law.proofs.RendersTold.{render_told}
 use Rattle.af_script.specs.Form.{IsScript}
@@ -21,7 +22,7 @@ use Rattle.af_commands.specs.Sessions.{IsSession, IsSomeSessionLine, summary_lin
 use Rattle.af_commands.specs.Told.{TellsRender}
 use Rattle.af_commands.proofs.Made.{Makes-unwritten}
 
-module _ (l : Loaded) (journal : JournalData) (ends : EndsState) (back : HandsBack l.script l.files journal ends) (summary : Summary) (summary_is : summary ≡ summary_told l.script.frames journal ends) (accepted : IsScript l.script) where
+module _ (l : Loaded) (journal : JournalData) (ends : EndsState) (back : HandsBack l.script l.files journal ends) (summary : Summary) (summary_is : summary ≡ summary_told l.script.frames journal ends) (accepted : IsScript l.script) (follows : OfTurnRuns HoldsAtMeetingsAlone) where
   is_session : IsSession l.script l.files (journal_pcm l.script.frames journal) (summary_line summary)
   is_session = record {
     journal = journal;
@@ -32,7 +33,7 @@ module _ (l : Loaded) (journal : JournalData) (ends : EndsState) (back : HandsBa
     told = (let told = render_told l.script l.files journal ends accepted back in record {
       run = told.run;
       line_is = ap summary_line (summary_is ∙ told.summary);
-      met = holds-at-meetings-alone l.script l.files journal accepted told.run;
+      met = follows l.script l.files journal accepted told.run;
       alone = (λ plain met other run also. one_turn_run l.script l.files other journal accepted plain run told.run also met);
     });
     kept = (render_told l.script l.files journal ends accepted back).kept;
@@ -54,10 +55,10 @@ module _ (l : Loaded) (journal : JournalData) (ends : EndsState) (back : HandsBa
 
 -- ## What is told of a render
 
-module _ (l : Loaded) (accepted : IsScript l.script) where
+module _ (l : Loaded) (accepted : IsScript l.script) (follows : OfTurnRuns HoldsAtMeetingsAlone) where
   pub some_line_told : (played : Result Played StoreError) (result : Result (String Global) Stop) → IfOk played (λ p. HandsBack l.script l.files p.journal p.ends) → IfOk played (λ p. p.summary ≡ summary_told l.script.frames p.journal p.ends)
       → TellsRender played result → IfOk result (λ line. IsSomeSessionLine (string_bytes line))
-  some_line_told (Ok p) (Ok line) back summary told = some_line l p.journal p.ends back p.summary summary accepted (string_bytes line) told
+  some_line_told (Ok p) (Ok line) back summary told = some_line l p.journal p.ends back p.summary summary accepted follows (string_bytes line) told
   some_line_told (Err e) (Ok line) back summary clash = let none : ⊥ = cc in absurd none
   some_line_told played (Err stop) back summary told = tt
 
@@ -65,8 +66,8 @@ module _ (l : Loaded) (accepted : IsScript l.script) where
     pub Makes-rendered : (played : Result Played StoreError) (result : Result (String Global) Stop) → IfOk played (λ p. HandsBack l.script l.files p.journal p.ends) → IfOk played (λ p. p.summary ≡ summary_told l.script.frames p.journal p.ends)
         → IfOk played (λ p. SetsFile old target (Some (journal_pcm l.script.frames p.journal)) new) → OnErr played (LeavesSound l.script l.files target old new)
         → TellsRender played result → Makes result (Ok (session_job target l)) old new
-    Makes-rendered (Ok p) (Ok line) back summary set left told = Makes-played l p.journal p.ends back p.summary summary accepted target old new set line told
+    Makes-rendered (Ok p) (Ok line) back summary set left told = Makes-played l p.journal p.ends back p.summary summary accepted follows target old new set line told
     Makes-rendered (Ok p) (Err stop) back summary set left is =
-        subst (λ (s : Stop). Makes (Err s) (Ok (session_job target l)) old new) (sym is) (cut_behind l p.journal p.ends back p.summary summary accepted target old new set)
+        subst (λ (s : Stop). Makes (Err s) (Ok (session_job target l)) old new) (sym is) (cut_behind l p.journal p.ends back p.summary summary accepted follows target old new set)
     Makes-rendered (Err e) result back summary set left is =
         subst (λ (r : Result (String Global) Stop). Makes r (Ok (session_job target l)) old new) (sym is) (Makes-unwritten e (session_job target l) old new left)

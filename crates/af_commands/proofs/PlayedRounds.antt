@@ -4,7 +4,7 @@ use Rattle.std.specs.declared.alloc.Global.{Global}
 use Rattle.af_io.specs.Files.{Files, SameFiles, SetsFile, LeavesFront}
 use Rattle.af_io.specs.Outputs.{with_file}
 use Rattle.af_journal_laws.specs.Laws.{HoldsAtMeetings}
-use Rattle.af_journal_laws.proofs.AllHolds.{holds-at-meetings}
+use Rattle.af_journal_laws.proofs.AllHolds.{OfRounds}
 use Rattle.af_script.specs.Form.{IsScript}
 use Rattle.af_journal.specs.Readings.{IsOneReading}
 use Rattle.af_journal.specs.Texts.{text_of}
@@ -39,15 +39,15 @@ pub record IsKept (ended : Bool) (l : Loaded) (journal : JournalData) : Type 0 w
   pub met : HoldsAtMeetings l.script l.files journal
 
 -- the promises of a journal
-pub promises : (l : Loaded) (accepted : IsScript l.script) (p : Played) → KeepsPlay l.script l.files (Ok p) → IsKept true l p.journal
-promises l accepted p keeps = record {
+pub promises : (l : Loaded) (accepted : IsScript l.script) → OfRounds HoldsAtMeetings → (p : Played) → KeepsPlay l.script l.files (Ok p) → IsKept true l p.journal
+promises l accepted follows p keeps = record {
   legal = record { legal = keeps.legal; fates = keeps.fates; unshut = keeps.unshut; drained = keeps.drained; settled = keeps.settled; emptied = keeps.emptied };
-  met = holds-at-meetings false l.script l.files p.journal accepted keeps.legal.rounds;
+  met = follows false l.script l.files p.journal accepted keeps.legal.rounds;
 }
 
 -- and those of one that was cut off
-pub cut_short : (l : Loaded) (accepted : IsScript l.script) (journal : JournalData) (ends : EndsState) → KeepsPlay l.script l.files (Err (fault.CycleLimit journal ends)) → IsKept false l journal
-cut_short l accepted journal ends keeps = record { legal = (keeps.cut_run, keeps.enough); met = holds-at-meetings true l.script l.files journal accepted keeps.cut_run.rounds }
+pub cut_short : (l : Loaded) (accepted : IsScript l.script) → OfRounds HoldsAtMeetings → (journal : JournalData) (ends : EndsState) → KeepsPlay l.script l.files (Err (fault.CycleLimit journal ends)) → IsKept false l journal
+cut_short l accepted follows journal ends keeps = record { legal = (keeps.cut_run, keeps.enough); met = follows true l.script l.files journal accepted keeps.cut_run.rounds }
 
 -- the text of a run's journal is read as this journal alone
 pub read_alone : (ended : Bool) (l : Loaded) (journal : JournalData) (ends : EndsState) → HandsBackRun ended l.script l.files journal ends → IsTextFor l.script (text_of journal) journal
@@ -107,9 +107,9 @@ Makes-cut l journal ends back legal target name old mid new set text cycles is =
 pub LeavesRun-stays : (l : Loaded) (target : List ℕ) (old mid new : Files) → LeavesRun l.script l.files target old mid → SameFiles mid new → LeavesRun l.script l.files target old new
 LeavesRun-stays l target old mid new left same = subst (λ (files : Files). LeavesRun l.script l.files target old files) (sym (files_are mid new same)) left
 
-module _ (l : Loaded) (accepted : IsScript l.script) (cycles : ℕ) where
+module _ (l : Loaded) (accepted : IsScript l.script) (follows : OfRounds HoldsAtMeetings) (cycles : ℕ) where
   pub some_play_told : (played : Result Played PlayFault) (result : Result (String Global) Stop) → KeepsPlay l.script l.files played → Tells cycles played result → IfOk result (λ line. IsSomePlayLine (string_bytes line))
-  some_play_told (Ok p) (Ok line) keeps told = some_play_line l p.journal p.ends keeps.played (promises l accepted p keeps) p.summary (keeps.summary ∙ keeps.alone) (string_bytes line) told
+  some_play_told (Ok p) (Ok line) keeps told = some_play_line l p.journal p.ends keeps.played (promises l accepted follows p keeps) p.summary (keeps.summary ∙ keeps.alone) (string_bytes line) told
   some_play_told (Err (fault.CycleLimit journal ends)) (Ok line) keeps none = absurd none
   some_play_told (Err fault.Store) (Ok line) keeps clash = let none : ⊥ = cc in absurd none
   some_play_told (Err fault.Memory) (Ok line) keeps clash = let none : ⊥ = cc in absurd none
@@ -121,18 +121,18 @@ module _ (l : Loaded) (accepted : IsScript l.script) (cycles : ℕ) where
         → IfErr played (AtLimit (λ journal _. SetsFile old target (Some (journal_pcm l.script.frames journal)) mid))
         → IfErr played (AtFault (LeavesRun l.script l.files target old mid))
         → Tells cycles played result → TellsText name played result mid new → Makes result (Ok (play_job target name l)) old new
-    Makes-told (Ok p) (Ok line) keeps set cut left told text = Makes-rounds l p.journal p.ends keeps.played (promises l accepted p keeps) p.summary (keeps.summary ∙ keeps.alone) target name old mid new set text line told
+    Makes-told (Ok p) (Ok line) keeps set cut left told text = Makes-rounds l p.journal p.ends keeps.played (promises l accepted follows p keeps) p.summary (keeps.summary ∙ keeps.alone) target name old mid new set text line told
     Makes-told (Ok p) (Err (Refused refusal)) keeps set cut left none text = absurd none
     Makes-told (Ok p) (Err (Over over)) keeps set cut left none text = absurd none
-    Makes-told (Ok p) (Err Store) keeps set cut left told text = inl (inr (inr (text_left true l p.journal p.ends keeps.played (promises l accepted p keeps) target name old mid set new text)))
-    Makes-told (Ok p) (Err Memory) keeps set cut left told text = inl (inr (inr (text_left true l p.journal p.ends keeps.played (promises l accepted p keeps) target name old mid set new text)))
+    Makes-told (Ok p) (Err Store) keeps set cut left told text = inl (inr (inr (text_left true l p.journal p.ends keeps.played (promises l accepted follows p keeps) target name old mid set new text)))
+    Makes-told (Ok p) (Err Memory) keeps set cut left told text = inl (inr (inr (text_left true l p.journal p.ends keeps.played (promises l accepted follows p keeps) target name old mid set new text)))
     Makes-told (Err (fault.CycleLimit journal ends)) (Ok line) keeps set cut left none text = absurd none
     Makes-told (Err (fault.CycleLimit journal ends)) (Err (Refused refusal)) keeps set cut left none text = absurd none
     Makes-told (Err (fault.CycleLimit journal ends)) (Err (Over over)) keeps set cut left is text =
         subst (λ (o : Ending). Makes (Err (Over o)) (Ok (play_job target name l)) old new) (sym is)
-        (Makes-cut l journal ends keeps.limit (cut_short l accepted journal ends keeps) target name old mid new cut text cycles cycles_are)
-    Makes-told (Err (fault.CycleLimit journal ends)) (Err Store) keeps set cut left told text = inl (inr (inr (text_left false l journal ends keeps.limit (cut_short l accepted journal ends keeps) target name old mid cut new text)))
-    Makes-told (Err (fault.CycleLimit journal ends)) (Err Memory) keeps set cut left told text = inl (inr (inr (text_left false l journal ends keeps.limit (cut_short l accepted journal ends keeps) target name old mid cut new text)))
+        (Makes-cut l journal ends keeps.limit (cut_short l accepted follows journal ends keeps) target name old mid new cut text cycles cycles_are)
+    Makes-told (Err (fault.CycleLimit journal ends)) (Err Store) keeps set cut left told text = inl (inr (inr (text_left false l journal ends keeps.limit (cut_short l accepted follows journal ends keeps) target name old mid cut new text)))
+    Makes-told (Err (fault.CycleLimit journal ends)) (Err Memory) keeps set cut left told text = inl (inr (inr (text_left false l journal ends keeps.limit (cut_short l accepted follows journal ends keeps) target name old mid cut new text)))
     Makes-told (Err fault.Store) result keeps set cut left is same =
         subst (λ (r : Result (String Global) Stop). Makes r (Ok (play_job target name l)) old new) (sym is) (inl (inr (inl (LeavesRun-stays l target old mid new left same))))
     Makes-told (Err fault.Memory) result keeps set cut left is same =

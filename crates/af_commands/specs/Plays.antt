@@ -24,7 +24,7 @@ abbrev pub run_line : Bool → ScriptData → List (List Frame) → JournalData 
 run_line true script files journal = summary_line (summary_of_play script files journal)
 run_line false script files journal = limit_text script.cycles
 
--- These bytes, this text and this line are of one run of all parties, in which all have ended, or which was cut off where the log was full: the sound of its journal, the text of the same journal, which is its one reading, and its line. By itself that journal is a legal run in which each frame of a lawful client has one fate and each lawful track is spared, or else a cut run. In either, up to each meeting of its two proxies, a block without a poke is spared, each frame released on such a stream block has one fate, and no write of a track without a poke is answered Dead; and the lists that the parties keep are those of the run that it tells
+-- These bytes, this text and this line are of one run of all parties, in which all have ended, or which was cut off where the log was full: the sound of its journal, the text of the same journal, which is its one reading, and its line. By itself that journal is a legal run in which each frame of a lawful client has one fate and each lawful track is spared, or else a cut run. In either, up to each meeting of its two proxies, a block without a poke is spared, each frame released on such a stream block has one fate, and no call tells the client of a track without a poke that it was shut; each track that is reported drained has reached its STOP, and a START that was seen settled bounds what is discarded; and the lists that the parties keep are those of the run that it tells
 pub record IsPlay (ended : Bool) (script : ScriptData) (files : List (List Frame)) (bytes text line : List ℕ) : Type 0 where
   pub journal : JournalData
   pub ends : EndsState

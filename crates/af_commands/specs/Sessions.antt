@@ -20,7 +20,7 @@ use Rattle.af_told_law.specs.KeptEnds.{KeepsLists}
 abbrev pub summary_line : Summary → List ℕ
 summary_line summary = summary_text summary ++ codes "\n"
 
--- The journal is by itself a turn run, in which each event sees what all before it left, and the line is that of the summary that it tells. Up to each meeting of its two proxies a block without a poke is spared, each frame released on such a stream block has one fate, and no write of a track without a poke is answered Dead. Where no op of the script is a poke, any other turn run of this script and these files is this one, where in both each stream proxy takes part in the last meeting
+-- The journal is by itself a turn run, in which each event sees what all before it left, and the line is that of the summary that it tells. Up to each meeting of its two proxies a block without a poke is spared, each frame released on such a stream block has one fate, and no call tells the client of a track without a poke that it was shut; each track that is reported drained has reached its STOP, and a START that was seen settled bounds what is discarded. Where no op of the script is a poke, any other turn run of this script and these files is this one, where in both each stream proxy takes part in the last meeting
 pub record IsTurnRunAlone (script : ScriptData) (files : List (List Frame)) (journal : JournalData) (line : List ℕ) : Type 0 where
   pub run : IsTurnRun script files journal
   pub line_is : line ≡ summary_line (summary_alone script files journal)

@@ -14,6 +14,7 @@ ghost use Rattle.af_commands.specs.Told.{Tells, TellsCause, TellsEnded, TellsLim
 use crate::render::{is_accepted, line_of};
 use af_base::Memory;
 use af_io::{Gate, Store, StoreError};
+use af_journal_laws::what_follows_of_rounds;
 use af_model::Journal;
 use af_offline::{Ending, Loaded, Stop, load_script, write_file};
 use af_playing::PlayFault;
@@ -119,6 +120,7 @@ fn play<R: Threads + Sync, S: Store, G: Gate>(
     ensures words { (script : List ℕ) → SuitsRequest result (Play script target.now journal.now) }
 {
     is_accepted(&loaded.script);
+    what_follows_of_rounds();
     let played = af_playing::play(
         rt,
         alloc,

@@ -9,6 +9,7 @@ ghost use Rattle.af_commands.specs.Told.{TellsLine, TellsRender};
 ghost use Rattle.af_script.specs.Form.{IsScript};
 
 use af_io::{Store, StoreError};
+use af_journal_laws::what_follows_of_turn_runs;
 use af_offline::{Loaded, Stop, load_script};
 use af_rendering::Played;
 use af_script::Script;
@@ -62,6 +63,7 @@ pub fn play<S: Store>(
     ensures words { IsNoUsage result }
 {
     is_accepted(&loaded.script);
+    what_follows_of_turn_runs();
     let played = af_rendering::render(alloc, &loaded.script, &loaded.files, store, target);
     let told = tell(alloc, &played);
     drop(played);

@@ -11,6 +11,7 @@ ghost use Rattle.af_commands.specs.Told.{Tells, TellsCause, TellsTexts};
 use crate::playing::tell;
 use crate::render::is_accepted;
 use af_io::{Gate, Store};
+use af_journal_laws::what_follows_of_rounds;
 use af_offline::{Loaded, Stop, load_script, write_file};
 use af_playing::PlayFault;
 use af_rendering::Played;
@@ -56,6 +57,7 @@ fn trace<R: Threads + Sync, S: Store, G: Gate>(
     ensures words { (script : List ℕ) → SuitsRequest result (Trace script target.now journal.now log.now room) }
 {
     is_accepted(&loaded.script);
+    what_follows_of_rounds();
     let mut text = Vec::new(alloc);
     let played = af_playing::play_logged(
         rt,

@@ -1,23 +1,23 @@
 -- What is known of a track's block at a meeting of both its proxies: it has a history, so neither proxy is shut.
-use Rattle.std.proofs.Common.{◌≡◌, inl, ℕ, ◌<◌, Bool, true, false, if◌then◌else◌, List, length, refl, sym, ap, subst, arith}
-use Rattle.std.proofs.lemmas.List.Elements.{All-get_or}
+use Rattle.std.proofs.Common.{◌≡◌, inl, ℕ, ◌<◌, Bool, true, false, if◌then◌else◌, List, length, refl, sym, ap, subst}
 use Rattle.af_model.proofs.RoomKept.{never_corrupt, never_shut}
-use Rattle.af_model.specs.ClientCalls as list
 use Rattle.af_model.specs.declared.shape.Shape.{Shape}
-use Rattle.af_runs.specs.Blocks.{BlockTold, HasBlockHistory, is_tame}
+use Rattle.af_model.specs.ServerCalls.{server_begins}
+use Rattle.af_runs.specs.Blocks.{BlockTold, HasBlockHistory, is_tame, server_list}
 use Rattle.af_runs.specs.Clients.{ends}
 use Rattle.af_runs.specs.Runs.{Run, TrackTold, each_track, new_run, sides_of, told_at, with_ends}
-use Rattle.af_runs.specs.Sessions.{Session, command_shape, file_words, no_spec, spec_of, stream_shape, track_count}
-use Rattle.af_script.specs.Form.{IsScript, IsTrack}
+use Rattle.af_runs.specs.Sessions.{Session, command_shape, file_words, spec_of, stream_shape, track_count}
+use Rattle.af_script.specs.Form.{IsScript}
 use Rattle.af_judge.proofs.EachTrack.{told_each}
 use Rattle.af_audit.specs.RunKept.{IsFit}
 use Rattle.af_audit.proofs.FatesTold.{new_history, told_new}
 use Rattle.af_audit.proofs.FileReleased.{begins_none}
 use Rattle.af_audit.proofs.RearsSeen.{server_unshut}
-use Rattle.af_audit.proofs.SparedTold.{new_trim}
+use Rattle.af_audit.proofs.SparedTold.{new_fit as begins_fit, new_trim}
 use Rattle.af_audit.proofs.TrackStands.{TrackStands}
 use Rattle.af_audit.proofs.TrackUnshut.{IsTrim, IsUnshut, block_on}
 use Rattle.af_journal_laws.specs.Meetings.{meets_on}
+use Rattle.af_journal_laws.proofs.ShutTold.{ever_shut, server_never_shut}
 use Rattle.af_journal_laws.proofs.Steps.{Goes}
 
 -- where its proxies met, the block has a history if no poke was told
@@ -44,12 +44,7 @@ history_ends commands s n run low h = by_block commands h
 
 module _ (s : Session) (script : IsScript s.script) (n : ℕ) (low : n < track_count s) where
   pub new_fit : IsFit s n (sides_of (told_at (new_run s) n))
-  new_fit = subst (λ (t : TrackTold). IsFit s n (sides_of t)) (sym (told_new s n low)) (record {
-    file = refl;
-    spelled = record { stream = list.begins; commands = list.begins };
-    stream = (let b = (All-get_or IsTrack s.script.tracks n no_spec low script.tracks).buffer in omega (arith, b.1));
-    commands = omega arith;
-  })
+  new_fit = subst (λ (t : TrackTold). IsFit s n (sides_of t)) (sym (told_new s n low)) (begins_fit s script n low)
 
   pub new_stands : TrackStands (file_words s n) (told_at (new_run s) n)
   new_stands = subst (TrackStands (file_words s n)) (sym (told_new s n low)) (record { file_is = refl; client = record { begins = begins_none (file_words s n); tame = refl }; drops = tt })
@@ -95,6 +90,10 @@ module _ (commands : Bool) (s : Session) (script : IsScript s.script) (n : ℕ) 
   -- neither of its proxies is shut
   pub unshut_met_so : IsUnshut commands t
   unshut_met_so = unshut_by commands trim has_history
+
+  -- and the server of its stream block never was
+  pub never_shut_so : commands ≡ false → ever_shut t.stream.shape (server_begins t.stream.shape) (server_list t.stream) ≡ false
+  never_shut_so off = server_never_shut t.stream fit.stream (subst (λ (b : Bool). HasBlockHistory (block_on b t)) off has_history) fit.spelled.stream trim.rears
 
   -- and it was spared by all steps up to here
   pub spared_so : S

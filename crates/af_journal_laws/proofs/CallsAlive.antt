@@ -1,5 +1,5 @@
--- Where a client's list of its stream block shows no INVALID after its calls, none of these was answered Dead.
-use Rattle.std.proofs.Common.{◌≡◌, ℕ, ◌-◌, ◌==◌, not, Bool, true, false, true≢false, if◌then◌else◌, is_some, fold, MatchBool, List, [], ◌∷◌, refl, sym, ap, subst, eqb-true}
+-- Where a client's lists of its blocks show neither INVALID nor 15 after its calls, none of these told it that its track was shut.
+use Rattle.std.proofs.Common.{◌≡◌, ℕ, ◌-◌, ◌==◌, not, Bool, true, false, if◌then◌else◌, is_some, fold, MatchBool, List, [], ◌∷◌, refl, ap, subst, eqb-true}
 use Rattle.std.specs.Prelude.{bit_and}
 use Rattle.std.specs.List.{list_all}
 use Rattle.af_base.specs.declared.event.ClientCall.{ClientCall}
@@ -7,47 +7,51 @@ use Rattle.af_base.specs.declared.event.ClientCall.TheVariants as call
 use Rattle.af_base.specs.declared.event.ClientEvent.{ClientEvent}
 use Rattle.af_model.proofs.Logic.{both_are, both_left}
 use Rattle.af_model.specs.ClientCalls.{ClientAnswers, client_call_events, client_kept}
-use Rattle.af_runs.specs.ClientTurns.{AnswersOn, AreCalls, IsMade, LegalClientTurn, Track, after_call, after_calls, asked_by, called, is_of_commands, most_calls, released_by}
+use Rattle.af_runs.specs.Clients.{state_in}
+use Rattle.af_runs.specs.ClientTurns.{Side, AnswersOn, AreCalls, IsMade, LegalClientTurn, Track, after_call, after_calls, asked_by, called, is_of_commands, most_calls, released_by}
 use Rattle.af_runs.specs.declared.want.Want.{Want}
+use Rattle.af_audit.proofs.Booleans.{not_true}
 use Rattle.af_journal_laws.specs.Alive.{is_dead, none_dead}
 use Rattle.af_journal_laws.proofs.FlagsCalm.{all_left, all_right, is_valid}
 
--- the client's list of its stream block shows no INVALID
+-- the client's lists of its two blocks show neither INVALID nor 15
 abbrev pub IsValid : Track → Type 0
-IsValid t = list_all is_valid t.stream.events ≡ true
+IsValid t = (list_all is_valid t.stream.events ≡ true) × (list_all is_valid t.commands.events ≡ true)
 
 -- ## One call
 
--- a write that saw INVALID shows it
-shows_dead : (on : Bool) (frames cells base : ℕ) (es : List ClientEvent) (asked : ℕ) (was : Bool) (answer : ClientCall) → is_of_commands answer ≡ on → ClientAnswers frames cells base es asked answer
-    → (on ≡ false → list_all is_valid (client_call_events was answer) ≡ true) → is_dead answer ≡ false
-shows_dead on frames cells base es asked was (call.Dead flags) is a fine = absurd (a.1 (eqb-true (bit_and flags 4) 0 (both_left (bit_and flags 4 == 0) true (fine (sym is)))))
-shows_dead on frames cells base es asked was (call.Put front count) is a fine = refl
-shows_dead on frames cells base es asked was (call.Full front) is a fine = refl
-shows_dead on frames cells base es asked was (call.Corrupt front rear) is a fine = refl
-shows_dead on frames cells base es asked was (call.Cleared flags) is a fine = refl
-shows_dead on frames cells base es asked was (call.Flush count) is a fine = refl
-shows_dead on frames cells base es asked was (call.Gain word) is a fine = refl
-shows_dead on frames cells base es asked was (call.Sent front code argument) is a fine = refl
-shows_dead on frames cells base es asked was (call.SendFull front) is a fine = refl
-shows_dead on frames cells base es asked was (call.SendDead flags) is a fine = refl
-shows_dead on frames cells base es asked was (call.SendCorrupt front rear) is a fine = refl
-shows_dead on frames cells base es asked was (call.Status word) is a fine = refl
-shows_dead on frames cells base es asked was (call.Poke command word value) is a fine = refl
+-- a call that tells the client so shows it
+shows_dead : (frames cells base : ℕ) (es : List ClientEvent) (asked : ℕ) (was : Bool) (answer : ClientCall) → ClientAnswers frames cells base es asked answer → list_all is_valid (client_call_events was answer) ≡ true → is_dead answer ≡ false
+shows_dead frames cells base es asked was (call.Dead flags) a fine = absurd (a.1 (eqb-true (bit_and flags 4) 0 (both_left (bit_and flags 4 == 0) true fine)))
+shows_dead frames cells base es asked was (call.SendDead flags) a fine = absurd (a.1 (eqb-true (bit_and flags 4) 0 (both_left (bit_and flags 4 == 0) true fine)))
+shows_dead frames cells base es asked was (call.Status word) a fine = not_true (state_in word == 15) (both_left (not (state_in word == 15)) true fine)
+shows_dead frames cells base es asked was (call.Put front count) a fine = refl
+shows_dead frames cells base es asked was (call.Full front) a fine = refl
+shows_dead frames cells base es asked was (call.Corrupt front rear) a fine = refl
+shows_dead frames cells base es asked was (call.Cleared flags) a fine = refl
+shows_dead frames cells base es asked was (call.Flush count) a fine = refl
+shows_dead frames cells base es asked was (call.Gain word) a fine = refl
+shows_dead frames cells base es asked was (call.Sent front code argument) a fine = refl
+shows_dead frames cells base es asked was (call.SendFull front) a fine = refl
+shows_dead frames cells base es asked was (call.SendCorrupt front rear) a fine = refl
+shows_dead frames cells base es asked was (call.Poke command word value) a fine = refl
 
 module _ (t : Track) (wanted : Want) (answer : ClientCall) where
-  by_side : (b : Bool) → is_of_commands answer ≡ b → AnswersOn (if b then t.commands else t.stream) (asked_by wanted) answer
-      → list_all is_valid (let u : Track = if b then record t { commands = called answer (released_by t answer) t.commands } else record t { stream = called answer (released_by t answer) t.stream } in u.stream.events) ≡ true → IsValid t × (is_dead answer ≡ false)
-  by_side true is a fine = (fine, shows_dead true t.commands.shape.frames t.commands.shape.cells t.commands.shape.base t.commands.events (asked_by wanted) true answer is a (λ not_on. absurd (true≢false not_on)))
-  by_side false is a fine =
-      let b = t.stream in
+  -- on the side on which the call was made
+  shown_on : (b : Side) → AnswersOn b (asked_by wanted) answer → list_all is_valid (called answer (released_by t answer) b).events ≡ true → (list_all is_valid b.events ≡ true) × (is_dead answer ≡ false)
+  shown_on b a fine =
       let was = is_some (client_kept b.shape.frames b.shape.base b.events).shut in (
         all_left is_valid b.events (client_call_events was answer) fine,
-        shows_dead false b.shape.frames b.shape.cells b.shape.base b.events (asked_by wanted) was answer is a (λ on. all_right is_valid b.events (client_call_events was answer) fine),
+        shows_dead b.shape.frames b.shape.cells b.shape.base b.events (asked_by wanted) was answer a (all_right is_valid b.events (client_call_events was answer) fine),
       )
 
+  by_side : (b : Bool) → AnswersOn (if b then t.commands else t.stream) (asked_by wanted) answer
+      → IsValid (if b then record t { commands = called answer (released_by t answer) t.commands } else record t { stream = called answer (released_by t answer) t.stream }) → IsValid t × (is_dead answer ≡ false)
+  by_side true a fine = let one = shown_on t.commands a fine.1 in ((fine.0, one.0), one.1)
+  by_side false a fine = let one = shown_on t.stream a fine.0 in ((one.0, fine.1), one.1)
+
   alive_made : IsMade t wanted answer → IsValid (after_call t answer) → IsValid t × (is_dead answer ≡ false)
-  alive_made made fine = by_side (is_of_commands answer) refl made.1 fine
+  alive_made made fine = by_side (is_of_commands answer) made.1 fine
 
 -- ## A turn
 

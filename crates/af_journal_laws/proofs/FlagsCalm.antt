@@ -1,5 +1,5 @@
--- Where neither server nor hand sets INVALID on a block, its client sees it in no history.
-use Rattle.std.proofs.Common.{◌≡◌, ◌⊎◌, inl, inr, ℕ, ◌-◌, ◌==◌, Bool, true, false, true≢false, if◌then◌else◌, is_some, MatchBool, List, [], ◌∷◌, ◌++◌, refl, sym, ap, ◌∙◌, subst, eqb-true}
+-- Where neither server nor hand sets INVALID on a block, and no status is stored that says 15, its client sees neither in any history.
+use Rattle.std.proofs.Common.{◌≡◌, ◌⊎◌, inl, inr, ℕ, ◌-◌, ◌==◌, not, Bool, true, false, true≢false, if◌then◌else◌, is_some, MatchBool, List, [], ◌∷◌, ◌++◌, refl, sym, ap, ◌∙◌, subst, eqb-true}
 use Rattle.std.specs.Prelude.{bit_and, bit_or}
 use Rattle.std.specs.List.{list_all}
 use Rattle.std.proofs.lemmas.List.Folds.{list_all-append}
@@ -19,13 +19,15 @@ use Rattle.af_model.specs.History.{Moment, by_client, by_hand, by_server, client
 use Rattle.af_model.specs.Point.{ClientMay, after_client, after_hand, after_server, start}
 use Rattle.af_model.specs.ServerCalls.{drops_of, look_events}
 use Rattle.af_model.specs.declared.point.TrackPoint.{TrackPoint}
+use Rattle.af_runs.specs.Clients.{state_in}
 use Rattle.af_runs.specs.Blocks.{BlockTold, HasBlockHistory, client_list, hand_list, server_list}
 
 -- ## Calm lists
 
--- a server sets no flag but that of missing frames, a hand none but DISABLED, and a client sees no INVALID
+-- a server sets no flag but that of missing frames and stores no status that says 15, a hand sets none but DISABLED, and a client sees neither INVALID nor 15
 abbrev pub is_calm : ServerEvent → Bool
 is_calm (server.SetFlags bits) = bits == 1
+is_calm (server.SetStatus word) = not (state_in word == 15)
 is_calm _ = true
 
 abbrev pub is_calm_hand : HandEvent → Bool
@@ -34,6 +36,7 @@ is_calm_hand (hand.Met count) = true
 
 abbrev pub is_valid : ClientEvent → Bool
 is_valid (client.SawFlags flags) = bit_and flags 4 == 0
+is_valid (client.SawStatus word) = not (state_in word == 15)
 is_valid _ = true
 
 -- more of them
@@ -67,7 +70,7 @@ calm_drops seen.Empty front = refl
 calm_drops (seen.Flushed dropped) front = refl
 calm_drops (seen.Shut f r) front = refl
 
-calm_look : (was : Bool) (answer : Seen) (flush rear front : ℕ) → list_all is_calm (if was then [] else look_events answer flush rear front) ≡ true
+pub calm_look : (was : Bool) (answer : Seen) (flush rear front : ℕ) → list_all is_calm (if was then [] else look_events answer flush rear front) ≡ true
 calm_look true answer flush rear front = refl
 calm_look false answer flush rear front = calm_drops answer front
 
@@ -109,48 +112,53 @@ seen_calm flags seen_flags may calm = by_bit (bit_and seen_flags 4 == 0) refl ma
     by_bit true is may = is
     by_bit false is may = ap (λ w. bit_and w 4 == 0) may ∙ by_flags (λ w. (bit_and w 4 == 0) ≡ true) flags refl refl refl refl calm
 
-server_calm : (p : TrackPoint) (e : ServerEvent) → is_calm e ≡ true → AreCalmFlags p.flags → AreCalmFlags (after_server p e).flags
-server_calm p (server.SawGain word) is h = h
-server_calm p (server.SawFlush flush) is h = h
-server_calm p (server.SawRear rear) is h = h
-server_calm p (server.SawFront front) is h = h
-server_calm p (server.Drop to) is h = h
-server_calm p (server.Take count) is h = h
-server_calm p (server.Tally missing) is h = h
-server_calm p (server.SetFlags bits) is h = with_missing p.flags bits is h
-server_calm p (server.SetStatus word) is h = h
-server_calm p (server.Learn count) is h = h
+-- a block on which no INVALID is set, and whose status doesn't say 15
+record IsCalmPoint (p : TrackPoint) : Type 0 where
+  flags : AreCalmFlags p.flags
+  status : not (state_in p.status == 15) ≡ true
 
-hand_calm : (p : TrackPoint) (e : HandEvent) → is_calm_hand e ≡ true → AreCalmFlags p.flags → AreCalmFlags (after_hand p e).flags
-hand_calm p (hand.SetFlags bits) is h = with_disabled p.flags bits is h
-hand_calm p (hand.Met count) is h = h
+server_calm : (p : TrackPoint) (e : ServerEvent) → is_calm e ≡ true → IsCalmPoint p → IsCalmPoint (after_server p e)
+server_calm p (server.SawGain word) is h = record { flags = h.flags; status = h.status }
+server_calm p (server.SawFlush flush) is h = record { flags = h.flags; status = h.status }
+server_calm p (server.SawRear rear) is h = record { flags = h.flags; status = h.status }
+server_calm p (server.SawFront front) is h = record { flags = h.flags; status = h.status }
+server_calm p (server.Drop to) is h = record { flags = h.flags; status = h.status }
+server_calm p (server.Take count) is h = record { flags = h.flags; status = h.status }
+server_calm p (server.Tally missing) is h = record { flags = h.flags; status = h.status }
+server_calm p (server.SetFlags bits) is h = record { flags = with_missing p.flags bits is h.flags; status = h.status }
+server_calm p (server.SetStatus word) is h = record { flags = h.flags; status = is }
+server_calm p (server.Learn count) is h = record { flags = h.flags; status = h.status }
 
-client_calm : (p : TrackPoint) (others : ℕ) (e : ClientEvent) → ClientMay p others e → AreCalmFlags p.flags → AreCalmFlags (after_client p e).flags × (is_valid e ≡ true)
-client_calm p others (client.Release count) may h = (h, refl)
-client_calm p others client.Flush may h = (h, refl)
-client_calm p others (client.SetGain word) may h = (h, refl)
-client_calm p others (client.ClearFlags old) may h = (cleared p.flags h, refl)
-client_calm p others (client.SawFlags flags) may h = (h, seen_calm p.flags flags may h)
-client_calm p others (client.SawFront front) may h = (h, refl)
-client_calm p others (client.SawStatus word) may h = (h, refl)
-client_calm p others (client.Poke word value) may h = (h, refl)
-client_calm p others (client.Learn count) may h = (h, refl)
+hand_calm : (p : TrackPoint) (e : HandEvent) → is_calm_hand e ≡ true → IsCalmPoint p → IsCalmPoint (after_hand p e)
+hand_calm p (hand.SetFlags bits) is h = record { flags = with_disabled p.flags bits is h.flags; status = h.status }
+hand_calm p (hand.Met count) is h = record { flags = h.flags; status = h.status }
 
-flags_in : (p : TrackPoint) (order : List Moment) → AreCalmFlags p.flags → IsLegal p order → list_all is_calm (server_of order) ≡ true → list_all is_calm_hand (hand_of order) ≡ true → AreCalmFlags (after p order).flags × (list_all is_valid (client_of order) ≡ true)
-flags_in p [] zero legal servers hands = (zero, refl)
-flags_in p (by_client e ∷ order) zero legal servers hands =
-    let h = flags_in p order zero legal.1 servers hands in
+client_calm : (p : TrackPoint) (others : ℕ) (e : ClientEvent) → ClientMay p others e → IsCalmPoint p → IsCalmPoint (after_client p e) × (is_valid e ≡ true)
+client_calm p others (client.Release count) may h = (record { flags = h.flags; status = h.status }, refl)
+client_calm p others client.Flush may h = (record { flags = h.flags; status = h.status }, refl)
+client_calm p others (client.SetGain word) may h = (record { flags = h.flags; status = h.status }, refl)
+client_calm p others (client.ClearFlags old) may h = (record { flags = cleared p.flags h.flags; status = h.status }, refl)
+client_calm p others (client.SawFlags flags) may h = (record { flags = h.flags; status = h.status }, seen_calm p.flags flags may h.flags)
+client_calm p others (client.SawFront front) may h = (record { flags = h.flags; status = h.status }, refl)
+client_calm p others (client.SawStatus word) may h = (record { flags = h.flags; status = h.status }, ap (λ (w : ℕ). not (state_in w == 15)) may ∙ h.status)
+client_calm p others (client.Poke word value) may h = (record { flags = h.flags; status = h.status }, refl)
+client_calm p others (client.Learn count) may h = (record { flags = h.flags; status = h.status }, refl)
+
+calm_in : (p : TrackPoint) (order : List Moment) → IsCalmPoint p → IsLegal p order → list_all is_calm (server_of order) ≡ true → list_all is_calm_hand (hand_of order) ≡ true → IsCalmPoint (after p order) × (list_all is_valid (client_of order) ≡ true)
+calm_in p [] zero legal servers hands = (zero, refl)
+calm_in p (by_client e ∷ order) zero legal servers hands =
+    let h = calm_in p order zero legal.1 servers hands in
     let one = client_calm (after p order) _ e legal.0 h.0 in
     (one.0, all_join is_valid (client_of order) (e ∷ []) h.1 (both_are (is_valid e) true one.1 refl))
-flags_in p (by_server e ∷ order) zero legal servers hands =
-    let h = flags_in p order zero legal.1 (all_left is_calm (server_of order) (e ∷ []) servers) hands in
+calm_in p (by_server e ∷ order) zero legal servers hands =
+    let h = calm_in p order zero legal.1 (all_left is_calm (server_of order) (e ∷ []) servers) hands in
     (server_calm (after p order) e (both_left (is_calm e) true (all_right is_calm (server_of order) (e ∷ []) servers)) h.0, h.1)
-flags_in p (by_hand e ∷ order) zero legal servers hands =
-    let h = flags_in p order zero legal.1 servers (all_left is_calm_hand (hand_of order) (e ∷ []) hands) in
+calm_in p (by_hand e ∷ order) zero legal servers hands =
+    let h = calm_in p order zero legal.1 servers (all_left is_calm_hand (hand_of order) (e ∷ []) hands) in
     (hand_calm (after p order) e (both_left (is_calm_hand e) true (all_right is_calm_hand (hand_of order) (e ∷ []) hands)) h.0, h.1)
 
--- the client of such a block sees no INVALID
+-- the client of such a block sees neither INVALID nor 15
 pub valid_by_history : (b : BlockTold) → HasBlockHistory b → list_all is_calm (server_list b) ≡ true → list_all is_calm_hand (hand_list b) ≡ true → list_all is_valid (client_list b) ≡ true
 unfolding AreCalmFlags
 valid_by_history b h servers hands =
-    ap (list_all is_valid) (sym h.client_is) ∙ (flags_in (start b.shape) h.order (inl refl) h.legal (ap (list_all is_calm) h.server_is ∙ servers) (ap (list_all is_calm_hand) h.hand_is ∙ hands)).1
+    ap (list_all is_valid) (sym h.client_is) ∙ (calm_in (start b.shape) h.order (record { flags = inl refl; status = refl }) h.legal (ap (list_all is_calm) h.server_is ∙ servers) (ap (list_all is_calm_hand) h.hand_is ∙ hands)).1

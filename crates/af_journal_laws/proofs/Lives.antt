@@ -1,9 +1,11 @@
--- Where both blocks of a track are spared, no step sets INVALID on its stream block; and where its client sees none by the end, none of its writes was answered Dead.
+-- Where both blocks of a track are spared and no turn hears that one was shut, no step sets INVALID or stores a status that says 15; and where its client sees neither by the end, no call told it that its track was shut.
 use Rattle.std.proofs.Common.{◌≡◌, ℕ, ◌<◌, Bool, true, false, if◌then◌else◌, List, [], length, Option, Some, None, refl, sym, ◌∙◌, subst, arith}
 use Rattle.std.specs.List.{list_any}
 use Rattle.af_base.specs.declared.state.FastState.{FastState}
 use Rattle.af_base.specs.Turn.{Turn}
-use Rattle.af_life.specs.Kept.{NormalKept}
+use Rattle.af_life.specs.Heard.{heard, learnt}
+use Rattle.af_life.specs.Kept.{NormalKept, track_at}
+use Rattle.af_life.specs.TurnEvents.{tracks_at}
 use Rattle.af_model.specs.JournalForm.{TracksRise}
 use Rattle.af_model.specs.Journals.{EntrySeen, RoundSeen}
 use Rattle.af_runs.specs.Blocks.{Marks}
@@ -24,7 +26,11 @@ use Rattle.af_journal_laws.proofs.CallsAlive.{IsValid}
 use Rattle.af_journal_laws.proofs.Steps.{Goes, goes_called, goes_ended, goes_met, goes_mixed, goes_same, goes_turned}
 use Rattle.af_journal_laws.proofs.TrackAlive.{IsCalm, alive_called, alive_met, calm_called, calm_met, calm_mixed, calm_turned}
 
--- From one run to another the track is kept trim. Where the proxies of its stream block aren't shut in the second, they aren't in the first, and nobody set INVALID on the block; and where its client's list shows no INVALID in the second, it doesn't in the first, and this holds
+-- a turn hears no server of the track's stream block that was shut
+abbrev pub IsHeardOpen : Session → ℕ → NormalKept → TurnFound → Turn → Type 0
+IsHeardOpen s n m f e = let c = setup_of s in let k = learnt (outside_of c f e) in (heard k n (track_at (tracks_at c k m e n) n)).known.shut ≡ false
+
+-- From one run to another the track is kept trim. Where the proxies of its stream block aren't shut in the second, they aren't in the first, and nobody set INVALID on a block or stored 15; and where its client's lists show neither in the second, they don't in the first, and this holds
 pub record Lives (n : ℕ) (a b : Run) (Alive : Type 0) : Type 0 where
   pub there : n < length b.tracks
   pub trim : IsTrim false (told_at a n) → IsTrim false (told_at b n)
@@ -86,9 +92,9 @@ module _ (s : Session) (n : ℕ) where
       (λ unshut spared calm. calm_mixed s x e n (told_at run n) (spared refl) calm) (λ fine. (subst IsValid (sides_mixed s x e n (told_at run n)) fine, tt))
 
   pub lives_turned : (marks : Marks) (f : TurnFound) (e : Turn) (m : NormalKept) (run : Run) → n < length run.tracks → f.streams n ≡ (told_at run n).stream → f.commands n ≡ (told_at run n).commands → run.normal ≡ m → TracksRise 0 e.mixes
-      → LegalTurnBy (setup_of s) marks f m e → is_spared_in_turn true e n ≡ true → Lives n run (with_turn s f e run) (Unit {0})
+      → LegalTurnBy (setup_of s) marks f m e → IsHeardOpen s n m f e → is_spared_in_turn true e n ≡ true → Lives n run (with_turn s f e run) (Unit {0})
   unfolding with_turn
-  lives_turned marks f e m run low streams sent same rise legal spared =
+  lives_turned marks f e m run low streams sent same rise legal open_so spared =
       let c = setup_of s in
       let o = outside_of c f e in
       let t : TrackTold = told_at run n in
@@ -98,7 +104,7 @@ module _ (s : Session) (n : ℕ) where
       each_at (turned_track c o run.normal e) 0 run.tracks n n no_track low (omega arith)
       ∙ (λ i. turned_track c o (same i) e n (sym is i)) in
       lives_by run (with_turn s f e run) (turned_track c o m e n before) _ _ (Unit {0}) (goes_turned false s n marks f e m run low streams sent same rise legal) told
-      (λ unshut own calm. calm_turned c o m e n before refl (subst (IsUnshut false) (sym is) unshut) spared own (subst IsCalm (sym is) calm))
+      (λ unshut own calm. calm_turned c f m e legal.outside n legal.found legal.legal before open_so spared own (subst IsCalm (sym is) calm))
       (λ fine. (subst (λ (u : TrackTold). IsValid (sides_of u)) is (subst IsValid (sides_turned c o m e n before) fine), tt))
 
   pub lives_loaded : (o : Option Turn) (run : Run) → n < length run.tracks → Lives n run (loaded o run) (Unit {0})
@@ -118,5 +124,5 @@ module _ (s : Session) (n : ℕ) where
       by_end : (b : Bool) → (let r : Run = if b then each_track (λ track t. record t { client = ends t.client }) run else run in Goes false s n run r [] (Unit {0}) → Lives n run r (Unit {0}))
       by_end true goes =
           lives_by run (each_track (λ track t. record t { client = ends t.client }) run) (record (told_at run n) { client = ends (told_at run n).client }) [] (Unit {0}) (Unit {0}) goes (told_each (λ track t. record t { client = ends t.client }) run n low)
-          (λ unshut spared calm. record { server = calm.server; hand = calm.hand }) (λ fine. (fine, tt))
+          (λ unshut spared calm. record { stream = calm.stream; commands = calm.commands }) (λ fine. (fine, tt))
       by_end false goes = lives_same run run low refl

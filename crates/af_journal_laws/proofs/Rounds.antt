@@ -1,7 +1,7 @@
 -- What holds of a track through legal rounds, by their steps.
-use Rattle.std.specs.Prelude.{MatchBool, MatchOption}
-use Rattle.std.specs.List.{list_any, prefix_len}
-use Rattle.std.proofs.Common.{◌≡◌, inl, inr, ℕ, ◌<◌, ◌&&◌, Bool, true, false, is_some, List, [], ◌∷◌, ◌++◌, length, take, drop, All, Option, Some, None, refl, sym, ap, ◌∙◌, subst}
+use Rattle.std.specs.Prelude.{MatchBool, MatchOption, []}
+use Rattle.std.specs.List.{list_any}
+use Rattle.std.proofs.Common.{◌≡◌, inl, inr, ℕ, ◌<◌, ◌&&◌, Bool, true, false, is_some, List, ◌∷◌, ◌++◌, length, All, Option, Some, None, refl, sym, ap, ◌∙◌, subst}
 use Rattle.std.proofs.lemmas.List.Elements.{All-head, All-tail}
 use Rattle.af_base.specs.Turn.{Turn}
 use Rattle.af_model.proofs.Logic.{both_are}
@@ -10,22 +10,17 @@ use Rattle.af_model.specs.Journals.{EntrySeen, RoundSeen}
 use Rattle.af_runs.specs.Blocks.{Marks}
 use Rattle.af_runs.specs.Found.{LegalTurnBy}
 use Rattle.af_runs.specs.LegalRuns.{LegalRounds, is_poke_on, run_from}
-use Rattle.af_runs.specs.Rounds.{is_early, fills, IsFastTurn, LegalEntries, LegalRound, after_round, after_turn, all_played, before_turn, early_of, found_in, late_of, met_after, turned}
-use Rattle.af_runs.specs.Runs.{Run, calls_in, fast_ended, most_cycles, with_calls, with_cycle, with_cycles, with_poll}
+use Rattle.af_runs.specs.Rounds.{fills, LegalEntries, LegalRound, after_round, after_turn, all_played, before_turn, early_of, found_in, late_of, met_after, turned}
+use Rattle.af_runs.specs.Runs.{Run, calls_in, fast_ended, with_calls, with_cycle, with_cycles, with_poll}
 use Rattle.af_runs.specs.Sessions.{Session, setup_of, track_count}
 use Rattle.af_judge.proofs.EntriesFollow.{cycles_beside}
 use Rattle.af_audit.specs.Fates.{recorded, recorded_by, recorded_by_all, recorded_by_turn, recorded_in}
 use Rattle.af_audit.specs.Spared.{IsSpared, IsSparedIn, is_spared_by, is_spared_by_all, is_spared_by_turn}
 use Rattle.af_audit.proofs.Booleans.{neither, no}
+use Rattle.af_audit.proofs.EntryParts.{legal_parts}
 use Rattle.af_journal_laws.proofs.Steps.{Goes, goes_as, goes_both, goes_called, goes_ended, goes_loaded, goes_met, goes_mixed, goes_polled, goes_same, goes_then, goes_turned}
 
 -- ## What a legal round has
-
--- both parts of its entries are legal, those before the turn and those behind it; where there are none too
-pub legal_parts : (b full : Bool) (s : Session) (marks : Marks) (run : Run) (round : RoundSeen) → MatchBool b (round.entries ≡ []) (IsFastTurn most_cycles full round.entries × LegalEntries s marks (with_calls round run) (early_of run round) × LegalEntries s marks (after_turn s run round) (late_of run round))
-    → LegalEntries s marks (with_calls round run) (early_of run round) × LegalEntries s marks (after_turn s run round) (late_of run round)
-legal_parts false full s marks run round h = (h.1, h.2)
-legal_parts true full s marks run round none = (subst (LegalEntries s marks (with_calls round run)) (sym (ap (λ l. take (prefix_len (is_early run) l) l) none)) tt, subst (LegalEntries s marks (after_turn s run round)) (sym (ap (λ l. drop (prefix_len (is_early run) l) l) none)) tt)
 
 -- the takes of its turn rise
 pub turn_rises : (tracks : ℕ) (round : RoundSeen) (e : Turn) → IsRound tracks round → round.turn ≡ Some e → TracksRise 0 e.mixes

@@ -11,26 +11,25 @@ use Rattle.af_life.specs.Obeys.{is_shut}
 use Rattle.af_model.specs.Cycles.{LooksBy}
 use Rattle.af_model.specs.JournalForm.{TracksRise}
 use Rattle.af_model.specs.Journals.{EntrySeen, RoundSeen, slot_frames}
-use Rattle.af_runs.specs.Blocks.{BlockTold, Marks, listed}
+use Rattle.af_runs.specs.Blocks.{Marks, listed}
 use Rattle.af_runs.specs.Clients.{ends}
-use Rattle.af_runs.specs.ClientTurns.{LegalClientTurn, Track}
+use Rattle.af_runs.specs.ClientTurns.{LegalClientTurn}
 use Rattle.af_runs.specs.Found.{LegalTurnBy, TurnFound, outside_of}
 use Rattle.af_runs.specs.LegalRuns.{is_poke_on}
 use Rattle.af_runs.specs.Rounds.{LegalEntry, loaded}
-use Rattle.af_runs.specs.Runs.{Run, TrackTold, called, calls_in, each_track, met, mixed_track, no_track, played, sides_of, slot_for, state_for, stream_met, takes_part, told_at, track_met, turned_track, with_calls, with_ends, with_load, with_mix, with_poll, with_turn}
+use Rattle.af_runs.specs.Runs.{Run, TrackTold, called, calls_in, each_track, met, mixed_track, no_track, played, sides_of, slot_for, state_for, takes_part, told_at, track_met, turned_track, with_calls, with_ends, with_load, with_mix, with_poll, with_turn}
 use Rattle.af_runs.specs.Sessions.{Session, cycle_frames, file_words, setup_of}
 use Rattle.af_judge.specs.Tracks.{AreSpelled}
 use Rattle.af_judge.proofs.BlocksMeet.{met_at, met_many, track_spelled}
 use Rattle.af_judge.proofs.EachTrack.{each_at, each_long, told_each}
-use Rattle.af_judge.proofs.Spelled.{spelled_turn}
-use Rattle.af_judge.proofs.TracksTold.{shapes_called, sides_called}
 use Rattle.af_audit.specs.Fates.{recorded_by, recorded_by_turn}
 use Rattle.af_audit.specs.RunKept.{IsFit}
 use Rattle.af_audit.specs.Spared.{is_spared_by, is_spared_in_turn, none_corrupt_on}
-use Rattle.af_audit.proofs.SidesKept.{sides_mixed, sides_turned}
+use Rattle.af_audit.proofs.RunStands.{entry_looks}
+use Rattle.af_audit.proofs.SidesKept.{fit_called, shape_met, sides_mixed, sides_turned}
+use Rattle.af_audit.proofs.TakenRecorded.{taken_met}
 use Rattle.af_audit.proofs.TrackStands.{TrackStands, stands_called, stands_ended, stands_met, stands_mixed, stands_turned}
 use Rattle.af_audit.proofs.TrackUnshut.{IsTrim, IsUnshut, trim_called, trim_ended, trim_met, trim_mixed, trim_turned, unshut_called, unshut_ended, unshut_met, unshut_mixed, unshut_turned}
-use Rattle.af_journal_laws.proofs.Looks.{entry_looks}
 
 -- ## What a step keeps
 
@@ -90,17 +89,6 @@ module _ (commands : Bool) (s : Session) (n : ℕ) where
   goes_then a b c xs S f g = goes_as a c (xs ++ []) xs (S × Unit {0}) S (append-nil xs) (λ both. both.0) (goes_both a b c xs [] S (Unit {0}) f g)
 
 -- ## The steps
-
--- a track is fit by its client's sides, whatever its client does next
-fit_called : (s : Session) (n : ℕ) (t : TrackTold) (calls : List ClientCall) → LegalClientTurn (sides_of t) calls → IsFit s n (sides_of t) → IsFit s n (sides_of (called calls t))
-fit_called s n t calls legal h =
-    let shapes = shapes_called (sides_of t) calls in
-    subst (IsFit s n) (sym (sides_called t calls)) (record {
-      file = ap (λ (u : Track). u.file) (sym (sides_called t calls)) ∙ h.file;
-      spelled = spelled_turn (sides_of t) calls h.spelled legal;
-      stream = subst (λ k. k.frames ≤ 65536) (sym shapes.0) h.stream;
-      commands = subst (λ k. k.frames ≤ 65536) (sym shapes.1) h.commands;
-    })
 
 module _ (commands : Bool) (s : Session) (n : ℕ) where
   -- the calls of its client
@@ -178,18 +166,6 @@ module _ (commands : Bool) (s : Session) (n : ℕ) where
   goes_loaded (Some e) run low = goes_same commands s n run (with_load e run) low refl
 
   -- the meetings
-  shape_met : (there hands : Bool) (b : BlockTold) → (stream_met there hands b).shape ≡ b.shape
-  shape_met true true b = refl
-  shape_met true false b = refl
-  shape_met false true b = refl
-  shape_met false false b = refl
-
-  taken_met : (there hands : Bool) (b : BlockTold) → (stream_met there hands b).taken ≡ b.taken
-  taken_met true true b = refl
-  taken_met true false b = refl
-  taken_met false true b = refl
-  taken_met false false b = refl
-
   file_met : (t u : TrackTold) → u ≡ t → u.file ≡ t.file
   file_met t u is = ap (λ (x : TrackTold). x.file) is
 
@@ -207,7 +183,7 @@ module _ (commands : Bool) (s : Session) (n : ℕ) where
         };
         trim = trim_met commands part run.handed t;
         stands = λ off. stands_met (file_words s n) part run.handed t;
-        taken = taken_met part run.handed t.stream ∙ sym (append-nil t.stream.taken);
+        taken = taken_met s n part run.handed t.stream ∙ sym (append-nil t.stream.taken);
         unshut = λ h fine. (unshut_met commands part run.handed t fine, tt);
       })
 

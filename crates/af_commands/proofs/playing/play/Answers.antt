@@ -41,7 +41,7 @@ returns-clause-made g c = λ told.
       kept = p.kept;
     } in
     subst (λ (l : Loaded). Makes c.tell-told.result (Ok (play_job c.args.target.now c.args.journal.now l)) old new) same
-    (Makes-told here c.is_accepted.ensures c.cycles.result c.cycles.ensures.value c.args.target.now c.args.journal.now old mid new c.play-played.result c.tell-told.result keeps (p.written told) (p.cut told) (p.left told)
+    (Makes-told here c.is_accepted.ensures c.what_follows_of_rounds.ensures c.cycles.result c.cycles.ensures.value c.args.target.now c.args.journal.now old mid new c.play-played.result c.tell-told.result keeps (p.written told) (p.cut told) (p.left told)
     c.tell-told.ensures.told (c.tell-told.ensures.files (p.tells told)))
 
 pub returns-clause-line : goal.returns-clause-line
@@ -68,7 +68,7 @@ returns-clause-line g c =
       spared = p.spared;
       kept = p.kept;
     } in
-    some_play_told here c.is_accepted.ensures c.cycles.result c.play-played.result c.tell-told.result keeps c.tell-told.ensures.told
+    some_play_told here c.is_accepted.ensures c.what_follows_of_rounds.ensures c.cycles.result c.play-played.result c.tell-told.result keeps c.tell-told.ensures.told
 
 pub returns-clause-cause : goal.returns-clause-cause
 returns-clause-cause g c =

@@ -42,7 +42,7 @@ returns-clause-made g c = λ told.
       kept = p.kept;
     } in
     subst (λ (l : Loaded). Makes c.tell_with_log-told.result (Ok (trace_job c.args.target.now c.args.journal.now c.args.log.now c.args.room l)) old new) same
-    (Makes-logged here c.is_accepted.ensures c.args.room c.args.target.now c.args.journal.now c.args.log.now old mid new c.deref-2.result.now c.play_logged-played.new.text.items c.new-text.result.items c.deref-2.ensures.value c.new-text.ensures.items
+    (Makes-logged here c.is_accepted.ensures c.what_follows_of_rounds.ensures c.args.room c.args.target.now c.args.journal.now c.args.log.now old mid new c.deref-2.result.now c.play_logged-played.new.text.items c.new-text.result.items c.deref-2.ensures.value c.new-text.ensures.items
     c.cycles-cycles.result c.cycles-cycles.ensures.value c.play_logged-played.result c.tell_with_log-told.result keeps (p.written told) (p.cut told) (p.left told) p.log
     c.tell_with_log-told.ensures.told (c.tell_with_log-told.ensures.files (p.tells told)))
 
@@ -70,7 +70,7 @@ returns-clause-line g c =
       spared = p.spared;
       kept = p.kept;
     } in
-    some_play_told here c.is_accepted.ensures c.cycles-cycles.result c.play_logged-played.result c.tell_with_log-told.result keeps c.tell_with_log-told.ensures.told
+    some_play_told here c.is_accepted.ensures c.what_follows_of_rounds.ensures c.cycles-cycles.result c.play_logged-played.result c.tell_with_log-told.result keeps c.tell_with_log-told.ensures.told
 
 pub returns-clause-cause : goal.returns-clause-cause
 returns-clause-cause g c =

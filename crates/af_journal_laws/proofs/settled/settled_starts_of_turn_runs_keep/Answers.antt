@@ -1,0 +1,5 @@
+use Rattle.af_journal_laws.proofs.settled.settled_starts_of_turn_runs_keep.Goals as goal
+use Rattle.af_journal_laws.proofs.SettledSoFar.{settled-so-far-alone}
+
+pub returns : goal.returns
+returns c = settled-so-far-alone
