@@ -1,5 +1,5 @@
 -- What contracts see of the two ends of a stream, and what their calls come to.
-use Rattle.std.specs.Prelude.{◌≡◌, ◌≢◌, ◌⊎◌, ℕ, ◌+◌, ◌*◌, ◌^◌, ◌<◌, ◌≤◌, min, true, MatchOption, Option, Some, None, Result, Ok, Err, List, [], ◌∷◌, ◌++◌, length}
+use Rattle.std.specs.Prelude.{◌≡◌, ◌≢◌, ◌⊎◌, ℕ, ◌+◌, ◌*◌, ◌^◌, ◌<◌, ◌≤◌, min, true, MatchOption, Option, Some, None, Result, Ok, Err, List, [], ◌∷◌, ◌++◌, length, take}
 use Rattle.af_base.specs.declared.event.ClientCall.TheVariants as call
 use Rattle.af_base.specs.declared.event.ClientEvent.{ClientEvent}
 use Rattle.af_base.specs.declared.event.ClientEvent.TheVariants as client_event
@@ -176,7 +176,12 @@ HasMet before l =
 abbrev pub LivedHistory : Shape → LivedState → Type 0
 LivedHistory k l = HasHistory k l.client.pass.part.events l.client.pass.part.frames l.server.pass.part.events l.server.pass.part.frames []
 
--- In such a history, what a look discarded was released before the flush that it saw, and all that was is taken or discarded
-abbrev pub LivedDiscards : Shape → LivedState → Type 0
-LivedDiscards k l =
-    (hand : List HandEvent) × ((h : HasHistory k l.client.pass.part.events l.client.pass.part.frames l.server.pass.part.events l.server.pass.part.frames hand) × DiscardsBefore k h.order)
+-- In some such history, what a look discarded was released before the flush that it saw, and all that was is taken or discarded
+pub record LivedDiscards (k : Shape) (l : LivedState) : Type 0 where
+  pub hand : List HandEvent
+  pub history : HasHistory k l.client.pass.part.events l.client.pass.part.frames l.server.pass.part.events l.server.pass.part.frames hand
+  pub before : DiscardsBefore k history.order
+
+-- some frames are a beginning of others
+abbrev pub IsBeginning : List ℕ → List ℕ → Type 0
+IsBeginning taken released = (n : ℕ) × (taken ≡ take n released)

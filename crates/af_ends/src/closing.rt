@@ -1,18 +1,15 @@
 //! How the two ends of a stream are closed.
-ghost use Rattle.std.specs.Prelude.{◌≡◌, ℕ, ◌<◌, ◌+◌, true, None, [], length, take, IfOk, IfErr, IfSome};
-ghost use Rattle.af_base.specs.declared.event.ServerEvent.TheVariants as server_event;
-ghost use Rattle.af_model.specs.Discards.{DiscardsBefore};
+ghost use Rattle.std.specs.Prelude.{◌≡◌, ◌<◌, true, None, IfOk, IfErr};
 ghost use Rattle.af_model.specs.Fates.{drops_none};
-ghost use Rattle.af_model.specs.History.{HasHistory};
-ghost use Rattle.af_cblk.specs.Parts.{server_did};
-ghost use Rattle.af_ends.specs.Streams.{IsStreamClient, IsStreamServer, LivedState, HasMet, LivedHistory, LivedDiscards};
+ghost use Rattle.af_ends.specs.Streams.{IsStreamClient, IsStreamServer, HasMet, LivedHistory, LivedDiscards, IsBeginning};
 
-use crate::stream::Stream;
+use crate::stream::ParkedClient;
 use crate::stream_client::StreamClient;
 use crate::stream_server::StreamServer;
 use af_base::Steps;
 use af_cblk::Block;
 use af_client::Client;
+use af_link::meet_track;
 use af_server::Server;
 use std::marker::{Brand, Model};
 use std::sync::ledger::{Blank, Ledger};
@@ -49,29 +46,26 @@ impl Lived {
 }
 
 // Both meet.
-fn meet_in<L: Ledger>(blank: Blank, block: &Block, client: Client, server: Server) -> Lived
+fn meet_in<L: Ledger>(blank: Blank, block: &Block, client: &mut Client, server: &mut Server)
     requires ledger { (blank.name ≡ L.name) × (blank.parts ≡ L.parts) × (0 < blank.parts) }
-    requires client { IsStreamClient block.now client }
-    requires server { IsStreamServer block.now server }
-    ensures client { IsStreamClient block.now result.client }
-    ensures met { HasMet server result }
-    ensures history { LivedHistory block.now.shape result }
-    ensures unshut { result.server.shut ≡ None }
-    ensures discards { LivedDiscards block.now.shape result }
-    ensures begins { drops_none server.pass.part.events ≡ true → (n : ℕ) × (result.server.pass.part.frames ≡ take n result.client.pass.part.frames) }
+    requires client { IsStreamClient block.now client.old }
+    requires server { IsStreamServer block.now server.old }
+    ensures client { IsStreamClient block.now client.new }
+    ensures met { HasMet server.old (record { client = client.new; server = server.new }) }
+    ensures history { LivedHistory block.now.shape (record { client = client.new; server = server.new }) }
+    ensures unshut { server.new.shut ≡ None }
+    ensures discards { LivedDiscards block.now.shape (record { client = client.new; server = server.new }) }
+    ensures begins { drops_none server.old.pass.part.events ≡ true → IsBeginning server.new.pass.part.frames client.new.pass.part.frames }
 {
     let mut steps = Steps::<L>::start(blank);
-    let mut client = client;
-    let mut server = server;
-    server.meet(block, client.pass(), &mut steps);
-    Lived { client, server }
+    meet_track(client, server, block, &mut steps);
 }
 
 impl StreamClient {
     /// Closes this end. Its list is left with the stream, for the server's end.
     pub fn close(self) {
         let StreamClient { stream, client } = self;
-        stream.park(client);
+        stream.park(ParkedClient { client });
     }
 }
 
@@ -86,18 +80,15 @@ impl StreamServer {
         ensures history { IfOk result (λ l. LivedHistory self.block.shape l) }
         ensures unshut { IfOk result (λ l. l.server.shut ≡ None) }
         ensures discards { IfOk result (λ l. LivedDiscards self.block.shape l) }
-        ensures begins { IfOk result (λ l. drops_none self.server.pass.part.events ≡ true → (n : ℕ) × (l.server.pass.part.frames ≡ take n l.client.pass.part.frames)) }
+        ensures begins { IfOk result (λ l. drops_none self.server.pass.part.events ≡ true → IsBeginning l.server.pass.part.frames l.client.pass.part.frames) }
     {
-        let Some(client) = self.stream.parked() else {
+        let Some(parked) = self.stream.parked() else {
             return Err(self);
         };
-        let StreamServer { stream, server } = self;
-        Ok(meet_in::<Brand>(
-            Blank::new(1),
-            stream.block(),
-            client,
-            server,
-        ))
+        let StreamServer { stream, mut server } = self;
+        let mut client = parked.client;
+        meet_in::<Brand>(Blank::new(1), stream.what(), &mut client, &mut server);
+        Ok(Lived { client, server })
     }
 }
 
@@ -111,7 +102,7 @@ pub fn close(client: StreamClient, server: StreamServer) -> Result<Lived, Stream
     ensures history { IfOk result (λ l. LivedHistory server.block.shape l) }
     ensures unshut { IfOk result (λ l. l.server.shut ≡ None) }
     ensures discards { IfOk result (λ l. LivedDiscards server.block.shape l) }
-    ensures begins { IfOk result (λ l. drops_none server.server.pass.part.events ≡ true → (n : ℕ) × (l.server.pass.part.frames ≡ take n l.client.pass.part.frames)) }
+    ensures begins { IfOk result (λ l. drops_none server.server.pass.part.events ≡ true → IsBeginning l.server.pass.part.frames l.client.pass.part.frames) }
 {
     client.close();
     server.close()

@@ -1,8 +1,9 @@
 //! What the two ends of a stream share, and how they are made.
-ghost use Rattle.std.specs.Prelude.{◌≡◌, ◌≢◌, ◌≤◌, ◌<◌, IfOk, IfErr, IfSome};
-ghost use Rattle.af_ends.specs.Streams.{IsStreamClient, IsOpened};
+ghost use Rattle.std.specs.Prelude.{◌≤◌, IfOk, IfErr};
+ghost use Rattle.af_ends.specs.Streams.{IsOpened};
 ghost use Rattle.af_ends.specs.Refusals.{RefusesSize};
 
+use crate::common::Common;
 use crate::error::EndError;
 use crate::stream_client::StreamClient;
 use crate::stream_server::StreamServer;
@@ -10,9 +11,8 @@ use af_base::Memory;
 use af_cblk::Block;
 use af_client::Client;
 use af_server::Server;
-use counted_slot::{Counted, FREE, Fits, PRESENT, TAKEN};
+use counted_slot::Fits;
 use std::alloc::Global;
-use std::marker::Model;
 use std::sync::Arc;
 
 /// How many frames a stream, a recording or a static buffer may have.
@@ -20,75 +20,16 @@ pub const MOST_FRAMES: u32 = 8192;
 
 /// The client of a stream, once its end is closed.
 #[derive(Drop)]
-pub struct Parked {
+pub struct ParkedClient {
     pub(crate) client: Client,
 }
 
-impl Fits for Parked {
+impl Fits for ParkedClient {
     ghost use Rattle.af_ends.specs.Streams.{IsStreamClient};
 
     type Tag = Block;
 
     ghost fits = { λ block parked. IsStreamClient block parked.client };
-}
-
-/// What the two ends of a stream share: the block, and a place in which the client is left when its end is closed. Contracts see the block.
-#[derive(Drop)]
-pub struct Stream {
-    block: Block,
-    parked: Counted<Option<Parked>>,
-}
-
-impl Model for Stream {
-    ghost use Rattle.std.specs.Prelude.{◌≡◌};
-    ghost use Rattle.af_cblk.specs.Sides.{Made};
-
-    ghost Value = { Made };
-
-    ghost view = { λ s. s.block };
-
-    ghost invariant = { λ s. s.parked ≡ s.block };
-}
-
-impl Stream {
-    // A stream on this block, whose client isn't closed.
-    fn on(block: Block) -> Stream
-        ensures { result ≡ block }
-    {
-        let parked = Counted::new(None, &block);
-        Stream { block, parked }
-    }
-
-    pub(crate) fn block(&self) -> &Block
-        ensures { result.now ≡ self.now }
-    {
-        &self.block
-    }
-
-    // Leaves a client in its place.
-    pub(crate) fn park(&self, client: Client)
-        requires { IsStreamClient self.now client }
-    {
-        let (found, claim) = self.parked.turn(FREE, TAKEN);
-        if found == FREE {
-            claim.put(Some(Parked { client }), PRESENT);
-        } else {
-            claim.done();
-        }
-    }
-
-    // The client that was left in its place, if there is one.
-    pub(crate) fn parked(&self) -> Option<Client>
-        ensures { IfSome result (λ client. IsStreamClient self.now client) }
-    {
-        let (found, claim) = self.parked.turn(PRESENT, TAKEN);
-        if found != PRESENT {
-            claim.done();
-            return None;
-        }
-        let parked = claim.put(None, FREE)?;
-        Some(parked.client)
-    }
 }
 
 // The two ends of a new stream.
@@ -99,7 +40,7 @@ fn make(alloc: Global, frames: u32) -> Result<(StreamClient, StreamServer), Memo
     let (block, client, server) = Block::make_positional(alloc, frames, 0)?;
     let client = Client::with(client, &block);
     let server = Server::with(server, &block);
-    let stream = Arc::new(alloc, Stream::on(block))?;
+    let stream = Arc::new(alloc, Common::new(block))?;
     let theirs = Arc::try_clone(&stream)?;
     let client = StreamClient { stream, client };
     let server = StreamServer {

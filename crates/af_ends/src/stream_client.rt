@@ -1,14 +1,15 @@
 //! The end of a stream that writes.
-ghost use Rattle.std.specs.Prelude.{◌≡◌, ◌+◌, ◌*◌, ◌-◌, ◌/◌, ◌<◌, ◌≤◌, ◌^◌, map, take, length};
+ghost use Rattle.std.specs.Prelude.{◌≡◌, ◌+◌, ◌<◌, ◌≤◌, map, take, length, Ok};
 ghost use Rattle.af_base.specs.declared.event.ClientEvent.TheVariants as client_event;
 ghost use Rattle.af_base.specs.Sample.{packed_word};
 ghost use Rattle.af_cblk.specs.Parts.{client_did};
 ghost use Rattle.af_cblk.specs.Shape.{most_flushes};
 ghost use Rattle.af_client.specs.Calls.{Releases};
-ghost use Rattle.af_ends.specs.Streams.{IsStreamClient, told, count_in, Writes, MayWrite, Flushes, SetsGains, gain_word};
+ghost use Rattle.af_ends.specs.Streams.{IsStreamClient, told, count_in, Writes, MayWrite, Flushes, SetsGains};
 
+use crate::common::Common;
 use crate::error::EndError;
-use crate::stream::Stream;
+use crate::stream::ParkedClient;
 use af_base::{Frame, Steps};
 use af_cblk::Block;
 use af_client::{Client, Wrote};
@@ -28,7 +29,7 @@ const UNITY: u16 = 0x1000;
 /// Contracts see the block, and the proxy with the list of all that it did and the frames that it released. It pokes never, so no call of it answers Corrupt. No call takes memory or waits, and it may be sent to another thread.
 #[derive(Drop)]
 pub struct StreamClient {
-    pub(crate) stream: Arc<Stream, Global>,
+    pub(crate) stream: Arc<Common<ParkedClient>, Global>,
     pub(crate) client: Client,
 }
 
@@ -146,12 +147,7 @@ impl StreamClient {
         if self.client.released() >= MOST_RELEASED {
             return Err(EndError::Limit);
         }
-        write_in::<Brand>(
-            Blank::new(1),
-            self.stream.block(),
-            &mut self.client,
-            frames,
-        )
+        write_in::<Brand>(Blank::new(1), self.stream.what(), &mut self.client, frames)
     }
 
     /// Asks the server to discard the frames released so far, and no later ones, and answers how many flushes were asked for.
@@ -161,14 +157,10 @@ impl StreamClient {
         ensures block { self.new.block ≡ self.old.block }
         ensures flushes { Flushes self.old.block self.old.client result self.new.client }
     {
-        if self.client.flushes() >= flush_room(self.stream.block()) {
+        if self.client.flushes() >= flush_room(self.stream.what()) {
             return Err(EndError::Limit);
         }
-        Ok(flush_in::<Brand>(
-            Blank::new(1),
-            self.stream.block(),
-            &mut self.client,
-        ))
+        Ok(flush_in::<Brand>(Blank::new(1), self.stream.what(), &mut self.client))
     }
 
     /// Sets the gains of the two sides, each in 4.12, from 0 to unity (0x1000).
@@ -182,12 +174,7 @@ impl StreamClient {
             return Err(EndError::Argument);
         }
         let word = u32::from(left) + (u32::from(right) << 16);
-        gains_in::<Brand>(
-            Blank::new(1),
-            self.stream.block(),
-            &mut self.client,
-            word,
-        );
+        gains_in::<Brand>(Blank::new(1), self.stream.what(), &mut self.client, word);
         Ok(())
     }
 
@@ -197,11 +184,7 @@ impl StreamClient {
         ensures saw { self.new.client.pass.part ≡ client_did self.old.client.pass.part (client_event.SawStatus result) }
         ensures kept { self.new.client ≡ (record self.old.client { pass = self.new.client.pass }) }
     {
-        status_in::<Brand>(
-            Blank::new(1),
-            self.stream.block(),
-            &mut self.client,
-        )
+        status_in::<Brand>(Blank::new(1), self.stream.what(), &mut self.client)
     }
 
     /// Clears DISABLED (0x08), and answers the flags before: UNDERRUN (0x01) where frames were missing, INVALID (0x04) where the stream is dead, DISABLED where the server has disabled it.
@@ -210,11 +193,7 @@ impl StreamClient {
         ensures cleared { self.new.client.pass.part ≡ client_did self.old.client.pass.part (client_event.ClearFlags result) }
         ensures kept { self.new.client ≡ (record self.old.client { pass = self.new.client.pass }) }
     {
-        clear_in::<Brand>(
-            Blank::new(1),
-            self.stream.block(),
-            &mut self.client,
-        )
+        clear_in::<Brand>(Blank::new(1), self.stream.what(), &mut self.client)
     }
 
     /// How many frames were released.
@@ -236,6 +215,6 @@ impl StreamClient {
     pub fn frames(&self) -> u32
         ensures { result ≡ self.now.block.shape.frames }
     {
-        self.stream.block().frames()
+        self.stream.what().frames()
     }
 }

@@ -1,17 +1,18 @@
 //! The end of a stream that reads.
-ghost use Rattle.std.specs.Prelude.{◌≡◌, ℕ, ◌+◌, ◌<◌, ◌≤◌, ◌^◌, min, [], map, take, drop, length};
+ghost use Rattle.std.specs.Prelude.{◌≡◌, ℕ, ◌+◌, ◌<◌, ◌≤◌, ◌++◌, min, [], map, take, drop, length};
 ghost use Rattle.af_base.specs.declared.event.ServerEvent.TheVariants as server_event;
 ghost use Rattle.af_base.specs.Gain.{left_half, right_half};
 ghost use Rattle.af_base.specs.Log.{count_seen};
 ghost use Rattle.af_base.specs.Sample.{packed_word};
 ghost use Rattle.af_model.specs.ServerCalls.{shown_by};
 ghost use Rattle.af_record.specs.Ends.{takes};
-ghost use Rattle.af_server.specs.Looks.{WithinAsk, dropped_of};
+ghost use Rattle.af_server.specs.Looks.{WithinAsk};
 ghost use Rattle.af_server.specs.Order.{counted, did};
 ghost use Rattle.af_ends.specs.Streams.{IsStreamServer, found_by, frames_in, dropped_in, Finds, Reads, Tallies};
 
+use crate::common::Common;
 use crate::error::EndError;
-use crate::stream::Stream;
+use crate::stream::ParkedClient;
 use af_base::{DISABLED, Frame, Gains, INVALID, Seen, Steps};
 use af_cblk::Block;
 use af_server::Server;
@@ -25,7 +26,7 @@ use std::sync::ledger::{Blank, Ledger};
 /// Contracts see the block, and the proxy with the list of all that it did and the frames that it took. No call takes memory or waits, and it may be sent to another thread.
 #[derive(Drop)]
 pub struct StreamServer {
-    pub(crate) stream: Arc<Stream, Global>,
+    pub(crate) stream: Arc<Common<ParkedClient>, Global>,
     pub(crate) server: Server,
 }
 
@@ -92,6 +93,7 @@ fn take_shown<L: Ledger>(
     }
 }
 
+// A look for frames, and a take of what it shows.
 fn read_in<L: Ledger>(
     blank: Blank,
     block: &Block,
@@ -192,12 +194,7 @@ impl StreamServer {
                 flushed: None,
             });
         }
-        read_in::<Brand>(
-            Blank::new(1),
-            self.stream.block(),
-            &mut self.server,
-            out,
-        )
+        read_in::<Brand>(Blank::new(1), self.stream.what(), &mut self.server, out)
     }
 
     /// How many frames are there, of which it takes none. It notices a flush as a read does, and is refused as a read is.
@@ -207,11 +204,7 @@ impl StreamServer {
         ensures frames { self.new.server.pass.part.frames ≡ self.old.server.pass.part.frames }
         ensures consumed { self.new.server.consumed ≡ counted (self.old.server.consumed + dropped_in result) }
     {
-        available_in::<Brand>(
-            Blank::new(1),
-            self.stream.block(),
-            &mut self.server,
-        )
+        available_in::<Brand>(Blank::new(1), self.stream.what(), &mut self.server)
     }
 
     /// The gains that the client set last, each clamped to unity.
@@ -219,11 +212,7 @@ impl StreamServer {
         ensures block { self.new.block ≡ self.old.block }
         ensures saw { (word : ℕ) × (self.new.server ≡ did self.old.server (server_event.SawGain word)) × (result ≡ (min (left_half word) 4096, min (right_half word) 4096)) }
     {
-        let word = gains_in::<Brand>(
-            Blank::new(1),
-            self.stream.block(),
-            &mut self.server,
-        );
+        let word = gains_in::<Brand>(Blank::new(1), self.stream.what(), &mut self.server);
         Gains::clamped(word)
     }
 
@@ -237,12 +226,7 @@ impl StreamServer {
         if missing == 0 {
             return Err(EndError::Argument);
         }
-        tally_in::<Brand>(
-            Blank::new(1),
-            self.stream.block(),
-            &mut self.server,
-            missing,
-        );
+        tally_in::<Brand>(Blank::new(1), self.stream.what(), &mut self.server, missing);
         Ok(())
     }
 
@@ -251,12 +235,7 @@ impl StreamServer {
         ensures block { self.new.block ≡ self.old.block }
         ensures set { self.new.server ≡ did self.old.server (server_event.SetFlags 4) }
     {
-        flags_in::<Brand>(
-            Blank::new(1),
-            self.stream.block(),
-            &mut self.server,
-            INVALID,
-        );
+        flags_in::<Brand>(Blank::new(1), self.stream.what(), &mut self.server, INVALID);
     }
 
     /// Sets DISABLED (0x08), which the client clears.
@@ -266,7 +245,7 @@ impl StreamServer {
     {
         flags_in::<Brand>(
             Blank::new(1),
-            self.stream.block(),
+            self.stream.what(),
             &mut self.server,
             DISABLED,
         );
@@ -277,12 +256,7 @@ impl StreamServer {
         ensures block { self.new.block ≡ self.old.block }
         ensures stored { self.new.server ≡ did self.old.server (server_event.SetStatus word) }
     {
-        status_in::<Brand>(
-            Blank::new(1),
-            self.stream.block(),
-            &mut self.server,
-            word,
-        );
+        status_in::<Brand>(Blank::new(1), self.stream.what(), &mut self.server, word);
     }
 
     /// How many frames were taken and discarded, up to 2^63 - 1.
@@ -303,6 +277,6 @@ impl StreamServer {
     pub fn frames(&self) -> u32
         ensures { result ≡ self.now.block.shape.frames }
     {
-        self.stream.block().frames()
+        self.stream.what().frames()
     }
 }
