@@ -186,7 +186,7 @@ impl StreamServer {
         ensures few { frames_in result ≤ length out.old }
         ensures taken { self.new.server.pass.part.frames ≡ self.old.server.pass.part.frames ++ map packed_word (take (frames_in result) out.new) }
         ensures rest { drop (frames_in result) out.new ≡ drop (frames_in result) out.old }
-        ensures consumed { self.new.server.consumed ≡ counted (self.old.server.consumed + dropped_in result + frames_in result) }
+        ensures consumed { 1 ≤ length out.old → self.new.server.consumed ≡ counted (self.old.server.consumed + dropped_in result + frames_in result) }
     {
         if out.is_empty() {
             return Ok(Found {

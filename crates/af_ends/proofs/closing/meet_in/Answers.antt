@@ -1,5 +1,4 @@
-use Rattle.std.proofs.Common.{◌≡◌, true, List, length, [], refl, sym, ap, ◌∙◌, subst}
-use Rattle.af_base.specs.declared.event.ClientEvent.{ClientEvent}
+use Rattle.std.proofs.Common.{◌≡◌, true, List, length, refl, sym, ap, subst}
 use Rattle.af_base.specs.declared.event.ClientEvent.TheVariants as client
 use Rattle.af_base.specs.declared.event.HandEvent.{HandEvent}
 use Rattle.af_base.specs.declared.event.ServerEvent.TheVariants as server

@@ -1,4 +1,4 @@
-use Rattle.std.proofs.Common.{◌≡◌, ap}
+use Rattle.std.proofs.Common.{ap}
 use Rattle.af_record.specs.Ends.{CaptureState}
 use Rattle.af_ends.proofs.record_ends.meet_in.Goals as goal
 
