@@ -2,6 +2,7 @@
 ghost use Rattle.std.specs.Prelude.{◌≡◌, ◌+◌, ◌<◌, ◌≤◌, map, take, length, Ok};
 ghost use Rattle.af_base.specs.declared.event.ClientEvent.TheVariants as client_event;
 ghost use Rattle.af_base.specs.Sample.{packed_word};
+ghost use Rattle.af_model.specs.History.{flushes_of};
 ghost use Rattle.af_cblk.specs.Parts.{client_did};
 ghost use Rattle.af_cblk.specs.Shape.{most_flushes};
 ghost use Rattle.af_client.specs.Calls.{Releases};
@@ -206,7 +207,8 @@ impl StreamClient {
 
     /// How many flushes were asked for.
     pub fn flushes(&self) -> u32
-        ensures { result ≡ self.now.client.flushes }
+        ensures value { result ≡ self.now.client.flushes }
+        ensures list { result ≡ flushes_of self.now.client.pass.part.events }
     {
         self.client.flushes()
     }

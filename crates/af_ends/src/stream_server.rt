@@ -4,10 +4,10 @@ ghost use Rattle.af_base.specs.declared.event.ServerEvent.TheVariants as server_
 ghost use Rattle.af_base.specs.Gain.{left_half, right_half};
 ghost use Rattle.af_base.specs.Log.{count_seen};
 ghost use Rattle.af_base.specs.Sample.{packed_word};
-ghost use Rattle.af_model.specs.ServerCalls.{shown_by};
+ghost use Rattle.af_model.specs.ServerCalls.{flushes_by, shown_by};
 ghost use Rattle.af_record.specs.Ends.{takes};
 ghost use Rattle.af_server.specs.Looks.{WithinAsk};
-ghost use Rattle.af_server.specs.Order.{counted, did};
+ghost use Rattle.af_server.specs.Order.{counted, did, server_kept_of};
 ghost use Rattle.af_ends.specs.Streams.{IsStreamServer, found_by, frames_in, dropped_in, Finds, Reads, Tallies};
 
 use crate::common::Common;
@@ -261,14 +261,16 @@ impl StreamServer {
 
     /// How many frames were taken and discarded, up to 2^63 - 1.
     pub fn consumed(&self) -> u64
-        ensures { result ≡ self.now.server.consumed }
+        ensures value { result ≡ self.now.server.consumed }
+        ensures list { result ≡ counted (server_kept_of self.now.server.pass.part).consumed }
     {
         self.server.consumed()
     }
 
     /// How many flushes the client had asked for, by the last one that was noticed.
     pub fn flush_seen(&self) -> u32
-        ensures { result ≡ self.now.server.flushes }
+        ensures value { result ≡ self.now.server.flushes }
+        ensures list { result ≡ flushes_by self.now.server.pass.part.shape.wrap (server_kept_of self.now.server.pass.part).noticed }
     {
         self.server.flush_seen()
     }
