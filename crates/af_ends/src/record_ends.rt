@@ -102,7 +102,7 @@ fn make(alloc: Global, frames: u32) -> Result<(CaptureEnd, ListenerEnd), Memory>
 
 /// Opens a recording for `frames` frames, 1 to 8192: its two ends, which have done nothing.
 ///
-/// Argument where `frames` is outside that range. Memory where there is none.
+/// Argument exactly if `frames` is outside that range. Memory if it is out of memory.
 pub fn open_record(alloc: Global, frames: u32) -> Result<(CaptureEnd, ListenerEnd), EndError>
     ensures opened { IfOk result (λ r. IsOpenedRecord frames r.0 r.1) }
     ensures size { IfOk result (λ r. (1 ≤ frames) × (frames ≤ 8192)) }
@@ -176,7 +176,7 @@ fn meet_in<L: Ledger>(blank: Blank, block: &Block, capture: &mut Capture, listen
 impl CaptureEnd {
     /// Supplies these frames, up to 1024: as many of the first as there is room for are put, and the rest is lost and counted. With none it does nothing.
     ///
-    /// Argument where there are more. Limit where more than 2^62 frames would be supplied in all. No other refusal comes.
+    /// Argument exactly if there are more. Limit if there aren't, but more than 2^62 frames would be supplied in all. No other refusal comes.
     pub fn supply(&mut self, frames: &[Frame]) -> Result<Supplied, EndError>
         ensures block { self.new.block ≡ self.old.block }
         ensures answer { Supplies self.old.capture frames.now result self.new.capture }
@@ -223,7 +223,7 @@ impl CaptureEnd {
 impl ListenerEnd {
     /// Reads as many frames as are there and `out` has places for, up to 1024, to the front of `out`, and answers how many. The rest of `out` stays. With no places it does nothing.
     ///
-    /// Limit where 2^62 frames were read before. No other refusal comes.
+    /// Limit exactly if there are places, and 2^62 frames were read before. No other refusal comes.
     pub fn read(&mut self, out: &mut [Frame]) -> Result<u32, EndError>
         ensures block { self.new.block ≡ self.old.block }
         ensures answer { Listens self.old.listener (length out.old) result self.new.listener }

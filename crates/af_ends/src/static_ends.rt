@@ -105,7 +105,7 @@ fn make(alloc: Global, frames: &[Frame]) -> Result<(SetterEnd, PlayerEnd), Memor
 
 /// Opens a static buffer of these frames, 1 to 8192, which are copied: its two ends, which have done nothing.
 ///
-/// Argument where their number is outside that range. Memory where there is none.
+/// Argument exactly if their number is outside that range. Memory if it is out of memory.
 pub fn open_static(alloc: Global, frames: &[Frame]) -> Result<(SetterEnd, PlayerEnd), EndError>
     ensures opened { IfOk result (λ r. IsOpenedStatic frames.now r.0 r.1) }
     ensures size { IfOk result (λ r. (1 ≤ length frames.now) × (length frames.now ≤ 8192)) }
@@ -171,7 +171,7 @@ fn meet_in<L: Ledger>(blank: Blank, shared: &Shared, setter: &mut Setter, player
 impl SetterEnd {
     /// Sets the start, end and count of a loop, of whatever numbers, in place of those set before, and answers the setting's number, from 1.
     ///
-    /// Limit where 2^63 settings were made before. No other refusal comes.
+    /// Limit exactly if 2^63 settings were made before. No other refusal comes.
     pub fn set(&mut self, start: u32, end: u32, count: u32) -> Result<u64, EndError>
         ensures shared { self.new.shared ≡ self.old.shared }
         ensures answer { Sets self.old.setter start end count result self.new.setter }
@@ -199,7 +199,7 @@ impl SetterEnd {
 impl PlayerEnd {
     /// Plays the next frames of the buffer to 1 to 1024 places, by the newest setting, at these gains. An invalid setting shuts the player for good, and the answer tells it: it plays silence from then on.
     ///
-    /// Argument where there are no places, or more. No other refusal comes.
+    /// Argument exactly if there are no places, or more than 1024. No other refusal comes.
     pub fn play(&mut self, gains: Gains, out: &mut [Frame]) -> Result<Unrolled, EndError>
         ensures shared { self.new.shared ≡ self.old.shared }
         ensures answer { Plays self.old.shared.frames gains self.old.player out.old result out.new self.new.player }

@@ -52,7 +52,7 @@ fn make(alloc: Global, frames: u32) -> Result<(StreamClient, StreamServer), Memo
 
 /// Opens a stream for `frames` frames, 1 to 8192: its two ends, which have done nothing.
 ///
-/// Argument where `frames` is outside that range. Memory where there is none.
+/// Argument exactly if `frames` is outside that range. Memory if it is out of memory.
 pub fn open_stream(alloc: Global, frames: u32) -> Result<(StreamClient, StreamServer), EndError>
     ensures opened { IfOk result (λ r. IsOpened frames r.0 r.1) }
     ensures size { IfOk result (λ r. (1 ≤ frames) × (frames ≤ 8192)) }

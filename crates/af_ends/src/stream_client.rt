@@ -132,9 +132,9 @@ fn flush_room(block: &Block) -> u32
 }
 
 impl StreamClient {
-    /// Releases the first of these frames, as many as there is room for before the last cell, and answers how many: 0 where the block is full, or there are none to write. The rest can be written by a second call, after the wrap.
+    /// Releases the first of these frames, as many as there is room for before the last cell, and answers how many: 0 if the block is full, or there are none to write. The rest can be written by a second call, after the wrap.
     ///
-    /// Dead where INVALID is seen: the list alone tells that look then. Limit where 2^62 frames were released before. No other refusal comes.
+    /// Limit exactly if there are frames to write, and 2^62 were released before. Dead exactly if INVALID is seen: the list tells that look, and nothing else changes. No other refusal comes.
     pub fn write(&mut self, frames: &[Frame]) -> Result<u32, EndError>
         ensures block { self.new.block ≡ self.old.block }
         ensures answer { Writes self.old.client (length frames.now) result self.new.client }
@@ -153,7 +153,7 @@ impl StreamClient {
 
     /// Asks the server to discard the frames released so far, and no later ones, and answers how many flushes were asked for.
     ///
-    /// Limit where there were as many flushes as flush words can tell apart: 2^32 divided by four times the cells, less one.
+    /// Limit exactly if there were as many flushes as flush words can tell apart: 2^32 divided by four times the cells, less one.
     pub fn flush(&mut self) -> Result<u32, EndError>
         ensures block { self.new.block ≡ self.old.block }
         ensures flushes { Flushes self.old.block self.old.client result self.new.client }
@@ -166,7 +166,7 @@ impl StreamClient {
 
     /// Sets the gains of the two sides, each in 4.12, from 0 to unity (0x1000).
     ///
-    /// Argument where one is above unity.
+    /// Argument exactly if one is above unity.
     pub fn set_gains(&mut self, left: u16, right: u16) -> Result<(), EndError>
         ensures block { self.new.block ≡ self.old.block }
         ensures sets { SetsGains self.old.client left right result self.new.client }
@@ -188,7 +188,7 @@ impl StreamClient {
         status_in::<Brand>(Blank::new(1), self.stream.what(), &mut self.client)
     }
 
-    /// Clears DISABLED (0x08), and answers the flags before: UNDERRUN (0x01) where frames were missing, INVALID (0x04) where the stream is dead, DISABLED where the server has disabled it.
+    /// Clears DISABLED (0x08), and answers the flags before: UNDERRUN (0x01) if frames were missing, INVALID (0x04) if the stream is dead, DISABLED if the server has disabled it.
     pub fn clear_disabled(&mut self) -> u32
         ensures block { self.new.block ≡ self.old.block }
         ensures cleared { self.new.client.pass.part ≡ client_did self.old.client.pass.part (client_event.ClearFlags result) }

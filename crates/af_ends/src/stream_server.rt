@@ -41,7 +41,7 @@ impl Model for StreamServer {
     ghost invariant = { λ e. IsStreamServer (arc_value e.stream) e.server };
 }
 
-/// What the server of a stream found: so many frames. Where it noticed a flush instead, none, and so many were discarded.
+/// What the server of a stream found: so many frames, or a flush instead, which discarded so many.
 #[derive(Clone, Copy, Debug, PartialEq, Eq)]
 pub struct Found {
     pub frames: u32,
@@ -179,7 +179,7 @@ impl StreamServer {
     ///
     /// A new flush is noticed first: then the frames that were released before it are discarded, and none are taken by this call.
     ///
-    /// Corrupt where front and rear do not fit the block, now and in each call from then on. It never comes where the client is a `StreamClient`, as `close` shows.
+    /// Corrupt exactly if front and rear do not fit the block, in this call or in an earlier one. It never comes if the client is a `StreamClient`, as `close` shows.
     pub fn read(&mut self, out: &mut [Frame]) -> Result<Found, EndError>
         ensures block { self.new.block ≡ self.old.block }
         ensures answer { Reads self.old.block self.old.server (length out.old) result self.new.server }
@@ -218,7 +218,7 @@ impl StreamServer {
 
     /// Counts so many frames as missing, and sets UNDERRUN (0x01).
     ///
-    /// Argument where there are none.
+    /// Argument exactly if there are none.
     pub fn tally(&mut self, missing: u32) -> Result<(), EndError>
         ensures block { self.new.block ≡ self.old.block }
         ensures tallied { Tallies self.old.server missing result self.new.server }
