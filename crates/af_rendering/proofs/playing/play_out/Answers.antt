@@ -24,8 +24,7 @@ returns-clause-round g c =
     let was : SessionState = c.args.parties.now in
     let is : SessionState = c.round_in.new.parties in
     let next : IsReady c.args.links.now given (n + 1) is = c.round_in.ensures.ready n c.requires.ready.2 in
-    let round = c.round_in.ensures.round in
-    (
+    let round = c.round_in.ensures.round in (
       round.1,
       round_noted c.args.links.now given n (n + 1) was is c.requires.ready.2 next c.args.turn round.0 round.1 round.3,
       round_sounds given c.args.turn was round.0 round.1 is c.requires.ready.2.whole round.3,

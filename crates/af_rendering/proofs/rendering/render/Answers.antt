@@ -45,8 +45,7 @@ returns-in-Ok-clause-played g c =
     let ends = c.close.result.ends in
     let events = s.parties.normal.mutator.past.events in
     let pushed = ap (λ (e : EndsState). e.normal.mutator.past.events) c.close.ensures.ends in
-    let sounds : journal_pcm frames journal ≡ pcm_of frames log = journal_sounds frames rounds log have.noted.whole in
-    (
+    let sounds : journal_pcm frames journal ≡ pcm_of frames log = journal_sounds frames rounds log have.noted.whole in (
       journal,
       record {
         back = record {
