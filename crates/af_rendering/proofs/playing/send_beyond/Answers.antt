@@ -1,12 +1,8 @@
-use Rattle.std.proofs.Common.{◌≡◌, ℕ, List, [], ap, refl}
+use Rattle.std.proofs.Common.{◌≡◌, ℕ, [], ap}
 use Rattle.std.proofs.lemmas.Result.{on_ok_weaker}
 use Rattle.af_base.specs.Roomy.{Roomy}
-use Rattle.af_rendering.proofs.NotedRounds.{cause_never}
 use Rattle.af_rendering.proofs.Waiting.{none_wait}
 use Rattle.af_rendering.proofs.playing.send_beyond.Goals as goal
-
-pub returns-then-len-clause-cause : goal.returns-then-len-clause-cause
-returns-then-len-clause-cause g c = cause_never (g.S.Store.faults c.args.store.now) (g.S.Store.faults c.args.store.now) tt refl
 
 pub returns-clause-written : goal.returns-clause-written
 returns-clause-written g c = λ told base sound held.

@@ -77,7 +77,7 @@ returns-clause-rendered g c =
     let script = c.args.script.now in
     let new = c.requires.new.new in
     let done = c.play_all.ensures in
-    has_rendered script s.shared was new c.args.files.now c.links-links.result c.tracks-tracks.result.now c.tracks-tracks.ensures.value _ c.requires.new.room.released c.turns-turns.result.now c.turns-turns.ensures.value c.play_all.result
+    has_rendered script s.shared was new c.args.files.now c.links-links.result c.tracks-tracks.result.now c.tracks-tracks.ensures.value (record { shared = _; parties = _; room = _; rounds = c.args.self.now.rounds }) c.requires.new.room.released c.turns-turns.result.now c.turns-turns.ensures.value c.play_all.result
     (spares_first script s.shared was new) done.ready done.all done.frames (done.entries (entries_first script s.shared was new))
 
 pub returns-clause-written : goal.returns-clause-written
