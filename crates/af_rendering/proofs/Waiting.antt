@@ -1,5 +1,5 @@
 -- Bytes that wait to go out behind what a file has of a sound.
-use Rattle.std.proofs.Common.{◌≡◌, ℕ, ◌++◌, List, [], Some, sym, ap, subst, ◌∙◌, append-nil, append_assoc}
+use Rattle.std.proofs.Common.{◌≡◌, ℕ, ◌++◌, List, [], Some, sym, ap, ◌∙◌, append-nil, append_assoc}
 use Rattle.af_io.specs.Files.{Files, SetsFile}
 use Rattle.af_rendering.specs.Rendered.{HoldsBut}
 

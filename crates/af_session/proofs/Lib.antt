@@ -15,6 +15,5 @@ pub mod Ready
 pub mod ClientRounds
 pub mod NormalRounds
 pub mod MapMore
-pub mod NotedForms
 pub mod Following
 pub mod FollowingRounds

@@ -1,17 +1,15 @@
-use Rattle.std.proofs.Common.{rules, ◌≡◌, ◌+◌, ◌*◌, ◌≤◌, ◌++◌, ◌∷◌, ℕ, List, [], length, take, refl, sym, ap, subst, ◌∙◌, arith}
+use Rattle.std.proofs.Common.{rules, ◌≡◌, ◌+◌, ◌++◌, ℕ, List, [], length, refl, sym, ap, subst, ◌∙◌, arith}
 use Rattle.std.specs.Prelude.{All}
 use Rattle.std.proofs.lemmas.List.{take_all}
 use Rattle.std.proofs.lemmas.Result.{IfOk-from_err}
 use Rattle.af_base.specs.Log.{Logged}
 use Rattle.af_base.specs.Sample.{IsFrame}
-use Rattle.af_base.specs.declared.log.CycleEntry.{CycleEntry}
 use Rattle.af_io.specs.Causes.{HasCause}
 use Rattle.af_io.specs.Files.{LeavesFront}
-use Rattle.af_model.specs.Journals.{RoundNoted}
 use Rattle.af_model.specs.Numbers.{FitsEntry}
 use Rattle.af_script.specs.declared.op.TurnSpec.{TurnSpec}
 use Rattle.af_rendering.specs.Rendered.{HoldsBut}
-use Rattle.af_session.specs.Rounds.{Given, IsReady, round_told}
+use Rattle.af_session.specs.Rounds.{Given, IsReady}
 use Rattle.af_session.specs.Together.{SessionState}
 use Rattle.af_tally.specs.Sound.{pcm_of}
 use Rattle.af_rendering.proofs.NotedRounds.{cause_on}

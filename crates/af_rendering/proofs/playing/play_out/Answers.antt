@@ -1,7 +1,6 @@
-use Rattle.std.proofs.Common.{◌≡◌, ◌+◌, ◌*◌, ◌≤◌, ◌<◌, ◌^◌, ◌++◌, ℕ, List, length, ap, subst, arith}
+use Rattle.std.proofs.Common.{◌+◌, ℕ, ap}
 use Rattle.af_base.specs.Roomy.{Roomy}
-use Rattle.af_io.specs.Files.{Files}
-use Rattle.af_session.specs.Rounds.{Given, IsReady, IsRound, round_told}
+use Rattle.af_session.specs.Rounds.{Given, IsReady}
 use Rattle.af_session.specs.Together.{SessionState}
 use Rattle.af_tally.specs.Sound.{pcm_of}
 use Rattle.af_rendering.specs.Rendered.{HoldsBut}

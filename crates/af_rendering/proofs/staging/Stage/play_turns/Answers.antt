@@ -1,4 +1,4 @@
-use Rattle.std.proofs.Common.{◌≡◌, ◌*◌, ◌≤◌, ℕ, List, [], Some, OnOk, OnErr, length, take, sym, ap, subst, arith}
+use Rattle.std.proofs.Common.{◌≡◌, ◌*◌, ◌≤◌, ℕ, List, Some, OnOk, OnErr, length, take, sym, ap, subst, arith}
 use Rattle.std.specs.Prelude.{All}
 use Rattle.af_base.specs.Roomy.{Roomy}
 use Rattle.af_io.specs.Files.{SetsFile, LeavesFront}
@@ -7,7 +7,7 @@ use Rattle.af_script.specs.Form.{IsScript, IsTurn}
 use Rattle.af_script.specs.declared.op.TurnSpec.{TurnSpec}
 use Rattle.af_script.specs.declared.track.TrackSpec.{TrackSpec}
 use Rattle.af_rendering.specs.Rendered.{Runs}
-use Rattle.af_session.specs.Rounds.{Given, IsReady}
+use Rattle.af_session.specs.Rounds.{IsReady}
 use Rattle.af_tally.specs.Sound.{pcm_of}
 use Rattle.af_tally.specs.Summaries.{nothing_shown}
 use Rattle.af_tally.specs.Tallies.{IsTally}
