@@ -10,9 +10,9 @@ use Rattle.af_journal_laws.proofs.AllHolds.{OfTurnRuns}
 use Rattle.af_one_turn_run.proofs.OneTurnRun.{one_turn_run}
 use Rattle.af_render_law.proofs.RendersTold.{render_told}
 use Rattle.af_script.specs.Form.{IsScript}
-use Rattle.af_rendering.specs.declared.rendering.Played.{Played}
+use Rattle.af_rendering.specs.declared.rendering.Outcome.{Outcome}
 use Rattle.af_session.specs.Ends.{EndsState}
-use Rattle.af_rendering.specs.Rendered.{HandsBack, LeavesSound}
+use Rattle.af_rendering.specs.Rendered.{ComesTo, HandsBack, LeavesSound}
 use Rattle.af_session.specs.Shown.{summary_told}
 use Rattle.af_runs.specs.Pcm.{journal_pcm}
 use Rattle.af_offline.specs.declared.status.Stop.{Stop}
@@ -55,19 +55,20 @@ module _ (l : Loaded) (journal : JournalData) (ends : EndsState) (back : HandsBa
 
 -- ## What is told of a render
 
-module _ (l : Loaded) (accepted : IsScript l.script) (follows : OfTurnRuns HoldsAtMeetingsAlone) where
-  pub some_line_told : (played : Result Played StoreError) (result : Result (String Global) Stop) → IfOk played (λ p. HandsBack l.script l.files p.journal p.ends) → IfOk played (λ p. p.summary ≡ summary_told l.script.frames p.journal p.ends)
-      → TellsRender played result → IfOk result (λ line. IsSomeSessionLine (string_bytes line))
-  some_line_told (Ok p) (Ok line) back summary told = some_line l p.journal p.ends back p.summary summary accepted follows (string_bytes line) told
-  some_line_told (Err e) (Ok line) back summary clash = let none : ⊥ = cc in absurd none
-  some_line_told played (Err stop) back summary told = tt
+module _ (l : Loaded) (accepted : IsScript l.script) (follows : OfTurnRuns HoldsAtMeetingsAlone) (target : List ℕ) (told : Type 0) (old new : Files) where
+  -- what a render into the target came to, by its journal
+  abbrev Rendered : Outcome → Type 0
+  Rendered o = (journal : JournalData) × ComesTo l.script l.files journal o.summary o.ends × (told → SetsFile old target (Some (journal_pcm l.script.frames journal)) new)
 
-  module _ (target : List ℕ) (old new : Files) where
-    pub Makes-rendered : (played : Result Played StoreError) (result : Result (String Global) Stop) → IfOk played (λ p. HandsBack l.script l.files p.journal p.ends) → IfOk played (λ p. p.summary ≡ summary_told l.script.frames p.journal p.ends)
-        → IfOk played (λ p. SetsFile old target (Some (journal_pcm l.script.frames p.journal)) new) → OnErr played (LeavesSound l.script l.files target old new)
-        → TellsRender played result → Makes result (Ok (session_job target l)) old new
-    Makes-rendered (Ok p) (Ok line) back summary set left told = Makes-played l p.journal p.ends back p.summary summary accepted follows target old new set line told
-    Makes-rendered (Ok p) (Err stop) back summary set left is =
-        subst (λ (s : Stop). Makes (Err s) (Ok (session_job target l)) old new) (sym is) (cut_behind l p.journal p.ends back p.summary summary accepted follows target old new set)
-    Makes-rendered (Err e) result back summary set left is =
-        subst (λ (r : Result (String Global) Stop). Makes r (Ok (session_job target l)) old new) (sym is) (Makes-unwritten e (session_job target l) old new left)
+  pub some_line_told : (played : Result Outcome StoreError) (result : Result (String Global) Stop) → IfOk played Rendered → TellsRender played result → IfOk result (λ line. IsSomeSessionLine (string_bytes line))
+  some_line_told (Ok o) (Ok line) came is = some_line l came.0 o.ends came.1.back o.summary came.1.summary_is accepted follows (string_bytes line) is
+  some_line_told (Err e) (Ok line) came clash = let none : ⊥ = cc in absurd none
+  some_line_told played (Err stop) came is = tt
+
+  pub Makes-rendered : (played : Result Outcome StoreError) (result : Result (String Global) Stop) → told → IfOk played Rendered → OnErr played (LeavesSound l.script l.files target old new) → TellsRender played result
+      → Makes result (Ok (session_job target l)) old new
+  Makes-rendered (Ok o) (Ok line) tells came left is = Makes-played l came.0 o.ends came.1.back o.summary came.1.summary_is accepted follows target old new (came.2 tells) line is
+  Makes-rendered (Ok o) (Err stop) tells came left is =
+      subst (λ (s : Stop). Makes (Err s) (Ok (session_job target l)) old new) (sym is) (cut_behind l came.0 o.ends came.1.back o.summary came.1.summary_is accepted follows target old new (came.2 tells))
+  Makes-rendered (Err e) result tells came left is =
+      subst (λ (r : Result (String Global) Stop). Makes r (Ok (session_job target l)) old new) (sym is) (Makes-unwritten e (session_job target l) old new left)

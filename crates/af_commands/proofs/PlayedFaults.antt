@@ -7,6 +7,7 @@ use Rattle.af_io.specs.declared.store.StoreError.TheVariants as outside
 use Rattle.af_model.specs.Journals.{JournalData}
 use Rattle.af_playing.specs.declared.answering.PlayFault.{PlayFault}
 use Rattle.af_playing.specs.declared.answering.PlayFault.TheVariants as fault
+use Rattle.af_rendering.specs.declared.rendering.Outcome.{Outcome}
 use Rattle.af_rendering.specs.declared.rendering.Played.{Played}
 use Rattle.af_session.specs.Ends.{EndsState}
 use Rattle.af_playing.specs.PlayedRuns.{HasStoreCause}
@@ -83,16 +84,16 @@ fault_told {T} outside.Memory before now cause = record { later = cause.later; f
 -- ## A render
 
 module _ (before now : ℕ) where
-  pub HasFault-rendered : (played : Result Played StoreError) (result : Result (String Global) Stop) → HasCause before now played → TellsRender played result → HasFault before now result
+  pub HasFault-rendered : (played : Result Outcome StoreError) (result : Result (String Global) Stop) → HasCause before now played → TellsRender played result → HasFault before now result
   HasFault-rendered (Ok p) (Ok line) cause told = calm_line line before now (written_still p before now cause)
   HasFault-rendered (Ok p) (Err stop) cause told = subst (λ (s : Stop). HasFault {X = String Global} before now (Err s)) (sym told) (calm_memory before now (written_still p before now cause))
-  HasFault-rendered (Err e) result cause told = subst (λ (r : Result (String Global) Stop). HasFault before now r) (sym told) (fault_told {T = Played} e before now cause)
+  HasFault-rendered (Err e) result cause told = subst (λ (r : Result (String Global) Stop). HasFault before now r) (sym told) (fault_told {T = Outcome} e before now cause)
 
 stop_usage : (e : StoreError) → IsNoUsage {X = String Global} (Err (stop_of e))
 stop_usage outside.Failed = tt
 stop_usage outside.Memory = tt
 
-pub IsNoUsage-rendered : (played : Result Played StoreError) (result : Result (String Global) Stop) → TellsRender played result → IsNoUsage result
+pub IsNoUsage-rendered : (played : Result Outcome StoreError) (result : Result (String Global) Stop) → TellsRender played result → IsNoUsage result
 IsNoUsage-rendered (Ok p) (Ok line) told = tt
 IsNoUsage-rendered (Ok p) (Err stop) told = subst (λ (s : Stop). IsNoUsage {X = String Global} (Err s)) (sym told) tt
 IsNoUsage-rendered (Err e) result told = subst (λ (r : Result (String Global) Stop). IsNoUsage r) (sym told) (stop_usage e)

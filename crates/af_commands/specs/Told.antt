@@ -7,6 +7,7 @@ use Rattle.af_journal.specs.Texts.{text_of}
 use Rattle.af_model.specs.Journals.{JournalData}
 use Rattle.af_playing.specs.declared.answering.PlayFault.{PlayFault}
 use Rattle.af_playing.specs.declared.answering.PlayFault.TheVariants as fault
+use Rattle.af_rendering.specs.declared.rendering.Outcome.{Outcome}
 use Rattle.af_rendering.specs.declared.rendering.Played.{Played}
 use Rattle.af_tally.specs.declared.summary.Summary.{Summary}
 use Rattle.af_offline.specs.declared.status.Ending.TheVariants.{Limit}
@@ -23,8 +24,8 @@ TellsLine summary (Ok line) = string_bytes line ≡ summary_line summary
 TellsLine summary (Err stop) = stop ≡ Memory
 
 -- the line of a render, or the stop of the store's error
-abbrev pub TellsRender : Result Played StoreError → Result (String Global) Stop → Type 0
-TellsRender (Ok played) result = TellsLine played.summary result
+abbrev pub TellsRender : Result Outcome StoreError → Result (String Global) Stop → Type 0
+TellsRender (Ok outcome) result = TellsLine outcome.summary result
 TellsRender (Err error) result = result ≡ Err (stop_of error)
 
 -- the line of a summary; the outside may stop it

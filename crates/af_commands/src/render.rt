@@ -11,7 +11,7 @@ ghost use Rattle.af_script.specs.Form.{IsScript};
 use af_io::{Store, StoreError};
 use af_journal_laws::what_follows_of_turn_runs;
 use af_offline::{Loaded, Stop, load_script};
-use af_rendering::Played;
+use af_rendering::Outcome;
 use af_script::Script;
 use af_tally::Summary;
 use std::alloc::{AllocError, Global};
@@ -31,11 +31,11 @@ pub(crate) fn line_of(alloc: Global, summary: &Summary) -> Result<String, Stop>
 }
 
 /// What is told of a render: its line, or the stop of the store's error.
-fn tell(alloc: Global, played: &Result<Played, StoreError>) -> Result<String, Stop>
+fn tell(alloc: Global, played: &Result<Outcome, StoreError>) -> Result<String, Stop>
     ensures { TellsRender played.now result }
 {
     match played {
-        Ok(played) => line_of(alloc, &played.summary),
+        Ok(outcome) => line_of(alloc, &outcome.summary),
         Err(error) => Err(Stop::from(*error)),
     }
 }

@@ -5,10 +5,13 @@ pub mod FirstRound
 pub mod RoundTold
 pub mod LogGoes
 pub mod RoundForms
+pub mod RoundSounds
+pub mod Waiting
 pub mod JournalSound
 pub mod NotedRounds
 pub mod FilesGiven
 pub mod ShownWhole
+pub mod TurnsPlayed
 pub mod StagesRun
 pub mod OpenCalls
 pub mod OpenLooks

@@ -5,7 +5,7 @@ use Rattle.af_base.specs.declared.state.FastState.{FastState}
 use Rattle.af_io.specs.Files.{Files, SetsFile}
 use Rattle.af_link.specs.declared.links.Links.{Links}
 use Rattle.af_model.specs.JournalForm.{IsJournal, IsWhole}
-use Rattle.af_model.specs.Journals.{journal_of}
+use Rattle.af_model.specs.Journals.{RoundsNoted, journal_of}
 use Rattle.af_script.specs.Data.{ScriptData}
 use Rattle.af_script.specs.declared.op.TurnSpec.{TurnSpec}
 use Rattle.af_script.specs.declared.track.TrackSpec.{TrackSpec}
@@ -13,11 +13,11 @@ use Rattle.af_rendering.specs.declared.staging.Stage.{Stage}
 use Rattle.af_rendering.specs.FastSpared.{FastSparesSoFar}
 use Rattle.af_rendering.specs.Hostile.{SparesSoFar}
 use Rattle.af_session.specs.NewSession.{IsNewSession}
-use Rattle.af_rendering.specs.Rendered.{Runs}
+use Rattle.af_rendering.specs.Rendered.{PlaysTurns, Runs}
 use Rattle.af_session.specs.Rounds.{Given, IsReady}
 use Rattle.af_engine.specs.Shares.{SharedState}
 use Rattle.af_session.specs.Shown.{shown_at}
-use Rattle.af_rendering.specs.Stages.{HasRendered}
+use Rattle.af_rendering.specs.Stages.{HasRendered, noted_as}
 use Rattle.af_session.specs.Together.{SessionState}
 use Rattle.af_tally.specs.Sound.{pcm_of}
 use Rattle.af_tally.specs.Tallies.{IsTally}
@@ -69,9 +69,29 @@ module _ (script : ScriptData) (shared : SharedState) (was : SessionState) (new 
         entries = entries_end script shared was new links given n turns s.rounds s.parties noted.ready ran noted.tracks noted.spares spares;
       }
 
-  pub has_rendered : {T E : Type 0} (r : Result T E) (turns : List TurnSpec) → turns ≡ script.turns → OnOk r (NotedOn links given (length turns) was s) → OnOk r (Runs given turns was s.rounds.rounds s.parties) → OnOk r (FastSparesSoFar s.parties) → OnOk r (HasRendered script files s)
-  has_rendered (Ok x) turns are noted ran spares = rendered_on turns are noted ran spares
-  has_rendered (Err e) turns are noted ran spares = tt
+-- ## A render, whose rounds are told and not noted
+
+module _ (script : ScriptData) (shared : SharedState) (was : SessionState) (new : IsNewSession script shared was) (files : List (List Frame)) (links : Links) (tracks : List TrackSpec) (here : tracks ≡ script.tracks) (s : Stage) (room : s.room.released ≡ record { items = []; room = length script.tracks }) (turns : List TurnSpec) (are : turns ≡ script.turns) where
+  abbrev session : Given
+  session = record { tracks = tracks; files = files }
+
+  -- as if the rounds had been noted
+  as_noted : (rounds : RoundsNoted) → IsReady links session (length turns) s.parties → PlaysTurns session turns was rounds s.parties s.room.tally → s.parties.fast.frames ≡ was.fast.frames → SparesSoFar [] was → NotedOn links session (length turns) was (noted_as rounds s)
+  as_noted rounds ready plays frames fresh = record {
+    ready = ready;
+    tracks = plays.tracks;
+    whole = plays.whole;
+    form = plays.form;
+    tally = plays.tally_is;
+    frames = frames;
+    spares = plays.spares fresh;
+  }
+
+  pub has_rendered : {T E : Type 0} (r : Result T E) → SparesSoFar [] was → OnOk r (IsReady links session (length turns) s.parties) → OnOk r ((rounds : RoundsNoted) × PlaysTurns session turns was rounds s.parties s.room.tally)
+      → OnOk r (s.parties.fast.frames ≡ was.fast.frames) → OnOk r (FastSparesSoFar s.parties) → OnOk r ((rounds : RoundsNoted) × HasRendered script files (noted_as rounds s))
+  has_rendered (Ok x) fresh ready plays frames spares =
+      (plays.0, rendered_on script shared was new files links tracks here (noted_as plays.0 s) room turns are (as_noted plays.0 ready plays.1 frames fresh) plays.1.runs spares)
+  has_rendered (Err e) fresh ready plays frames spares = tt
 
 -- ## The file
 

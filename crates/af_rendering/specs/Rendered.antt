@@ -1,9 +1,11 @@
 -- What the turns of a script come to, and what they leave in a file.
-use Rattle.std.specs.Prelude.{◌≡◌, ◌⊎◌, ℕ, ◌<◌, ◌≤◌, ◌++◌, List, length, take}
+use Rattle.std.specs.Prelude.{◌≡◌, ◌⊎◌, ℕ, ◌<◌, ◌≤◌, ◌++◌, List, [], Some, length, take}
 use Rattle.af_base.specs.declared.frame.Frame.{Frame}
-use Rattle.af_io.specs.Files.{Files, SameFiles, LeavesFront}
-use Rattle.af_model.specs.JournalForm.{IsJournal}
-use Rattle.af_model.specs.Journals.{JournalData, RoundNoted, journal_of}
+use Rattle.af_base.specs.declared.state.FastState.{FastState}
+use Rattle.af_io.specs.Files.{Files, SameFiles, SetsFile, LeavesFront}
+use Rattle.af_model.specs.JournalForm.{IsJournal, IsWhole}
+use Rattle.af_model.specs.Journals.{JournalData, RoundNoted, RoundsNoted, journal_of}
+use Rattle.af_rendering.specs.Hostile.{PokesSpareEntries, PokesSpareOthers, SparesSoFar}
 use Rattle.af_script.specs.Data.{ScriptData}
 use Rattle.af_script.specs.declared.op.Op.{Op}
 use Rattle.af_script.specs.declared.op.TurnSpec.{TurnSpec}
@@ -11,7 +13,10 @@ use Rattle.af_session.specs.Ends.{EndsState, ends_from}
 use Rattle.af_session.specs.NewSession.{IsNewSession}
 use Rattle.af_session.specs.Rounds.{Given, IsTurnRun, ops_at, file_at}
 use Rattle.af_engine.specs.Shares.{SharedState}
+use Rattle.af_session.specs.Shown.{shown_at, shown_by, summary_told}
+use Rattle.af_tally.specs.declared.summary.Summary.{Summary}
 use Rattle.af_tally.specs.Sound.{pcm_of}
+use Rattle.af_tally.specs.Tallies.{IsTally, Tallied}
 use Rattle.af_session.specs.Together.{SessionState}
 use Rattle.af_party.specs.Works.{frames_to_come}
 
@@ -33,6 +38,15 @@ pub record Runs (g : Given) (turns : List TurnSpec) (s : SessionState) (rounds :
   pub run : IsTurnRun g turns s rounds bytes t
   pub sound : pcm_of s.fast.frames t.fast.log ≡ pcm_of s.fast.frames s.fast.log ++ bytes
 
+-- All these turns were played from s to t: their rounds make a journal with the log, the tally is that of the rounds, and each track that nobody poked was spared where none was shut before
+pub record PlaysTurns (g : Given) (turns : List TurnSpec) (s : SessionState) (rounds : RoundsNoted) (t : SessionState) (tally : Tallied) : Type 0 where
+  pub runs : Runs g turns s rounds.rounds t
+  pub tracks : rounds.tracks ≡ length g.tracks
+  pub whole : IsWhole rounds t.fast.log
+  pub form : IsJournal (journal_of rounds t.fast.log)
+  pub tally_is : (first : FastState) → IsTally (shown_at first (length g.tracks) rounds.rounds t.fast) tally
+  pub spares : SparesSoFar [] s → SparesSoFar rounds.rounds t
+
 -- The parties t have played these turns since they were made of the script, with these rounds: a turn run with the files, whose bytes are the sound of the log
 pub record Renders (script : ScriptData) (files : List (List Frame)) (turns : List TurnSpec) (rounds : List RoundNoted) (t : SessionState) : Type 0 where
   pub shared : SharedState
@@ -47,6 +61,10 @@ abbrev pub Rendered : ScriptData → List (List Frame) → List TurnSpec → Ses
 Rendered script files turns t = (rounds : List RoundNoted) × Renders script files turns rounds t
 
 -- ## Files
+
+-- the file of this name has a sound but for the bytes that wait to go out behind it
+abbrev pub HoldsBut : List ℕ → Files → List ℕ → List ℕ → Files → Type 0
+HoldsBut waiting base name sound files = (out : List ℕ) × (out ++ waiting ≡ sound) × SetsFile base name (Some out) files
 
 -- no file has changed, or only that of this name, which holds a front of the sound of some first turns
 abbrev pub LeavesSound : ScriptData → List (List Frame) → List ℕ → Files → Files → Type 0
@@ -64,3 +82,10 @@ pub record HandsBack (script : ScriptData) (files : List (List Frame)) (journal 
   pub form : IsJournal journal
   pub ends_are : ends ≡ ends_from parties
   pub count : length ends.clients ≡ length script.tracks
+
+-- What a render comes to, as its journal tells it: the ends of the turn run, the summary of the journal with them, and each track spared on whose blocks nothing was poked, by the looks of either mixer
+pub record ComesTo (script : ScriptData) (files : List (List Frame)) (journal : JournalData) (summary : Summary) (ends : EndsState) : Type 0 where
+  pub back : HandsBack script files journal ends
+  pub summary_is : summary ≡ summary_told script.frames journal ends
+  pub spared : PokesSpareOthers (shown_by script.frames journal ends.normal.mutator.past.events)
+  pub entries : PokesSpareEntries (shown_by script.frames journal ends.normal.mutator.past.events)

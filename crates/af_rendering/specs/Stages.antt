@@ -3,7 +3,7 @@ use Rattle.std.specs.Prelude.{◌≡◌, ℕ, ◌*◌, ◌<◌, ◌^◌, All, Li
 use Rattle.af_base.specs.declared.frame.Frame.{Frame}
 use Rattle.af_link.specs.declared.links.Links.{Links}
 use Rattle.af_model.specs.JournalForm.{IsJournal, IsWhole}
-use Rattle.af_model.specs.Journals.{journal_of}
+use Rattle.af_model.specs.Journals.{RoundsNoted, journal_of}
 use Rattle.af_party.specs.Parties.{PartyState}
 use Rattle.af_script.specs.Data.{ScriptData}
 use Rattle.af_script.specs.Form.{IsScript}
@@ -21,7 +21,7 @@ use Rattle.af_tally.specs.Tallies.{IsTally}
 -- room for so many frames a cycle and for so many tracks, of which nothing was noted yet
 pub record IsNewRoom (frames tracks : ℕ) (room : Room) : Type 0 where
   pub buffer : length room.buffer.items ≡ frames
-  pub bytes : room.bytes ≡ record { items = []; room = 64 * frames }
+  pub bytes : room.bytes ≡ record { items = []; room = 256 * frames }
   pub tally : IsTally (nothing_shown tracks) room.tally
   pub released : room.released ≡ record { items = []; room = tracks }
 
@@ -32,6 +32,10 @@ pub record IsNewStage (script : ScriptData) (s : Stage) : Type 0 where
   pub together : (links : Links) → AreLinksOf s.shared links → AreTogether links s.parties
   pub room : IsNewRoom script.frames (length script.tracks) s.room
   pub rounds : s.rounds ≡ record { tracks = length script.tracks; rounds = [] }
+
+-- the stage as it would be if these rounds had been noted on it
+abbrev pub noted_as : RoundsNoted → Stage → Stage
+noted_as rounds s = record s { rounds = rounds }
 
 -- what the rounds noted show, with the log
 abbrev pub shown_on : ScriptData → Stage → Shown

@@ -8,5 +8,5 @@ mod staging;
 
 pub use given_files::have_files;
 pub use playing::{play_all, send_out};
-pub use rendering::{Ends, Played, hand_over, render};
+pub use rendering::{Ends, Outcome, Played, hand_over, render};
 pub use staging::{Room, Stage};

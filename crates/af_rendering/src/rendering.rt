@@ -3,13 +3,12 @@ ghost use Rattle.std.specs.Prelude.{◌^◌, All, ◌≡◌, ◌<◌, ◌≤◌,
 ghost use Rattle.af_io.specs.Causes.{HasCause};
 ghost use Rattle.af_io.specs.Files.{Files, SetsFile, LeavesFront};
 ghost use Rattle.af_model.specs.JournalForm.{IsJournal, IsWhole};
-ghost use Rattle.af_model.specs.Journals.{journal_of};
+ghost use Rattle.af_model.specs.Journals.{JournalData, RoundsNoted, journal_of};
 ghost use Rattle.af_script.specs.Data.{ScriptData};
-ghost use Rattle.af_rendering.specs.Hostile.{PokesSpareEntries, PokesSpareOthers};
 ghost use Rattle.af_session.specs.Ends.{command_proxy, ends_from, stream_proxy};
-ghost use Rattle.af_rendering.specs.Rendered.{HandsBack, HaveFiles, LeavesSound, Rendered};
-ghost use Rattle.af_session.specs.Shown.{released_by, shown_by, summary_told};
-ghost use Rattle.af_rendering.specs.Stages.{HasRendered, IsNewStage, IsNoted};
+ghost use Rattle.af_rendering.specs.Rendered.{ComesTo, HaveFiles, LeavesSound, Rendered};
+ghost use Rattle.af_session.specs.Shown.{released_by, summary_told};
+ghost use Rattle.af_rendering.specs.Stages.{HasRendered, IsNewStage, IsNoted, noted_as};
 ghost use Rattle.af_tally.specs.Sound.{pcm_of};
 ghost use Rattle.af_runs.specs.Pcm.{journal_pcm};
 ghost use Rattle.af_tally.specs.Summaries.{Shown, summary_of};
@@ -70,6 +69,13 @@ impl Ends {
     }
 }
 
+/// What a render comes to: its summary and the ends. Its journal stands in contracts alone, and no code makes it.
+#[derive(Drop)]
+pub struct Outcome {
+    pub summary: Summary,
+    pub ends: Ends,
+}
+
 /// What was played: its journal, its summary, and the ends.
 #[derive(Drop)]
 pub struct Played {
@@ -119,6 +125,19 @@ pub fn hand_over(parties: Parties, rounds: Rounds) -> (Journal, Ends)
     )
 }
 
+// The ends of parties. The fast mixer and its log are let go.
+fn ends_of(parties: Parties) -> Ends
+    ensures { result ≡ ends_from parties }
+{
+    let Parties {
+        clients,
+        normal,
+        fast,
+    } = parties;
+    drop(fast);
+    Ends { clients, normal }
+}
+
 // What parties hand back, with the rounds that were noted, and the summary.
 fn hand_back(parties: Parties, rounds: Rounds, summary: Summary) -> Played
     requires whole { IsWhole rounds parties.fast.log }
@@ -136,10 +155,9 @@ fn hand_back(parties: Parties, rounds: Rounds, summary: Summary) -> Played
 }
 
 impl Stage {
-    // All turns of a script by its new parties, into a file that is empty.
+    // All turns of a script by its new parties, into a file that is empty. No round is noted.
     fn play_turns<S: Store>(
         &mut self,
-        alloc: Global,
         script: &Script,
         files: &[Pcm],
         store: &mut S,
@@ -148,7 +166,7 @@ impl Stage {
         requires new { IsNewStage script.now self.old }
         requires files { HaveFiles (record { tracks = script.now.tracks; files = files.now }) }
         ensures some { (n : ℕ) × Rendered script.now files.now (take n script.now.turns) self.new.parties }
-        ensures rendered { OnOk result (HasRendered script.now files.now self.new) }
+        ensures rendered { OnOk result ((rounds : RoundsNoted) × HasRendered script.now files.now (noted_as rounds self.new)) }
         ensures written { S.told store.old → (base : Files) → SetsFile base name.now (Some []) (S.files store.old) → OnOk result (SetsFile base name.now (Some (pcm_of script.now.frames self.new.parties.fast.log)) (S.files store.new)) }
         ensures left { S.told store.old → (base : Files) → SetsFile base name.now (Some []) (S.files store.old) → OnErr result (LeavesFront base name.now (pcm_of script.now.frames self.new.parties.fast.log) (S.files store.new)) }
         ensures tells { S.told store.old → S.told store.new }
@@ -158,13 +176,12 @@ impl Stage {
             shared,
             parties,
             room,
-            rounds,
+            ..
         } = self;
         let links = shared.links();
         let (turns, tracks) = (script.turns(), script.tracks());
         play_all(
             parties,
-            alloc,
             &links,
             turns,
             tracks,
@@ -173,7 +190,6 @@ impl Stage {
             name,
             &mut room.buffer,
             &mut room.bytes,
-            rounds,
             &mut room.tally,
         )
     }
@@ -181,7 +197,6 @@ impl Stage {
     // Makes the file, and plays all turns of a script by its new parties.
     fn play_new<S: Store>(
         &mut self,
-        alloc: Global,
         script: &Script,
         files: &[Pcm],
         store: &mut S,
@@ -189,14 +204,27 @@ impl Stage {
     ) -> Result<(), StoreError>
         requires new { IsNewStage script.now self.old }
         requires files { HaveFiles (record { tracks = script.now.tracks; files = files.now }) }
-        ensures rendered { OnOk result (HasRendered script.now files.now self.new) }
+        ensures rendered { OnOk result ((rounds : RoundsNoted) × HasRendered script.now files.now (noted_as rounds self.new)) }
         ensures written { S.told store.old → OnOk result (SetsFile (S.files store.old) name.now (Some (pcm_of script.now.frames self.new.parties.fast.log)) (S.files store.new)) }
         ensures left { S.told store.old → OnErr result (LeavesSound script.now files.now name.now (S.files store.old) (S.files store.new)) }
         ensures tells { S.told store.old → S.told store.new }
         ensures cause { HasCause (S.faults store.old) (S.faults store.new) result }
     {
         store.create(name)?;
-        self.play_turns(alloc, script, files, store, name)
+        self.play_turns(script, files, store, name)
+    }
+
+    // What a render comes to, of a stage on which all turns were played.
+    fn close(mut self) -> Outcome
+        requires { (script : ScriptData) × (rounds : RoundsNoted) × IsNoted script (noted_as rounds self) }
+        ensures ends { result.ends ≡ ends_from self.parties }
+        ensures summary { (script : ScriptData) (rounds : RoundsNoted) → IsNoted script (noted_as rounds self) → result.summary ≡ summary_told script.frames (journal_of rounds self.parties.fast.log) result.ends }
+    {
+        let summary = sum_up(&self.parties, &self.room.tally, &mut self.room.released);
+        Outcome {
+            summary,
+            ends: ends_of(self.parties),
+        }
     }
 
     /// What is handed back of a stage whose rounds were noted.
@@ -211,29 +239,25 @@ impl Stage {
     }
 }
 
-/// Plays the turns of a script one after the other, each as a round after which all parties meet, and writes the sound to the file of this name. All blocks, logs and mixers are made before the file is; the rounds are noted as they are played.
+/// Plays the turns of a script one after the other, each as a round after which all parties meet, and writes the sound to the file of this name. All blocks, logs and mixers are made before the file is; from then on no memory is taken.
 ///
-/// What was played is a turn run of the script and its files, whose rounds the journal has and of which the summary is, and where the store tells it the file is the sound of the journal. Whatever clients stored in their words, each track on whose blocks nothing was poked is spared: no call of its client was answered Corrupt, and no look of either mixer at its blocks was Shut. After a fault of the store, or want of memory, no file has changed, or the file holds a front of the sound of some first turns.
+/// What was played is a turn run of the script and its files. Its journal is nowhere written down: that there is one, whose rounds are those of the run, of which the summary is, and whose sound is the file where the store tells it, is what `played` says. Whatever clients stored in their words, each track on whose blocks nothing was poked is spared: no call of its client was answered Corrupt, and no look of either mixer at its blocks was Shut. After a fault of the store, or want of memory, no file has changed, or the file holds a front of the sound of some first turns.
 pub fn render<S: Store>(
     alloc: Global,
     script: &Script,
     files: &[Pcm],
     store: &mut S,
     name: &str,
-) -> Result<Played, StoreError>
+) -> Result<Outcome, StoreError>
     requires { HaveFiles (record { tracks = script.now.tracks; files = files.now }) }
-    ensures played { IfOk result (λ p. HandsBack script.now files.now p.journal p.ends) }
-    ensures summary { IfOk result (λ p. p.summary ≡ summary_told script.now.frames p.journal p.ends) }
-    ensures spared { IfOk result (λ p. PokesSpareOthers (shown_by script.now.frames p.journal p.ends.normal.mutator.past.events)) }
-    ensures entries { IfOk result (λ p. PokesSpareEntries (shown_by script.now.frames p.journal p.ends.normal.mutator.past.events)) }
-    ensures written { S.told store.old → IfOk result (λ p. SetsFile (S.files store.old) name.now (Some (journal_pcm script.now.frames p.journal)) (S.files store.new)) }
+    ensures played { IfOk result (λ o. (journal : JournalData) × ComesTo script.now files.now journal o.summary o.ends × (S.told store.old → SetsFile (S.files store.old) name.now (Some (journal_pcm script.now.frames journal)) (S.files store.new))) }
     ensures left { S.told store.old → OnErr result (LeavesSound script.now files.now name.now (S.files store.old) (S.files store.new)) }
     ensures tells { S.told store.old → S.told store.new }
     ensures cause { HasCause (S.faults store.old) (S.faults store.new) result }
 {
     let mut stage = Stage::make(alloc, script)?;
-    match stage.play_new(alloc, script, files, store, name) {
-        Ok(()) => Ok(stage.finish()),
+    match stage.play_new(script, files, store, name) {
+        Ok(()) => Ok(stage.close()),
         Err(error) => {
             drop(stage);
             Err(error)

@@ -11,7 +11,7 @@ use af_session::{Parties, make};
 use af_tally::Tally;
 use std::alloc::Global;
 
-/// Room for the frames of a cycle and for the bytes of the most cycles of a round, the tally of the tracks, and room for a count of each.
+/// Room for the frames of a cycle and for the bytes of four rounds of the most cycles, the tally of the tracks, and room for a count of each.
 #[derive(Drop)]
 pub struct Room {
     pub buffer: Vec<Frame>,
@@ -20,7 +20,7 @@ pub struct Room {
     pub released: Items<u64>,
 }
 
-/// The parties of a session with what they share, the room that their rounds need, and the rounds that were noted.
+/// The parties of a session with what they share, the room that their rounds need, and the rounds that were noted: those of a play, as a render notes none.
 #[derive(Drop)]
 pub struct Stage {
     pub shared: Shared,
@@ -47,7 +47,7 @@ impl Room {
         ensures { IfOk result (IsNewRoom frames tracks) }
     {
         let buffer = silence(alloc, frames)?;
-        let bytes = Items::with_room(alloc, 64 * frames)?;
+        let bytes = Items::with_room(alloc, 256 * frames)?;
         let tally = Tally::new(alloc, tracks)?;
         let released = Items::with_room(alloc, tracks)?;
         Ok(Room {

@@ -10,6 +10,5 @@ pub mod Ready
 pub mod ClientRounds
 pub mod NormalRounds
 pub mod MapMore
-pub mod NotedCalls
 pub mod Following
 pub mod FollowingRounds

@@ -1,17 +1,15 @@
-//! What a journal notes of a round.
-ghost use Rattle.std.specs.Prelude.{◌≡◌, ◌+◌, ◌<◌, ◌≤◌, ◌^◌, ◌++◌, ◌∷◌, List, [], length, map, replicate, slice_set, All, IfOk};
-ghost use Rattle.af_base.specs.declared.event.ClientCall.{ClientCall as CallSeen};
+//! What a journal notes of a round: a copy of a turn, and the form of what is noted without a copy.
+ghost use Rattle.std.specs.Prelude.{◌≡◌, length, map, All, IfOk};
 ghost use Rattle.af_base.specs.Sample.{IsFrame};
 ghost use Rattle.af_base.specs.Turn.{take_seen, track_seen, turn_of};
-ghost use Rattle.af_model.specs.Journals.{cycles_of};
 ghost use Rattle.af_script.specs.Form.{IsTurn};
-ghost use Rattle.af_session.specs.Noted.{HasFrames, NotesFrames};
+ghost use Rattle.af_session.specs.Noted.{HasFrames, NotesFrames, NotesNumbers};
 ghost use Rattle.af_session.specs.Rounds.{round_told};
 ghost use Rattle.af_session.specs.Together.{SessionState};
 
+use crate::numbers::{know_calls, know_turn};
 use crate::parties::Parties;
-use af_base::{ClientCall, Frame, Items, Memory, NormalTake, TrackTurn, TurnEntry};
-use af_model::Rounds;
+use af_base::{Frame, Items, Memory, NormalTake, TrackTurn, TurnEntry};
 use af_script::TurnSpec;
 use std::alloc::Global;
 
@@ -115,64 +113,39 @@ pub fn copied_turn(alloc: Global, entry: &TurnEntry) -> Result<TurnEntry, Memory
     })
 }
 
-// An empty list of calls for each client.
-fn no_calls(alloc: Global, clients: usize) -> Result<Vec<Vec<ClientCall>>, Memory>
-    ensures { IfOk result (λ v. map (λ c. c.items) v.items ≡ replicate clients []) }
+// The frames of some takes.
+fn know_takes(takes: &[NormalTake])
+    ensures { All (λ t. All IsFrame t.frames.items) takes.now }
 {
-    let mut calls = Vec::with_capacity(alloc, clients)?;
-    for _client in 0..clients {
-        calls.push_reserved(Vec::new(alloc));
+    for i in 0..takes.len() {
+        know_frames(takes[i].frames.as_slice());
     }
-    Ok(calls)
 }
 
-/// The calls of one client among those of all, of which no other made one. Memory is its only refusal.
-pub fn calls_of_one(
-    alloc: Global,
-    clients: usize,
-    track: usize,
-    made: &[ClientCall],
-) -> Result<Vec<Vec<ClientCall>>, Memory>
-    requires { track < clients }
-    ensures { IfOk result (λ v. map (λ c. c.items) v.items ≡ slice_set (replicate clients []) track made.now) }
+// The frames that a turn took.
+fn know_taken(entry: &TurnEntry)
+    ensures { HasFrames (turn_of entry.now) }
 {
-    let mut calls = no_calls(alloc, clients)?;
-    calls[track].extend_from_slice(made)?;
-    Ok(calls)
+    know_takes(entry.mixes.as_slice());
 }
 
 impl Parties {
-    /// Notes a round that is over: that of this turn of the script, before which the normal mixer had ended or not, and the fast mixer's log had so many entries. Memory is its only refusal.
-    pub fn note_round(
-        &self,
-        alloc: Global,
-        turn: TurnSpec,
-        had_ended: bool,
-        entries: usize,
-        rounds: &mut Rounds,
-    ) -> Result<(), Memory>
-        requires turn { IsTurn (length self.now.clients) turn }
-        requires more { entries ≤ length self.now.fast.log.entries }
-        requires few { cycles_of rounds.old.rounds + length self.now.fast.log.entries < 2 ^ 62 }
-        ensures noted { (s : SessionState) → had_ended ≡ s.normal.ended → entries ≡ length s.fast.log.entries → length s.clients ≡ length self.now.clients → IfOk result (λ _. rounds.new ≡ record rounds.old { rounds = rounds.old.rounds ++ round_told turn s self.now ∷ [] }) }
-        ensures frames { (s : SessionState) → had_ended ≡ s.normal.ended → IfOk result (λ _. NotesFrames (round_told turn s self.now)) }
+    /// What a journal notes of a round that is over, that of this turn of the script, has its form: the calls of the client, or the turn of the normal mixer, are read where they stand to know it. Nothing is copied, and no memory is taken.
+    pub fn know_round(&self, turn: TurnSpec)
+        requires { IsTurn (length self.now.clients) turn }
+        ensures frames { (s : SessionState) → NotesFrames (round_told turn s self.now) }
+        ensures numbers { (s : SessionState) → NotesNumbers (round_told turn s self.now) }
     {
-        let clients = self.clients.len();
         match turn {
             TurnSpec::Client { track } => {
-                let made = self.clients[track as usize].calls.as_slice();
-                let calls = calls_of_one(alloc, clients, track as usize, made)?;
-                rounds.push(calls, None, 0)
+                know_calls(self.clients[track as usize].calls.as_slice());
             }
-            TurnSpec::Normal if had_ended => rounds.push(no_calls(alloc, clients)?, None, 0),
             TurnSpec::Normal => {
-                let entry = copied_turn(alloc, self.normal.last())?;
-                rounds.push(no_calls(alloc, clients)?, Some(entry), 0)
+                let entry = self.normal.last();
+                know_taken(entry);
+                know_turn(entry);
             }
-            TurnSpec::Fast { .. } => {
-                let cycles = self.fast.log().len() - entries;
-                rounds.push(no_calls(alloc, clients)?, None, cycles)
-            }
+            TurnSpec::Fast { .. } => {}
         }
     }
 }

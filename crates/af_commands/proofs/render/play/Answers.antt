@@ -18,13 +18,14 @@ returns-clause-made g c = λ told.
     let here : Loaded = record { script = c.args.loaded.now.script; files = c.deref.result.now } in
     let same : here ≡ loaded_view c.args.loaded.now = λ k. record { script = c.args.loaded.now.script; files = c.deref.ensures.value k } in
     subst (λ (l : Loaded). Makes c.tell-told.result (Ok (session_job c.args.target.now l)) old new) same
-    (Makes-rendered here c.is_accepted.ensures c.what_follows_of_turn_runs.ensures c.args.target.now old new c.render-played.result c.tell-told.result p.played p.summary (p.written told) (p.left told) c.tell-told.ensures)
+    (Makes-rendered here c.is_accepted.ensures c.what_follows_of_turn_runs.ensures c.args.target.now (g.S.Store.told c.args.store.now) old new c.render-played.result c.tell-told.result told p.played (p.left told) c.tell-told.ensures)
 
 pub returns-clause-line : goal.returns-clause-line
 returns-clause-line g c =
-    let p = c.render-played.ensures in
+    let old = g.S.Store.files c.args.store.now in
+    let new = g.S.Store.files c.render-played.new.store in
     let here : Loaded = record { script = c.args.loaded.now.script; files = c.deref.result.now } in
-    some_line_told here c.is_accepted.ensures c.what_follows_of_turn_runs.ensures c.render-played.result c.tell-told.result p.played p.summary c.tell-told.ensures
+    some_line_told here c.is_accepted.ensures c.what_follows_of_turn_runs.ensures c.args.target.now (g.S.Store.told c.args.store.now) old new c.render-played.result c.tell-told.result c.render-played.ensures.played c.tell-told.ensures
 
 pub returns-clause-cause : goal.returns-clause-cause
 returns-clause-cause g c =

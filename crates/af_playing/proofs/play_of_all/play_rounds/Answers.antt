@@ -27,7 +27,7 @@ play_to_end-requires-clause-buffer g c = λ κs lives.
 pub play_to_end-requires-clause-room : goal.play_to_end-requires-clause-room
 play_to_end-requires-clause-room g c = λ κs lives.
     let s = c.args.stage.now in
-    let bytes : s.room.bytes.room ≡ 64 * c.args.script.now.frames = ap (λ (b : Roomy ℕ). b.room) c.requires.new.room.bytes in
+    let bytes : s.room.bytes.room ≡ 256 * c.args.script.now.frames = ap (λ (b : Roomy ℕ). b.room) c.requires.new.room.bytes in
     let same = frames_first c.args.script.now s.shared s.parties c.requires.new.new c.args.files.now in
     omega (arith, same, bytes)
 

@@ -1,4 +1,4 @@
-use Rattle.std.proofs.Common.{◌≡◌, ◌*◌, ◌≤◌, ℕ, List, [], Some, OnOk, OnErr, length, take, sym, ap, subst, arith}
+use Rattle.std.proofs.Common.{◌≡◌, ◌*◌, ◌≤◌, ℕ, List, Some, OnOk, OnErr, length, take, sym, ap, subst, arith}
 use Rattle.std.specs.Prelude.{All}
 use Rattle.af_base.specs.Roomy.{Roomy}
 use Rattle.af_io.specs.Files.{SetsFile, LeavesFront}
@@ -7,7 +7,7 @@ use Rattle.af_script.specs.Form.{IsScript, IsTurn}
 use Rattle.af_script.specs.declared.op.TurnSpec.{TurnSpec}
 use Rattle.af_script.specs.declared.track.TrackSpec.{TrackSpec}
 use Rattle.af_rendering.specs.Rendered.{Runs}
-use Rattle.af_session.specs.Rounds.{Given, IsReady}
+use Rattle.af_session.specs.Rounds.{IsReady}
 use Rattle.af_tally.specs.Sound.{pcm_of}
 use Rattle.af_tally.specs.Summaries.{nothing_shown}
 use Rattle.af_tally.specs.Tallies.{IsTally}
@@ -15,7 +15,7 @@ use Rattle.af_session.specs.Together.{SessionState}
 use Rattle.af_rendering.proofs.FirstRound.{empty_first, frames_first, ready_first, rendered}
 use Rattle.af_rendering.proofs.Spared.{spares_first}
 use Rattle.af_rendering.proofs.SparedEntries.{entries_first}
-use Rattle.af_rendering.proofs.StagesRun.{has_rendered, in_frames, noted_on, silent_so_far}
+use Rattle.af_rendering.proofs.StagesRun.{has_rendered, in_frames, silent_so_far}
 use Rattle.af_rendering.proofs.staging.Stage.play_turns.Goals as goal
 
 pub play_all-requires-clause-turns : goal.play_all-requires-clause-turns
@@ -38,7 +38,7 @@ play_all-requires-clause-buffer g c =
 pub play_all-requires-clause-room : goal.play_all-requires-clause-room
 play_all-requires-clause-room g c =
     let s = c.args.self.now in
-    let bytes : s.room.bytes.room ≡ 64 * c.args.script.now.frames = ap (λ (b : Roomy ℕ). b.room) c.requires.new.room.bytes in
+    let bytes : s.room.bytes.room ≡ 256 * c.args.script.now.frames = ap (λ (b : Roomy ℕ). b.room) c.requires.new.room.bytes in
     let same = frames_first c.args.script.now s.shared s.parties c.requires.new.new c.args.files.now in
     omega (arith, same, bytes)
 
@@ -49,9 +49,8 @@ play_all-requires-clause-ready g c =
     subst (λ (x : List TrackSpec). IsReady links (record { tracks = x; files = c.args.files.now }) 0 s.parties) (sym c.tracks-tracks.ensures.value)
     (ready_first c.args.script.now s.shared s.parties c.requires.new.new c.args.files.now links c.requires.files (c.requires.new.together links c.links-links.ensures))
 
-pub play_all-requires-clause-rounds : goal.play_all-requires-clause-rounds
-play_all-requires-clause-rounds g c =
-    subst (λ (ts : List TrackSpec). c.args.self.now.rounds ≡ record { tracks = length ts; rounds = [] }) (sym c.tracks-tracks.ensures.value) c.requires.new.rounds
+pub play_all-requires-clause-none : goal.play_all-requires-clause-none
+play_all-requires-clause-none g c = ap (λ (b : Roomy ℕ). b.items) c.requires.new.room.bytes
 
 pub play_all-requires-clause-log : goal.play_all-requires-clause-log
 play_all-requires-clause-log g c = let s = c.args.self.now in empty_first c.args.script.now s.shared s.parties c.requires.new.new c.args.files.now
@@ -76,14 +75,10 @@ returns-clause-rendered g c =
     let s = c.args.self.now in
     let was : SessionState = s.parties in
     let script = c.args.script.now in
-    let given : Given = record { tracks = c.tracks-tracks.result.now; files = c.args.files.now } in
-    let links = c.links-links.result in
     let new = c.requires.new.new in
     let done = c.play_all.ensures in
-    let turns : List TurnSpec = c.turns-turns.result.now in
-    has_rendered script s.shared was new c.args.files.now links given.tracks c.tracks-tracks.ensures.value _ c.requires.new.room.released c.play_all.result turns c.turns-turns.ensures.value
-    (noted_on c.play_all.result links given (length turns) was _ done.ready done.tracks done.whole done.form done.tally done.frames (done.spares (spares_first script s.shared was new)))
-    done.all (done.entries (entries_first script s.shared was new))
+    has_rendered script s.shared was new c.args.files.now c.links-links.result c.tracks-tracks.result.now c.tracks-tracks.ensures.value (record { shared = _; parties = _; room = _; rounds = c.args.self.now.rounds }) c.requires.new.room.released c.turns-turns.result.now c.turns-turns.ensures.value c.play_all.result
+    (spares_first script s.shared was new) done.ready done.all done.frames (done.entries (entries_first script s.shared was new))
 
 pub returns-clause-written : goal.returns-clause-written
 returns-clause-written g c = λ told base set.

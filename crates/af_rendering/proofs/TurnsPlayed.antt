@@ -1,0 +1,78 @@
+-- The turns that were played so far, and what all of them come to. Their rounds are told by the parties before and after each, and stand nowhere else.
+use Rattle.std.proofs.Common.{◌≡◌, ℕ, ◌+◌, ◌<◌, ◌^◌, All, List, [], ◌∷◌, ◌++◌, length, take, get_or, refl, arith}
+use Rattle.std.proofs.lemmas.List.Elements.{All-append, All-cons, All-nil}
+use Rattle.af_base.specs.declared.state.FastState.{FastState}
+use Rattle.af_base.specs.Sample.{IsFrame}
+use Rattle.af_link.specs.declared.links.Links.{Links}
+use Rattle.af_model.specs.Journals.{RoundNoted, RoundsNoted}
+use Rattle.af_model.specs.Numbers.{FitsEntry}
+use Rattle.af_model.proofs.NumbersFit.{ranges_dealt}
+use Rattle.af_script.specs.declared.op.TurnSpec.{TurnSpec}
+use Rattle.af_rendering.specs.Hostile.{SparesSoFar}
+use Rattle.af_rendering.specs.Rendered.{PlaysTurns, Runs}
+use Rattle.af_session.specs.Noted.{NotesFrames, NotesNumbers}
+use Rattle.af_session.specs.Rounds.{Given, IsReady, IsRound, round_told}
+use Rattle.af_session.specs.Shown.{FollowsRound, shown_at}
+use Rattle.af_session.specs.Together.{SessionState}
+use Rattle.af_tally.specs.Sound.{pcm_of}
+use Rattle.af_tally.specs.Summaries.{nothing_shown}
+use Rattle.af_tally.specs.Tallies.{IsTally, Tallied}
+use Rattle.af_rendering.proofs.JournalSound.{journal_form, journal_whole}
+use Rattle.af_rendering.proofs.RoundForms.{AreNoted, noted_none, noted_round}
+use Rattle.af_rendering.proofs.RunMore.{run_more, run_none}
+use Rattle.af_rendering.proofs.ShownWhole.{tally_first}
+use Rattle.af_rendering.proofs.SparedRounds.{spares_round}
+
+-- the rounds of so many tracks
+abbrev pub noted_of : Given → List RoundNoted → RoundsNoted
+noted_of g rounds = record { tracks = length g.tracks; rounds = rounds }
+
+-- So far these turns were played from s to t, as these rounds
+pub record SoFar (g : Given) (turns : List TurnSpec) (s : SessionState) (rounds : List RoundNoted) (t : SessionState) (tally : Tallied) : Type 0 where
+  pub run : Runs g turns s rounds t
+  pub tally_is : (first : FastState) → IsTally (shown_at first (length g.tracks) rounds t.fast) tally
+  pub noted : AreNoted (length g.tracks) (noted_of g rounds) t.fast.log
+  pub numbers : All NotesNumbers rounds
+  pub spares : SparesSoFar [] s → SparesSoFar rounds t
+
+-- none were
+pub so_far_none : (g : Given) (s : SessionState) (tally : Tallied) → s.fast.log.entries ≡ [] → s.fast.log.frames ≡ [] → IsTally (nothing_shown (length g.tracks)) tally → SoFar g [] s [] s tally
+so_far_none g s tally entries frames is = record {
+  run = run_none g s;
+  tally_is = tally_first (length g.tracks) s.fast tally entries is;
+  noted = noted_none (length g.tracks) s.fast.log entries frames;
+  numbers = All-nil NotesNumbers;
+  spares = (λ new. new);
+}
+
+-- one more was, whatever stands for a turn that isn't there
+pub so_far_more : (links : Links) (d : TurnSpec) (g : Given) (turns : List TurnSpec) (i : ℕ) (s m t : SessionState) (rounds : List RoundNoted) (before after : Tallied) → i < length turns → IsReady links g i m → IsReady links g (i + 1) t
+    → SoFar g (take i turns) s rounds m before → (added : List ℕ) → IsRound g (get_or turns i d) m (round_told (get_or turns i d) m t) added t → pcm_of s.fast.frames m.fast.log ++ added ≡ pcm_of s.fast.frames t.fast.log
+    → NotesFrames (round_told (get_or turns i d) m t) → NotesNumbers (round_told (get_or turns i d) m t) → FollowsRound (round_told (get_or turns i d) m t) m.fast t.fast before after
+    → SoFar g (take (i + 1) turns) s (rounds ++ round_told (get_or turns i d) m t ∷ []) t after
+so_far_more links d g turns i s m t rounds before after lt ready next far added round grown frames numbers follows =
+    let turn = get_or turns i d in
+    let r = round_told turn m t in
+    record {
+      run = run_more d g turns i s m t rounds lt far.run r added round grown;
+      tally_is = (λ first. follows first (length g.tracks) rounds (far.tally_is first));
+      noted = noted_round links g i m ready turn r added t round frames (noted_of g rounds) far.noted;
+      numbers = All-append NotesNumbers rounds (r ∷ []) far.numbers (All-cons NotesNumbers r [] numbers (All-nil NotesNumbers));
+      spares = (λ new. spares_round links g i m ready t next added turn r rounds round (far.spares new));
+    }
+
+-- a session has few tracks
+few_tracks : (links : Links) (g : Given) (n : ℕ) (t : SessionState) → IsReady links g n t → length g.tracks < 2 ^ 32
+few_tracks links g n t ready = let few = ready.together.normal.tied.sizes.few in omega (arith, few, ready.given.0, ready.together.count)
+
+-- all were, and the frames and the numbers of the log have their form
+pub all_played : (links : Links) (g : Given) (n : ℕ) (turns : List TurnSpec) (s : SessionState) (rounds : List RoundNoted) (t : SessionState) (tally : Tallied) → IsReady links g n t → SoFar g turns s rounds t tally
+    → All IsFrame t.fast.log.frames → All FitsEntry t.fast.log.entries → PlaysTurns g turns s (noted_of g rounds) t tally
+all_played links g n turns s rounds t tally ready far samples entries = record {
+  runs = far.run;
+  tracks = refl;
+  whole = journal_whole (length g.tracks) (noted_of g rounds) t.fast.log far.noted samples;
+  form = journal_form (length g.tracks) (noted_of g rounds) t.fast.log far.noted samples (ranges_dealt (noted_of g rounds) t.fast.log (few_tracks links g n t ready) far.numbers entries);
+  tally_is = far.tally_is;
+  spares = far.spares;
+}

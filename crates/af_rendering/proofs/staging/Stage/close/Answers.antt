@@ -1,0 +1,27 @@
+use Rattle.std.proofs.Common.{◌≡◌, ℕ, length, ap, refl, sym, ◌∙◌, arith}
+use Rattle.af_base.specs.Roomy.{Roomy}
+use Rattle.af_model.specs.Journals.{journal_of}
+use Rattle.af_session.specs.Ends.{EndsState}
+use Rattle.af_rendering.proofs.ShownWhole.{is_told, tally_tracks}
+use Rattle.af_rendering.proofs.staging.Stage.close.Goals as goal
+
+pub sum_up-summary-requires-clause-room : goal.sum_up-summary-requires-clause-room
+sum_up-summary-requires-clause-room c =
+    let noted = c.requires.2 in
+    let room : c.args.self.room.released.room ≡ length c.requires.0.tracks = ap (λ (b : Roomy ℕ). b.room) noted.room in
+    let count = noted.count in
+    omega (arith, room, count)
+
+pub sum_up-summary-requires-clause-count : goal.sum_up-summary-requires-clause-count
+sum_up-summary-requires-clause-count c =
+    let script = c.requires.0 in
+    let noted = c.requires.2 in
+    let s = c.args.self in
+    tally_tracks script.frames c.requires.1 s.parties.fast.log s.parties.normal.mutator.past.events s.room.tally noted.tally ∙ noted.tracks ∙ sym noted.count
+
+pub returns-clause-summary : goal.returns-clause-summary
+returns-clause-summary c = λ script rounds noted.
+    let s = c.args.self in
+    is_told script.frames rounds s.parties.fast.log s.parties.normal.mutator.past.events s.parties.clients s.room.tally c.sum_up-summary.result (journal_of rounds s.parties.fast.log) c.ends_of.result
+    noted.whole refl (ap (λ (e : EndsState). e.clients) c.ends_of.ensures) (ap (λ (e : EndsState). e.normal.mutator.past.events) c.ends_of.ensures) noted.tally
+    c.sum_up-summary.ensures

@@ -1,0 +1,12 @@
+use Rattle.std.proofs.Common.{subst, arith}
+use Rattle.std.specs.Prelude.{All}
+use Rattle.std.proofs.lemmas.List.{take_all}
+use Rattle.std.proofs.lemmas.List.Elements.{All-more}
+use Rattle.af_model.specs.Numbers.{FitsLook}
+use Rattle.af_session.proofs.numbers.know_looks.Goals as goal
+
+pub loop-i-preserved : goal.loop-i-preserved
+loop-i-preserved c = All-more FitsLook c.args.looks.now c.loop-i.i _ (omega (arith, c.loop-i-test.true, c.loop-i.auto.i-end)) c.loop-i.invariant c.know_look.ensures
+
+pub returns : goal.returns
+returns c = subst (All FitsLook) (take_all c.loop-i.i c.args.looks.now (omega (arith, c.loop-i-test.false, c.loop-i.auto.i-end))) c.loop-i.invariant

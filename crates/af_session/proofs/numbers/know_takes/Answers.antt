@@ -1,0 +1,14 @@
+use Rattle.std.proofs.Common.{subst, arith}
+use Rattle.std.specs.Prelude.{All}
+use Rattle.std.proofs.lemmas.List.{take_all}
+use Rattle.std.proofs.lemmas.List.Elements.{All-more}
+use Rattle.af_base.specs.declared.turn.NormalTake.{NormalTake}
+use Rattle.af_base.specs.Turn.{take_seen}
+use Rattle.af_model.specs.Numbers.{FitsTake}
+use Rattle.af_session.proofs.numbers.know_takes.Goals as goal
+
+pub loop-i-preserved : goal.loop-i-preserved
+loop-i-preserved c = All-more (λ (t : NormalTake). FitsTake (take_seen t)) c.args.takes.now c.loop-i.i c.index-takes-i.result (omega (arith, c.loop-i-test.true, c.loop-i.auto.i-end)) c.loop-i.invariant (subst (λ (t : NormalTake). FitsTake (take_seen t)) c.index-takes-i.is c.know_take.ensures)
+
+pub returns : goal.returns
+returns c = subst (All (λ (t : NormalTake). FitsTake (take_seen t))) (take_all c.loop-i.i c.args.takes.now (omega (arith, c.loop-i-test.false, c.loop-i.auto.i-end))) c.loop-i.invariant
