@@ -1,146 +1,47 @@
 //! A script's rounds from first to last, in which each party is on its own.
-ghost use Rattle.std.specs.Prelude.{◌≡◌, ◌≤◌, ◌++◌, ℕ, List, [], Option, Some, true, false, Err, IfErr, IfOk, OnErr, OnOk};
-ghost use Rattle.af_io.specs.Causes.{HasCause};
-ghost use Rattle.af_io.specs.Files.{Files, LeavesFront, SetsFile};
-ghost use Rattle.af_model.specs.Journals.{RoundNoted};
-ghost use Rattle.af_nblog.specs.LogText.{log_text};
-ghost use Rattle.af_nblog.specs.declared.entries.Note.{Note as SomeNote};
-ghost use Rattle.af_playing.specs.declared.answering.PlayFault.TheVariants.{Memory as MemoryFault};
-ghost use Rattle.af_rendering.specs.Hostile.{PokesSpareOthers};
-ghost use Rattle.af_side_by_side.specs.Logging.{BeginsLog, HasLogOf, IsLogOf, LogsPlay, TellsLog};
+ghost use Rattle.std.specs.Prelude.{◌≡◌, ◌≤◌, ℕ, Option, Some, Err, IfErr, IfOk, OnErr, OnOk};
 ghost use Rattle.af_enough.specs.Enough.{HasEnoughCycles};
-ghost use Rattle.af_audit.specs.Drained.{EachDrainedTrackReachedItsStop};
-ghost use Rattle.af_audit.specs.Emptied.{PipeIsEmptied};
-ghost use Rattle.af_audit.specs.Fates.{EachFrameHasOneFate};
-ghost use Rattle.af_audit.specs.Settled.{SettledMeansKept};
-ghost use Rattle.af_audit.specs.Spared.{EachLawfulBlockIsSpared};
-ghost use Rattle.af_runs.specs.LegalRuns.{IsCutRun, IsLegalRun, run_of};
-ghost use Rattle.af_playing.specs.PlayedRuns.{AtFault, AtLimit, HandedBack, HandsBackRun, HasStoreCause, LeavesRun, Plays};
-ghost use Rattle.af_playing.specs.PlayKept.{KeepsFiles, KeepsPlay};
-ghost use Rattle.af_rendering.specs.Rendered.{HaveFiles};
-ghost use Rattle.af_session.specs.Shown.{shown_by, summary_told};
-ghost use Rattle.af_told_law.specs.KeptEnds.{KeepsLists};
-ghost use Rattle.af_rendering.specs.Stages.{IsNewStage};
-ghost use Rattle.af_playing.specs.PlayedStages.{HasPlayed};
-ghost use Rattle.af_tally.specs.Sound.{pcm_of};
-ghost use Rattle.af_runs.specs.Pcm.{journal_pcm};
+ghost use Rattle.af_playing.specs.declared.answering.PlayFault.TheVariants.{Memory as MemoryFault};
 ghost use Rattle.af_playing.specs.InTime.{EndsInTime};
-ghost use Rattle.af_playing.specs.PlayedAlone.{IsToldAlone};
-ghost use Rattle.af_playing.specs.Spelled.{CallsStandOnce, NoneOlder, PushesStandOnce, ReleasedAsTold};
+ghost use Rattle.af_playing.specs.PlayedRuns.{AtLimit, HandedBack, HasStoreCause};
+ghost use Rattle.af_playing.specs.PlayedStages.{given_by};
+ghost use Rattle.af_playing.specs.PlayKept.{AppendsLogOfPlay, IsCutPlay, IsDonePlay, KeepsFiles, KeepsPlay, TellsItsRun, TellsLogOf};
+ghost use Rattle.af_rendering.specs.Rendered.{HaveFiles};
+ghost use Rattle.af_side_by_side.specs.Logging.{BeginsLog, HasLogOf};
 
 use crate::answering::{PlayFault, answer};
+use crate::piece::Piece;
 use crate::playing_of_all::play_to_end;
 use af_audit::drained_tracks_have_reached_their_stop;
 use af_base::Memory;
-use af_io::{Gate, Pcm, Store, StoreError};
+use af_io::{Gate, Store};
 use af_rendering::{Played, Stage};
-use af_script::Script;
 use af_side_by_side::Logging;
 use std::alloc::Global;
 use std::mem::drop;
 use std::thread::Threads;
 
-// All rounds of a script's new parties, into a file that is empty.
-fn play_rounds<R: Threads + Sync, S: Store, G: Gate>(
-    stage: &mut Stage,
-    rt: &R,
-    alloc: Global,
-    script: &Script,
-    files: &[Pcm],
-    store: &mut S,
-    name: &str,
-    logging: &mut Logging,
-    gate: &G,
-) -> Result<(), StoreError>
-    requires new { IsNewStage script.now stage.old }
-    requires files { HaveFiles (record { tracks = script.now.tracks; files = files.now }) }
-    requires log { (kept : Option ℕ) × LogsPlay kept stage.old.parties.fast [] logging.old }
-    ensures some { (played : List RoundNoted) × Plays script.now files.now played stage.new.parties }
-    ensures played { OnOk result (HasPlayed script.now files.now stage.new) }
-    ensures written { S.told store.old → (base : Files) → SetsFile base name.now (Some []) (S.files store.old) → OnOk result (SetsFile base name.now (Some (pcm_of script.now.frames stage.new.parties.fast.log)) (S.files store.new)) }
-    ensures left { S.told store.old → (base : Files) → SetsFile base name.now (Some []) (S.files store.old) → OnErr result (LeavesFront base name.now (pcm_of script.now.frames stage.new.parties.fast.log) (S.files store.new)) }
-    ensures tells { S.told store.old → S.told store.new }
-    ensures cause { HasCause (S.faults store.old) (S.faults store.new) result }
-    ensures log { (kept : Option ℕ) → LogsPlay kept stage.old.parties.fast [] logging.old → OnOk result (LogsPlay kept stage.new.parties.fast stage.new.rounds.rounds logging.new) }
-{
-    let Stage {
-        shared,
-        parties,
-        room,
-        rounds,
-    } = stage;
-    let links = shared.links();
-    let (cycles, tracks) = (script.cycles(), script.tracks());
-    play_to_end(
-        parties,
-        rt,
-        alloc,
-        &links,
-        cycles,
-        tracks,
-        files,
-        store,
-        name,
-        &mut room.buffer,
-        &mut room.bytes,
-        rounds,
-        &mut room.tally,
-        logging,
-        gate,
-    )
-}
-
-// Makes the file, and plays all rounds of a script's new parties.
-fn play_made<R: Threads + Sync, S: Store, G: Gate>(
-    stage: &mut Stage,
-    rt: &R,
-    alloc: Global,
-    script: &Script,
-    files: &[Pcm],
-    store: &mut S,
-    name: &str,
-    logging: &mut Logging,
-    gate: &G,
-) -> Result<(), StoreError>
-    requires new { IsNewStage script.now stage.old }
-    requires files { HaveFiles (record { tracks = script.now.tracks; files = files.now }) }
-    requires log { (kept : Option ℕ) × LogsPlay kept stage.old.parties.fast [] logging.old }
-    ensures played { OnOk result (HasPlayed script.now files.now stage.new) }
-    ensures written { S.told store.old → OnOk result (SetsFile (S.files store.old) name.now (Some (pcm_of script.now.frames stage.new.parties.fast.log)) (S.files store.new)) }
-    ensures left { S.told store.old → OnErr result (LeavesRun script.now files.now name.now (S.files store.old) (S.files store.new)) }
-    ensures tells { S.told store.old → S.told store.new }
-    ensures cause { HasCause (S.faults store.old) (S.faults store.new) result }
-    ensures log { (kept : Option ℕ) → LogsPlay kept stage.old.parties.fast [] logging.old → OnOk result (LogsPlay kept stage.new.parties.fast stage.new.rounds.rounds logging.new) }
-{
-    store.create(name)?;
-    play_rounds(stage, rt, alloc, script, files, store, name, logging, gate)
-}
-
 // Plays a script in rounds, with a log or without.
 fn play_with<R: Threads + Sync, S: Store, G: Gate>(
     rt: &R,
     alloc: Global,
-    script: &Script,
-    files: &[Pcm],
+    piece: &Piece<'_>,
     store: &mut S,
-    name: &str,
     logging: &mut Logging,
     gate: &G,
 ) -> Result<Played, PlayFault>
-    requires files { HaveFiles (record { tracks = script.now.tracks; files = files.now }) }
-    requires log { (kept : Option ℕ) × BeginsLog kept script.now.cycles logging.old }
-    ensures keeps { KeepsPlay script.now files.now result }
-    ensures files { S.told store.old → KeepsFiles script.now files.now name.now (S.files store.old) (S.files store.new) result }
+    requires files { HaveFiles (given_by piece.now) }
+    requires log { (kept : Option ℕ) × BeginsLog kept piece.now.script.now.cycles logging.old }
+    ensures keeps { KeepsPlay piece.now.script.now piece.now.files.now result }
+    ensures files { S.told store.old → KeepsFiles piece.now.script.now piece.now.files.now piece.now.name.now (S.files store.old) (S.files store.new) result }
     ensures tells { S.told store.old → S.told store.new }
     ensures cause { HasStoreCause (S.faults store.old) (S.faults store.new) result }
-    ensures log { (kept : Option ℕ) → BeginsLog kept script.now.cycles logging.old → IfOk result (λ p. TellsLog kept script.now.frames p.journal logging.new) }
+    ensures log { (kept : Option ℕ) → BeginsLog kept piece.now.script.now.cycles logging.old → TellsLogOf kept piece.now.script.now.frames result logging.new }
 {
     drained_tracks_have_reached_their_stop();
-    let mut stage = Stage::make(alloc, script)?;
-    match play_made(
-        &mut stage, rt, alloc, script, files, store, name, logging, gate,
-    ) {
-        Ok(()) => answer(stage, alloc, script, files),
+    let mut stage = Stage::make(alloc, piece.script)?;
+    match play_to_end(&mut stage, rt, alloc, piece, store, logging, gate) {
+        Ok(()) => answer(stage, alloc, piece.script, piece.files),
         Err(error) => {
             drop(stage);
             Err(PlayFault::from(error))
@@ -156,40 +57,22 @@ fn play_with<R: Threads + Sync, S: Store, G: Gate>(
 pub fn play<R: Threads + Sync, S: Store, G: Gate>(
     rt: &R,
     alloc: Global,
-    script: &Script,
-    files: &[Pcm],
+    piece: &Piece<'_>,
     store: &mut S,
-    name: &str,
     gate: &G,
 ) -> Result<Played, PlayFault>
-    requires { HaveFiles (record { tracks = script.now.tracks; files = files.now }) }
-    ensures played { IfOk result (λ p. HandsBackRun true script.now files.now p.journal p.ends) }
-    ensures limit { IfErr result (AtLimit (HandsBackRun false script.now files.now)) }
-    ensures legal { IfOk result (λ p. IsLegalRun script.now files.now p.journal) }
-    ensures fates { IfOk result (λ p. EachFrameHasOneFate script.now files.now p.journal) }
-    ensures unshut { IfOk result (λ p. EachLawfulBlockIsSpared script.now files.now p.journal) }
-    ensures drained { IfOk result (λ p. EachDrainedTrackReachedItsStop script.now files.now p.journal) }
-    ensures settled { IfOk result (λ p. SettledMeansKept script.now files.now p.journal) }
-    ensures emptied { IfOk result (λ p. PipeIsEmptied script.now files.now p.journal) }
-    ensures cut_run { IfErr result (AtLimit (λ journal _. IsCutRun script.now files.now journal)) }
-    ensures enough { HasEnoughCycles script.now → IfErr result (AtLimit (λ journal ends. ⊥)) }
-    ensures in_time { EndsInTime script.now files.now }
-    ensures summary { IfOk result (λ p. p.summary ≡ summary_told script.now.frames p.journal p.ends) }
-    ensures alone { HandedBack (IsToldAlone script.now files.now) result }
-    ensures calls { HandedBack CallsStandOnce result }
-    ensures released { HandedBack ReleasedAsTold result }
-    ensures pushes { HandedBack PushesStandOnce result }
-    ensures never_older { HandedBack (λ journal _. NoneOlder journal) result }
-    ensures spared { HandedBack (λ journal ends. PokesSpareOthers (shown_by script.now.frames journal ends.normal.mutator.past.events)) result }
-    ensures kept { HandedBack (λ journal ends. KeepsLists (run_of script.now files.now journal) ends) result }
-    ensures written { S.told store.old → IfOk result (λ p. SetsFile (S.files store.old) name.now (Some (journal_pcm script.now.frames p.journal)) (S.files store.new)) }
-    ensures cut { S.told store.old → IfErr result (AtLimit (λ journal _. SetsFile (S.files store.old) name.now (Some (journal_pcm script.now.frames journal)) (S.files store.new))) }
-    ensures left { S.told store.old → IfErr result (AtFault (LeavesRun script.now files.now name.now (S.files store.old) (S.files store.new))) }
+    requires { HaveFiles (given_by piece.now) }
+    ensures done { IfOk result (IsDonePlay piece.now.script.now piece.now.files.now) }
+    ensures limit { IfErr result (AtLimit (IsCutPlay piece.now.script.now piece.now.files.now)) }
+    ensures run { HandedBack (TellsItsRun piece.now.script.now piece.now.files.now) result }
+    ensures enough { HasEnoughCycles piece.now.script.now → IfErr result (AtLimit (λ journal ends. ⊥)) }
+    ensures in_time { EndsInTime piece.now.script.now piece.now.files.now }
+    ensures files { S.told store.old → KeepsFiles piece.now.script.now piece.now.files.now piece.now.name.now (S.files store.old) (S.files store.new) result }
     ensures tells { S.told store.old → S.told store.new }
     ensures cause { HasStoreCause (S.faults store.old) (S.faults store.new) result }
 {
     let mut logging = Logging::none(alloc)?;
-    play_with(rt, alloc, script, files, store, name, &mut logging, gate)
+    play_with(rt, alloc, piece, store, &mut logging, gate)
 }
 
 // Where all parties have ended, drains what is left of a log, and appends its text. Memory is its only refusal; `text` is then as before.
@@ -200,7 +83,7 @@ fn tell(
     text: &mut Vec<u8>,
 ) -> Result<(), Memory>
     requires told { IfOk played.now (λ p. (frames : ℕ) × (room : ℕ) × HasLogOf frames room p.journal logging.old) }
-    ensures log { (frames room : ℕ) → IfOk played.now (λ p. HasLogOf frames room p.journal logging.old) → OnOk result (IfOk played.now (λ p. (notes : List SomeNote) × (refused : ℕ) × IsLogOf frames room p.journal notes refused × (text.new.items ≡ text.old.items ++ log_text notes refused) × (32 ≤ room → refused ≡ 0))) }
+    ensures log { (n r : ℕ) → TellsLogOf (Some r) n played.now logging.old → OnOk result (AppendsLogOfPlay n r played.now text.old.items text.new.items) }
     ensures none { IfErr played.now (λ _. text.new.items ≡ text.old.items) }
     ensures unchanged { OnErr result (text.new.items ≡ text.old.items) }
     ensures memory { OnErr result (IfErr played.now (λ _. ⊥)) }
@@ -231,46 +114,27 @@ fn hand_on(played: Result<Played, PlayFault>, told: Result<(), Memory>) -> Resul
 pub fn play_logged<R: Threads + Sync, S: Store, G: Gate>(
     rt: &R,
     alloc: Global,
-    script: &Script,
-    files: &[Pcm],
+    piece: &Piece<'_>,
     store: &mut S,
-    name: &str,
     gate: &G,
     room: u32,
     text: &mut Vec<u8>,
 ) -> Result<Played, PlayFault>
-    requires files { HaveFiles (record { tracks = script.now.tracks; files = files.now }) }
-    requires some { 1 ≤ room }
-    requires few { room ≤ 1024 }
-    ensures played { IfOk result (λ p. HandsBackRun true script.now files.now p.journal p.ends) }
-    ensures limit { IfErr result (AtLimit (HandsBackRun false script.now files.now)) }
-    ensures legal { IfOk result (λ p. IsLegalRun script.now files.now p.journal) }
-    ensures fates { IfOk result (λ p. EachFrameHasOneFate script.now files.now p.journal) }
-    ensures unshut { IfOk result (λ p. EachLawfulBlockIsSpared script.now files.now p.journal) }
-    ensures drained { IfOk result (λ p. EachDrainedTrackReachedItsStop script.now files.now p.journal) }
-    ensures settled { IfOk result (λ p. SettledMeansKept script.now files.now p.journal) }
-    ensures emptied { IfOk result (λ p. PipeIsEmptied script.now files.now p.journal) }
-    ensures cut_run { IfErr result (AtLimit (λ journal _. IsCutRun script.now files.now journal)) }
-    ensures enough { HasEnoughCycles script.now → IfErr result (AtLimit (λ journal ends. ⊥)) }
-    ensures in_time { EndsInTime script.now files.now }
-    ensures summary { IfOk result (λ p. p.summary ≡ summary_told script.now.frames p.journal p.ends) }
-    ensures alone { HandedBack (IsToldAlone script.now files.now) result }
-    ensures calls { HandedBack CallsStandOnce result }
-    ensures released { HandedBack ReleasedAsTold result }
-    ensures pushes { HandedBack PushesStandOnce result }
-    ensures never_older { HandedBack (λ journal _. NoneOlder journal) result }
-    ensures spared { HandedBack (λ journal ends. PokesSpareOthers (shown_by script.now.frames journal ends.normal.mutator.past.events)) result }
-    ensures kept { HandedBack (λ journal ends. KeepsLists (run_of script.now files.now journal) ends) result }
-    ensures written { S.told store.old → IfOk result (λ p. SetsFile (S.files store.old) name.now (Some (journal_pcm script.now.frames p.journal)) (S.files store.new)) }
-    ensures cut { S.told store.old → IfErr result (AtLimit (λ journal _. SetsFile (S.files store.old) name.now (Some (journal_pcm script.now.frames journal)) (S.files store.new))) }
-    ensures left { S.told store.old → IfErr result (AtFault (LeavesRun script.now files.now name.now (S.files store.old) (S.files store.new))) }
+    requires files { HaveFiles (given_by piece.now) }
+    requires room { (1 ≤ room) × (room ≤ 1024) }
+    ensures done { IfOk result (IsDonePlay piece.now.script.now piece.now.files.now) }
+    ensures limit { IfErr result (AtLimit (IsCutPlay piece.now.script.now piece.now.files.now)) }
+    ensures run { HandedBack (TellsItsRun piece.now.script.now piece.now.files.now) result }
+    ensures enough { HasEnoughCycles piece.now.script.now → IfErr result (AtLimit (λ journal ends. ⊥)) }
+    ensures in_time { EndsInTime piece.now.script.now piece.now.files.now }
+    ensures files { S.told store.old → KeepsFiles piece.now.script.now piece.now.files.now piece.now.name.now (S.files store.old) (S.files store.new) result }
     ensures tells { S.told store.old → S.told store.new }
     ensures cause { HasStoreCause (S.faults store.old) (S.faults store.new) result }
-    ensures log { IfOk result (λ p. (notes : List SomeNote) × (refused : ℕ) × IsLogOf script.now.frames room p.journal notes refused × (text.new.items ≡ text.old.items ++ log_text notes refused) × (32 ≤ room → refused ≡ 0)) }
+    ensures log { AppendsLogOfPlay piece.now.script.now.frames room result text.old.items text.new.items }
     ensures unchanged { OnErr result (text.new.items ≡ text.old.items) }
 {
-    let mut logging = Logging::of(alloc, room, script.cycles())?;
-    let played = play_with(rt, alloc, script, files, store, name, &mut logging, gate);
+    let mut logging = Logging::of(alloc, room, piece.script.cycles())?;
+    let played = play_with(rt, alloc, piece, store, &mut logging, gate);
     let told = tell(&mut logging, alloc, &played, text);
     drop(logging);
     hand_on(played, told)
