@@ -1,7 +1,9 @@
 -- What a play answers, by the stage that was played; and what is promised of each answer, whatever the store.
-use Rattle.std.specs.Prelude.{◌≡◌, ◌⊎◌, ℕ, true, false, List, Option, Some, Result, IfErr, IfOk}
+use Rattle.std.specs.Prelude.{◌≡◌, ◌⊎◌, ◌≤◌, ◌++◌, ℕ, true, false, List, Option, Some, Result, IfErr, IfOk}
 use Rattle.af_base.specs.declared.frame.Frame.{Frame}
 use Rattle.af_enough.specs.Enough.{HasEnoughCycles}
+use Rattle.af_nblog.specs.declared.entries.Note.{Note}
+use Rattle.af_nblog.specs.LogText.{log_text}
 use Rattle.af_model.specs.Journals.{JournalData, journal_of}
 use Rattle.af_io.specs.Files.{Files, SetsFile}
 use Rattle.af_runs.specs.LegalRuns.{IsCutRun, IsLegalRun, run_of}
@@ -13,7 +15,7 @@ use Rattle.af_playing.specs.declared.answering.PlayFault.TheVariants as fault
 use Rattle.af_rendering.specs.declared.rendering.Played.{Played}
 use Rattle.af_rendering.specs.declared.staging.Stage.{Stage}
 use Rattle.af_session.specs.Ends.{EndsState, ends_from}
-use Rattle.af_side_by_side.specs.Logging.{AppendsLogOf, LoggingState, TellsLog}
+use Rattle.af_side_by_side.specs.Logging.{IsLogOf, LoggingState, TellsLog}
 use Rattle.af_rendering.specs.Hostile.{PokesSpareOthers}
 use Rattle.af_playing.specs.PlayedRuns.{AtFault, AtLimit, HandedBack, HandsBackRun, KeepsPromises, LeavesRun, all_ended}
 use Rattle.af_session.specs.Shown.{shown_by, summary_told}
@@ -77,6 +79,10 @@ pub record KeepsFiles (script : ScriptData) (files : List (List Frame)) (name : 
 abbrev pub TellsLogOf : Option ℕ → ℕ → Result Played PlayFault → LoggingState → Type 0
 TellsLogOf kept frames played l = IfOk played (λ p. TellsLog kept frames p.journal l)
 
--- the text of such a log stands behind another text
+-- the text of a log of this journal stands behind another text; with room for 32 notes none was refused
+abbrev pub AppendsLogOf : (frames room : ℕ) → JournalData → List ℕ → List ℕ → Type 0
+AppendsLogOf frames room j text text' = (notes : List Note) × (refused : ℕ) × IsLogOf frames room j notes refused × (text' ≡ text ++ log_text notes refused) × (32 ≤ room → refused ≡ 0)
+
+-- so does that of the journal of what was played
 abbrev pub AppendsLogOfPlay : (frames room : ℕ) → Result Played PlayFault → List ℕ → List ℕ → Type 0
 AppendsLogOfPlay frames room played text text' = IfOk played (λ p. AppendsLogOf frames room p.journal text text')

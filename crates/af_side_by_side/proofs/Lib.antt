@@ -9,4 +9,3 @@ pub mod ScribeTurns
 pub mod LogRounds
 pub mod LogMeets
 pub mod LogEnds
-pub mod RoomsKept

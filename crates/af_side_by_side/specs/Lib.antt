@@ -1,4 +1,3 @@
 pub mod Alone
 pub mod SideBySide
 pub mod Logging
-pub mod Rooms

@@ -3,10 +3,8 @@
 
 mod alone;
 mod logging;
-mod rig;
 mod rounds_of_all;
 mod side_by_side;
 
 pub use logging::Logging;
-pub use rig::Rig;
 pub use rounds_of_all::round_of_all;
