@@ -1,5 +1,5 @@
 -- A script that was played in rounds, its journal and its line.
-use Rattle.std.proofs.Common.{◌≡◌, ◌∙◌, ℕ, Bool, true, false, List, Some, Ok, Err, IfErr, IfOk, Result, String, string_bytes, ap, inl, inr, refl, subst, sym}
+use Rattle.std.proofs.Common.{◌≡◌, ◌∙◌, ℕ, Bool, true, false, List, Some, Ok, Err, IfOk, Result, String, string_bytes, ap, inl, inr, refl, subst, sym}
 use Rattle.std.specs.declared.alloc.Global.{Global}
 use Rattle.af_io.specs.Files.{Files, SameFiles, SetsFile, LeavesFront}
 use Rattle.af_io.specs.Outputs.{with_file}
@@ -15,8 +15,8 @@ use Rattle.af_playing.specs.declared.answering.PlayFault.{PlayFault}
 use Rattle.af_playing.specs.declared.answering.PlayFault.TheVariants as fault
 use Rattle.af_rendering.specs.declared.rendering.Played.{Played}
 use Rattle.af_session.specs.Ends.{EndsState}
-use Rattle.af_playing.specs.PlayedRuns.{AtFault, AtLimit, HandsBackRun, IsLegalJournal, LeavesRun}
-use Rattle.af_playing.specs.PlayKept.{KeepsPlay}
+use Rattle.af_playing.specs.PlayedRuns.{HandsBackRun, IsLegalJournal, LeavesRun}
+use Rattle.af_playing.specs.PlayKept.{KeepsFiles, KeepsPlay}
 use Rattle.af_playing.specs.PlayedAlone.{summary_of_play}
 use Rattle.af_playing.proofs.ListsKept.{lists_kept}
 use Rattle.af_runs.specs.Pcm.{journal_pcm}
@@ -41,13 +41,13 @@ pub record IsKept (ended : Bool) (l : Loaded) (journal : JournalData) : Type 0 w
 -- the promises of a journal
 pub promises : (l : Loaded) (accepted : IsScript l.script) → OfRounds HoldsAtMeetings → (p : Played) → KeepsPlay l.script l.files (Ok p) → IsKept true l p.journal
 promises l accepted follows p keeps = record {
-  legal = record { legal = keeps.legal; fates = keeps.fates; unshut = keeps.unshut; drained = keeps.drained; settled = keeps.settled; emptied = keeps.emptied };
-  met = follows false l.script l.files p.journal accepted keeps.legal.rounds;
+  legal = keeps.done.promises;
+  met = follows false l.script l.files p.journal accepted keeps.done.promises.legal.rounds;
 }
 
 -- and those of one that was cut off
 pub cut_short : (l : Loaded) (accepted : IsScript l.script) → OfRounds HoldsAtMeetings → (journal : JournalData) (ends : EndsState) → KeepsPlay l.script l.files (Err (fault.CycleLimit journal ends)) → IsKept false l journal
-cut_short l accepted follows journal ends keeps = record { legal = (keeps.cut_run, keeps.enough); met = follows true l.script l.files journal accepted keeps.cut_run.rounds }
+cut_short l accepted follows journal ends keeps = record { legal = (keeps.limit.cut_run, keeps.enough); met = follows true l.script l.files journal accepted keeps.limit.cut_run.rounds }
 
 -- the text of a run's journal is read as this journal alone
 pub read_alone : (ended : Bool) (l : Loaded) (journal : JournalData) (ends : EndsState) → HandsBackRun ended l.script l.files journal ends → IsTextFor l.script (text_of journal) journal
@@ -109,31 +109,28 @@ LeavesRun-stays l target old mid new left same = subst (λ (files : Files). Leav
 
 module _ (l : Loaded) (accepted : IsScript l.script) (follows : OfRounds HoldsAtMeetings) (cycles : ℕ) where
   pub some_play_told : (played : Result Played PlayFault) (result : Result (String Global) Stop) → KeepsPlay l.script l.files played → Tells cycles played result → IfOk result (λ line. IsSomePlayLine (string_bytes line))
-  some_play_told (Ok p) (Ok line) keeps told = some_play_line l p.journal p.ends keeps.played (promises l accepted follows p keeps) p.summary (keeps.summary ∙ keeps.alone) (string_bytes line) told
+  some_play_told (Ok p) (Ok line) keeps told = some_play_line l p.journal p.ends keeps.done.played (promises l accepted follows p keeps) p.summary (keeps.done.summary ∙ keeps.run.alone) (string_bytes line) told
   some_play_told (Err (fault.CycleLimit journal ends)) (Ok line) keeps none = absurd none
   some_play_told (Err fault.Store) (Ok line) keeps clash = let none : ⊥ = cc in absurd none
   some_play_told (Err fault.Memory) (Ok line) keeps clash = let none : ⊥ = cc in absurd none
   some_play_told played (Err stop) keeps told = tt
 
   module _ (cycles_are : cycles ≡ l.script.cycles) (target name : List ℕ) (old mid new : Files) where
-    pub Makes-told : (played : Result Played PlayFault) (result : Result (String Global) Stop) → KeepsPlay l.script l.files played
-        → IfOk played (λ p. SetsFile old target (Some (journal_pcm l.script.frames p.journal)) mid)
-        → IfErr played (AtLimit (λ journal _. SetsFile old target (Some (journal_pcm l.script.frames journal)) mid))
-        → IfErr played (AtFault (LeavesRun l.script l.files target old mid))
+    pub Makes-told : (played : Result Played PlayFault) (result : Result (String Global) Stop) → KeepsPlay l.script l.files played → KeepsFiles l.script l.files target old mid played
         → Tells cycles played result → TellsText name played result mid new → Makes result (Ok (play_job target name l)) old new
-    Makes-told (Ok p) (Ok line) keeps set cut left told text = Makes-rounds l p.journal p.ends keeps.played (promises l accepted follows p keeps) p.summary (keeps.summary ∙ keeps.alone) target name old mid new set text line told
-    Makes-told (Ok p) (Err (Refused refusal)) keeps set cut left none text = absurd none
-    Makes-told (Ok p) (Err (Over over)) keeps set cut left none text = absurd none
-    Makes-told (Ok p) (Err Store) keeps set cut left told text = inl (inr (inr (text_left true l p.journal p.ends keeps.played (promises l accepted follows p keeps) target name old mid set new text)))
-    Makes-told (Ok p) (Err Memory) keeps set cut left told text = inl (inr (inr (text_left true l p.journal p.ends keeps.played (promises l accepted follows p keeps) target name old mid set new text)))
-    Makes-told (Err (fault.CycleLimit journal ends)) (Ok line) keeps set cut left none text = absurd none
-    Makes-told (Err (fault.CycleLimit journal ends)) (Err (Refused refusal)) keeps set cut left none text = absurd none
-    Makes-told (Err (fault.CycleLimit journal ends)) (Err (Over over)) keeps set cut left is text =
+    Makes-told (Ok p) (Ok line) keeps kept told text = Makes-rounds l p.journal p.ends keeps.done.played (promises l accepted follows p keeps) p.summary (keeps.done.summary ∙ keeps.run.alone) target name old mid new kept.written text line told
+    Makes-told (Ok p) (Err (Refused refusal)) keeps kept none text = absurd none
+    Makes-told (Ok p) (Err (Over over)) keeps kept none text = absurd none
+    Makes-told (Ok p) (Err Store) keeps kept told text = inl (inr (inr (text_left true l p.journal p.ends keeps.done.played (promises l accepted follows p keeps) target name old mid kept.written new text)))
+    Makes-told (Ok p) (Err Memory) keeps kept told text = inl (inr (inr (text_left true l p.journal p.ends keeps.done.played (promises l accepted follows p keeps) target name old mid kept.written new text)))
+    Makes-told (Err (fault.CycleLimit journal ends)) (Ok line) keeps kept none text = absurd none
+    Makes-told (Err (fault.CycleLimit journal ends)) (Err (Refused refusal)) keeps kept none text = absurd none
+    Makes-told (Err (fault.CycleLimit journal ends)) (Err (Over over)) keeps kept is text =
         subst (λ (o : Ending). Makes (Err (Over o)) (Ok (play_job target name l)) old new) (sym is)
-        (Makes-cut l journal ends keeps.limit (cut_short l accepted follows journal ends keeps) target name old mid new cut text cycles cycles_are)
-    Makes-told (Err (fault.CycleLimit journal ends)) (Err Store) keeps set cut left told text = inl (inr (inr (text_left false l journal ends keeps.limit (cut_short l accepted follows journal ends keeps) target name old mid cut new text)))
-    Makes-told (Err (fault.CycleLimit journal ends)) (Err Memory) keeps set cut left told text = inl (inr (inr (text_left false l journal ends keeps.limit (cut_short l accepted follows journal ends keeps) target name old mid cut new text)))
-    Makes-told (Err fault.Store) result keeps set cut left is same =
-        subst (λ (r : Result (String Global) Stop). Makes r (Ok (play_job target name l)) old new) (sym is) (inl (inr (inl (LeavesRun-stays l target old mid new left same))))
-    Makes-told (Err fault.Memory) result keeps set cut left is same =
-        subst (λ (r : Result (String Global) Stop). Makes r (Ok (play_job target name l)) old new) (sym is) (inl (inr (inl (LeavesRun-stays l target old mid new left same))))
+        (Makes-cut l journal ends keeps.limit.played (cut_short l accepted follows journal ends keeps) target name old mid new kept.cut text cycles cycles_are)
+    Makes-told (Err (fault.CycleLimit journal ends)) (Err Store) keeps kept told text = inl (inr (inr (text_left false l journal ends keeps.limit.played (cut_short l accepted follows journal ends keeps) target name old mid kept.cut new text)))
+    Makes-told (Err (fault.CycleLimit journal ends)) (Err Memory) keeps kept told text = inl (inr (inr (text_left false l journal ends keeps.limit.played (cut_short l accepted follows journal ends keeps) target name old mid kept.cut new text)))
+    Makes-told (Err fault.Store) result keeps kept is same =
+        subst (λ (r : Result (String Global) Stop). Makes r (Ok (play_job target name l)) old new) (sym is) (inl (inr (inl (LeavesRun-stays l target old mid new kept.left same))))
+    Makes-told (Err fault.Memory) result keeps kept is same =
+        subst (λ (r : Result (String Global) Stop). Makes r (Ok (play_job target name l)) old new) (sym is) (inl (inr (inl (LeavesRun-stays l target old mid new kept.left same))))

@@ -1,5 +1,5 @@
 -- A script that was played in rounds with a log: its journal, its log and its line.
-use Rattle.std.proofs.Common.{◌≡◌, ◌∙◌, ◌⊎◌, ℕ, ◌≤◌, true, false, List, [], ◌∷◌, ◌++◌, Some, Ok, Err, IfErr, IfOk, Result, String, string_bytes, ap, inl, inr, refl, subst, sym}
+use Rattle.std.proofs.Common.{◌≡◌, ◌∙◌, ◌⊎◌, ℕ, ◌≤◌, true, false, List, [], ◌∷◌, ◌++◌, Some, Ok, Err, Result, String, string_bytes, ap, inl, inr, refl, subst, sym}
 use Rattle.std.specs.declared.alloc.Global.{Global}
 use Rattle.af_io.specs.Files.{Files, SetsFile, LeavesFront}
 use Rattle.af_io.specs.Outputs.{with_file, with_files}
@@ -17,8 +17,8 @@ use Rattle.af_playing.specs.declared.answering.PlayFault.TheVariants as fault
 use Rattle.af_rendering.specs.declared.rendering.Played.{Played}
 use Rattle.af_session.specs.Ends.{EndsState}
 use Rattle.af_side_by_side.specs.Logging.{IsLogOf}
-use Rattle.af_playing.specs.PlayedRuns.{AtFault, AtLimit, HandsBackRun, LeavesRun}
-use Rattle.af_playing.specs.PlayKept.{KeepsPlay}
+use Rattle.af_playing.specs.PlayedRuns.{HandsBackRun}
+use Rattle.af_playing.specs.PlayKept.{AppendsLogOfPlay, KeepsFiles, KeepsPlay}
 use Rattle.af_playing.specs.PlayedAlone.{summary_of_play}
 use Rattle.af_offline.specs.declared.status.Stop.{Stop}
 use Rattle.af_offline.specs.declared.status.Stop.TheVariants.{Refused, Over, Store, Memory}
@@ -83,46 +83,39 @@ Makes-cut_log l room journal ends back legal target name log old mid new set tex
 
 -- ## What is told of a play with a log
 
--- the log that a play has appended to a text that was empty
-abbrev HasLog : Loaded → ℕ → JournalData → List ℕ → List ℕ → Type 0
-HasLog l room journal grown empty = (notes : List Note) × (refused : ℕ) × IsLogOf l.script.frames room journal notes refused × (grown ≡ empty ++ log_text notes refused) × (32 ≤ room → refused ≡ 0)
-
 module _ (l : Loaded) (accepted : IsScript l.script) (follows : OfRounds HoldsAtMeetings) (room : ℕ) (target name log : List ℕ) (old mid new : Files) where
   -- the journal is not whole, or the log
   trace_left : (p : Played) → KeepsPlay l.script l.files (Ok p) → SetsFile old target (Some (journal_pcm l.script.frames p.journal)) mid → (notes : List Note) (refused : ℕ) → IsLogOf l.script.frames room p.journal notes refused → (32 ≤ room → refused ≡ 0) → (held : List ℕ) → held ≡ log_text notes refused
       → LeavesFront mid name (text_of p.journal) new ⊎ ((next : Files) × SetsFile mid name (Some (text_of p.journal)) next × LeavesFront next log held new)
       → LeavesTrace l.script l.files room target name log old new
-  trace_left p keeps set notes refused log_of kept held is (inl left) = inl (inr (text_left true l p.journal p.ends keeps.played (promises l accepted follows p keeps) target name old mid set new left))
+  trace_left p keeps set notes refused log_of kept held is (inl left) = inl (inr (text_left true l p.journal p.ends keeps.done.played (promises l accepted follows p keeps) target name old mid set new left))
   trace_left p keeps set notes refused log_of kept held is (inr (next, text, left)) =
-      inr (log_left l room p.journal p.ends keeps.played (promises l accepted follows p keeps) notes refused log_of kept target name log old mid next set text new
+      inr (log_left l room p.journal p.ends keeps.done.played (promises l accepted follows p keeps) notes refused log_of kept target name log old mid next set text new
       (subst (λ (xs : List ℕ). LeavesFront next log xs new) is left))
 
   module _ (held grown empty : List ℕ) (held_is : held ≡ grown) (none : empty ≡ []) (cycles : ℕ) (cycles_are : cycles ≡ l.script.cycles) where
-    pub Makes-logged : (played : Result Played PlayFault) (result : Result (String Global) Stop) → KeepsPlay l.script l.files played
-        → IfOk played (λ p. SetsFile old target (Some (journal_pcm l.script.frames p.journal)) mid)
-        → IfErr played (AtLimit (λ journal _. SetsFile old target (Some (journal_pcm l.script.frames journal)) mid))
-        → IfErr played (AtFault (LeavesRun l.script l.files target old mid))
-        → IfOk played (λ p. HasLog l room p.journal grown empty)
+    pub Makes-logged : (played : Result Played PlayFault) (result : Result (String Global) Stop) → KeepsPlay l.script l.files played → KeepsFiles l.script l.files target old mid played
+        → AppendsLogOfPlay l.script.frames room played empty grown
         → Tells cycles played result → TellsTexts name log held played result mid new → Makes result (Ok (trace_job target name log room l)) old new
-    Makes-logged (Ok p) (Ok line) keeps set cut left logged line_is (next, text, wrote) =
-        Makes-traced l room p.journal p.ends keeps.played (promises l accepted follows p keeps) logged.0 logged.1 logged.2 logged.4 target name log old mid next set text p.summary (keeps.summary ∙ keeps.alone) new
+    Makes-logged (Ok p) (Ok line) keeps kept logged line_is (next, text, wrote) =
+        Makes-traced l room p.journal p.ends keeps.done.played (promises l accepted follows p keeps) logged.0 logged.1 logged.2 logged.4 target name log old mid next kept.written text p.summary (keeps.done.summary ∙ keeps.run.alone) new
         (subst (λ (xs : List ℕ). SetsFile next log (Some xs) new) (appended held grown empty (log_text logged.0 logged.1) held_is logged.3 none) wrote) line line_is
-    Makes-logged (Ok p) (Err (Refused refusal)) keeps set cut left logged wrong texts = absurd wrong
-    Makes-logged (Ok p) (Err (Over over)) keeps set cut left logged wrong texts = absurd wrong
-    Makes-logged (Ok p) (Err Store) keeps set cut left logged stopped texts =
-        inl (inr (trace_left p keeps set logged.0 logged.1 logged.2 logged.4 held (appended held grown empty (log_text logged.0 logged.1) held_is logged.3 none) texts))
-    Makes-logged (Ok p) (Err Memory) keeps set cut left logged stopped texts =
-        inl (inr (trace_left p keeps set logged.0 logged.1 logged.2 logged.4 held (appended held grown empty (log_text logged.0 logged.1) held_is logged.3 none) texts))
-    Makes-logged (Err (fault.CycleLimit journal ends)) (Ok line) keeps set cut left logged wrong text = absurd wrong
-    Makes-logged (Err (fault.CycleLimit journal ends)) (Err (Refused refusal)) keeps set cut left logged wrong text = absurd wrong
-    Makes-logged (Err (fault.CycleLimit journal ends)) (Err (Over over)) keeps set cut left logged is text =
+    Makes-logged (Ok p) (Err (Refused refusal)) keeps kept logged wrong texts = absurd wrong
+    Makes-logged (Ok p) (Err (Over over)) keeps kept logged wrong texts = absurd wrong
+    Makes-logged (Ok p) (Err Store) keeps kept logged stopped texts =
+        inl (inr (trace_left p keeps kept.written logged.0 logged.1 logged.2 logged.4 held (appended held grown empty (log_text logged.0 logged.1) held_is logged.3 none) texts))
+    Makes-logged (Ok p) (Err Memory) keeps kept logged stopped texts =
+        inl (inr (trace_left p keeps kept.written logged.0 logged.1 logged.2 logged.4 held (appended held grown empty (log_text logged.0 logged.1) held_is logged.3 none) texts))
+    Makes-logged (Err (fault.CycleLimit journal ends)) (Ok line) keeps kept logged wrong text = absurd wrong
+    Makes-logged (Err (fault.CycleLimit journal ends)) (Err (Refused refusal)) keeps kept logged wrong text = absurd wrong
+    Makes-logged (Err (fault.CycleLimit journal ends)) (Err (Over over)) keeps kept logged is text =
         subst (λ (o : Ending). Makes (Err (Over o)) (Ok (trace_job target name log room l)) old new) (sym is)
-        (Makes-cut_log l room journal ends keeps.limit (cut_short l accepted follows journal ends keeps) target name log old mid new cut text cycles cycles_are)
-    Makes-logged (Err (fault.CycleLimit journal ends)) (Err Store) keeps set cut left logged stopped text =
-        inl (inr (inl (inr (text_left false l journal ends keeps.limit (cut_short l accepted follows journal ends keeps) target name old mid cut new text))))
-    Makes-logged (Err (fault.CycleLimit journal ends)) (Err Memory) keeps set cut left logged stopped text =
-        inl (inr (inl (inr (text_left false l journal ends keeps.limit (cut_short l accepted follows journal ends keeps) target name old mid cut new text))))
-    Makes-logged (Err fault.Store) result keeps set cut left logged is same =
-        subst (λ (r : Result (String Global) Stop). Makes r (Ok (trace_job target name log room l)) old new) (sym is) (inl (inr (inl (inl (LeavesRun-stays l target old mid new left same)))))
-    Makes-logged (Err fault.Memory) result keeps set cut left logged is same =
-        subst (λ (r : Result (String Global) Stop). Makes r (Ok (trace_job target name log room l)) old new) (sym is) (inl (inr (inl (inl (LeavesRun-stays l target old mid new left same)))))
+        (Makes-cut_log l room journal ends keeps.limit.played (cut_short l accepted follows journal ends keeps) target name log old mid new kept.cut text cycles cycles_are)
+    Makes-logged (Err (fault.CycleLimit journal ends)) (Err Store) keeps kept logged stopped text =
+        inl (inr (inl (inr (text_left false l journal ends keeps.limit.played (cut_short l accepted follows journal ends keeps) target name old mid kept.cut new text))))
+    Makes-logged (Err (fault.CycleLimit journal ends)) (Err Memory) keeps kept logged stopped text =
+        inl (inr (inl (inr (text_left false l journal ends keeps.limit.played (cut_short l accepted follows journal ends keeps) target name old mid kept.cut new text))))
+    Makes-logged (Err fault.Store) result keeps kept logged is same =
+        subst (λ (r : Result (String Global) Stop). Makes r (Ok (trace_job target name log room l)) old new) (sym is) (inl (inr (inl (inl (LeavesRun-stays l target old mid new kept.left same)))))
+    Makes-logged (Err fault.Memory) result keeps kept logged is same =
+        subst (λ (r : Result (String Global) Stop). Makes r (Ok (trace_job target name log room l)) old new) (sym is) (inl (inr (inl (inl (LeavesRun-stays l target old mid new kept.left same)))))

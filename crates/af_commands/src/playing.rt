@@ -17,7 +17,7 @@ use af_io::{Gate, Store, StoreError};
 use af_journal_laws::what_follows_of_rounds;
 use af_model::Journal;
 use af_offline::{Ending, Loaded, Stop, load_script, write_file};
-use af_playing::PlayFault;
+use af_playing::{Piece, PlayFault};
 use af_rendering::Played;
 use std::alloc::Global;
 use std::thread::Threads;
@@ -121,15 +121,12 @@ fn play<R: Threads + Sync, S: Store, G: Gate>(
 {
     is_accepted(&loaded.script);
     what_follows_of_rounds();
-    let played = af_playing::play(
-        rt,
-        alloc,
-        &loaded.script,
-        &loaded.files,
-        store,
-        target,
-        gate,
-    );
+    let piece = Piece {
+        script: &loaded.script,
+        files: &loaded.files,
+        name: target,
+    };
+    let played = af_playing::play(rt, alloc, &piece, store, gate);
     let told = tell(alloc, store, journal, loaded.script.cycles(), &played);
     drop(played);
     told

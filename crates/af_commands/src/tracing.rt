@@ -13,7 +13,7 @@ use crate::render::is_accepted;
 use af_io::{Gate, Store};
 use af_journal_laws::what_follows_of_rounds;
 use af_offline::{Loaded, Stop, load_script, write_file};
-use af_playing::PlayFault;
+use af_playing::{Piece, PlayFault};
 use af_rendering::Played;
 use std::alloc::Global;
 use std::thread::Threads;
@@ -59,17 +59,12 @@ fn trace<R: Threads + Sync, S: Store, G: Gate>(
     is_accepted(&loaded.script);
     what_follows_of_rounds();
     let mut text = Vec::new(alloc);
-    let played = af_playing::play_logged(
-        rt,
-        alloc,
-        &loaded.script,
-        &loaded.files,
-        store,
-        target,
-        gate,
-        room,
-        &mut text,
-    );
+    let piece = Piece {
+        script: &loaded.script,
+        files: &loaded.files,
+        name: target,
+    };
+    let played = af_playing::play_logged(rt, alloc, &piece, store, gate, room, &mut text);
     let cycles = loaded.script.cycles();
     let told = tell_with_log(alloc, store, journal, log, &text, cycles, &played);
     drop(played);

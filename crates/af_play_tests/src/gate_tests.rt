@@ -2,7 +2,7 @@
 use crate::shared::{sink, words_of};
 use af_commands::run;
 use af_io::{Gate, MemStore, Pcm, frames_of};
-use af_playing::play;
+use af_playing::{Piece, play};
 use af_rendering::have_files;
 use af_script::{Script, read};
 use std::alloc::Global;
@@ -109,7 +109,9 @@ fn is_played<R: Threads + Sync>(
         return false;
     }
     let mut store = MemStore::new(alloc, Vec::new(alloc));
-    let played = play(rt, alloc, script, files, &mut store, "out.pcm", watch);
+    let name = "out.pcm";
+    let piece = Piece { script, files, name };
+    let played = play(rt, alloc, &piece, &mut store, watch);
     let is_whole = played.is_ok();
     drop(played);
     is_whole

@@ -1,10 +1,6 @@
 -- What a play keeps, by how it was answered.
 use Rattle.std.proofs.Common.{◌≡◌, ◌⊎◌, ℕ, Bool, true, false, List, Some, Result, Ok, Err, IfErr, IfOk, OnErr, OnOk, IsErrAnd, inl, inr, refl, sym, ap, subst, ◌∙◌}
 use Rattle.af_audit.specs.Drained.{EachDrainedTrackReachedItsStop}
-use Rattle.af_audit.specs.Emptied.{PipeIsEmptied}
-use Rattle.af_audit.specs.Fates.{EachFrameHasOneFate}
-use Rattle.af_audit.specs.Settled.{SettledMeansKept}
-use Rattle.af_audit.specs.Spared.{EachLawfulBlockIsSpared}
 use Rattle.af_audit.proofs.EmptiedTold.{pipe-is-emptied}
 use Rattle.af_audit.proofs.FatesTold.{frames-have-fates}
 use Rattle.af_audit.proofs.SettledTold.{settled}
@@ -15,7 +11,7 @@ use Rattle.af_playing.proofs.InTime.{never_cut_off}
 use Rattle.af_io.specs.Files.{Files, SetsFile}
 use Rattle.af_io.specs.Causes.{HasCause}
 use Rattle.af_model.specs.Journals.{JournalData, RoundsNoted, journal_of}
-use Rattle.af_runs.specs.LegalRuns.{IsLegalRun}
+use Rattle.af_runs.specs.LegalRuns.{IsLegalRun, run_of}
 use Rattle.af_runs.specs.Pcm.{journal_pcm}
 use Rattle.af_script.specs.Data.{ScriptData}
 use Rattle.af_script.specs.Form.{IsScript}
@@ -24,18 +20,21 @@ use Rattle.af_playing.specs.declared.answering.PlayFault.TheVariants as fault
 use Rattle.af_rendering.specs.declared.rendering.Played.{Played}
 use Rattle.af_rendering.specs.declared.staging.Stage.{Stage}
 use Rattle.af_session.specs.Ends.{EndsState, ends_from}
-use Rattle.af_playing.specs.PlayKept.{Answers, KeepsFiles, KeepsPlay, keeps_by, spares_by}
-use Rattle.af_playing.specs.PlayedRuns.{AtLimit, HandedBack, HandsBackRun, HasStoreCause, LeavesRun, all_ended, is_limit}
+use Rattle.af_playing.specs.PlayKept.{Answers, IsCutPlay, IsDonePlay, KeepsFiles, KeepsPlay, TellsItsRun}
+use Rattle.af_playing.specs.PlayedRuns.{AtLimit, HandedBack, HandsBackRun, HasStoreCause, KeepsPromises, LeavesRun, all_ended, is_limit}
 use Rattle.af_playing.specs.PlayedAlone.{IsToldAlone}
-use Rattle.af_playing.specs.Spelled.{CallsStandOnce, PushesStandOnce, ReleasedAsTold}
+use Rattle.af_playing.specs.Spelled.{CallsStandOnce, NoneOlder, PushesStandOnce, ReleasedAsTold}
 use Rattle.af_playing.specs.PlayedStages.{HasPlayed}
+use Rattle.af_rendering.specs.Hostile.{PokesSpareOthers}
+use Rattle.af_session.specs.Shown.{shown_by, summary_told}
 use Rattle.af_session.specs.Together.{SessionState}
+use Rattle.af_told_law.specs.KeptEnds.{KeepsLists}
 use Rattle.af_tally.specs.Sound.{pcm_of}
 use Rattle.af_rendering.proofs.JournalSound.{journal_sounds}
 use Rattle.af_playing.proofs.ListsKept.{lists_kept}
 use Rattle.af_playing.proofs.NeverOlder.{none_older}
 use Rattle.af_playing.proofs.PlayCauses.{cause_behind}
-use Rattle.af_playing.proofs.PlayAnswers.{at_fault, cause_cut, cut_by, cut_off, handed, hands_back, if_ok_always, if_ok_one, if_ok_three, leaves, never_limited, off_limit, older_by}
+use Rattle.af_playing.proofs.PlayAnswers.{at_fault, cause_cut, cut_by, cut_off, handed, handed_two, hands_back, if_ok_always, if_ok_one, if_ok_three, leaves, limit_two, never_limited, off_limit}
 use Rattle.af_playing.proofs.RunPushed.{pushes_stand_once}
 use Rattle.af_playing.proofs.RunReleased.{released_as_told}
 use Rattle.af_playing.proofs.RunSpelled.{calls_stand_once}
@@ -51,24 +50,10 @@ module _ (script : ScriptData) (files : List (List Frame)) where
   keeps_none (Err x) f calm is =
       let never : is_limit x ≡ false = ap is_limit is ∙ calm in
       record {
-        played = tt;
-        limit = off_limit {T = Played} (Err x) (HandsBackRun false script files) never;
-        legal = tt;
-        fates = tt;
-        unshut = tt;
-        drained = tt;
-        settled = tt;
-        emptied = tt;
-        cut_run = off_limit {T = Played} (Err x) (cut_by script files) never;
+        done = tt;
+        limit = off_limit {T = Played} (Err x) (IsCutPlay script files) never;
+        run = off_limit {T = Played} (Err x) (TellsItsRun script files) never;
         enough = (λ enough. off_limit {T = Played} (Err x) (λ (j : JournalData) (e : EndsState). ⊥) never);
-        summary = tt;
-        alone = off_limit {T = Played} (Err x) (IsToldAlone script files) never;
-        calls = off_limit {T = Played} (Err x) CallsStandOnce never;
-        released = off_limit {T = Played} (Err x) ReleasedAsTold never;
-        pushes = off_limit {T = Played} (Err x) PushesStandOnce never;
-        never_older = off_limit {T = Played} (Err x) older_by never;
-        spared = off_limit {T = Played} (Err x) (spares_by script.frames) never;
-        kept = off_limit {T = Played} (Err x) (keeps_by script files) never;
       }
 
   -- and the file is left
@@ -84,6 +69,26 @@ module _ (script : ScriptData) (files : List (List Frame)) where
       }
 
 -- ## By the stage that was played
+
+-- the promises of a play that is done follow of its legal journal
+promises_kept : (script : ScriptData) (files : List (List Frame)) → IsScript script → ((journal : JournalData) → IsLegalRun script files journal → EachDrainedTrackReachedItsStop script files journal) → (j : JournalData) → IsLegalRun script files j → KeepsPromises script files j
+promises_kept script files is law j legal = record {
+  legal = legal;
+  fates = frames-have-fates script files j legal;
+  unshut = lawful-blocks-are-spared script files j is legal;
+  drained = law j legal;
+  settled = settled script files j is legal;
+  emptied = pipe-is-emptied script files j is legal;
+}
+
+-- what a journal tells of its run whether it is legal or not: all but the summary
+record RestTold (script : ScriptData) (files : List (List Frame)) (journal : JournalData) (ends : EndsState) : Type 0 where
+  calls : CallsStandOnce journal ends
+  released : ReleasedAsTold journal ends
+  pushes : PushesStandOnce journal ends
+  never_older : NoneOlder journal
+  spared : PokesSpareOthers (shown_by script.frames journal ends.normal.mutator.past.events)
+  kept : KeepsLists (run_of script files journal) ends
 
 module _ (script : ScriptData) (files : List (List Frame)) (s : Stage) (r : Result Played PlayFault) (have : HasPlayed script files s) (a : Answers script files s r) where
   abbrev t : SessionState
@@ -104,9 +109,6 @@ module _ (script : ScriptData) (files : List (List Frame)) (s : Stage) (r : Resu
   handed_on : (P : JournalData → EndsState → Type 0) → P j (ends_from t) → HandedBack P r
   handed_on P p = handed P r (all_ended t ≡ false) j (ends_from t) p a.journal a.ends a.cut
 
-  lawful : (P : Played → Type 0) → ((p : Played) → IsLegalRun script files p.journal → P p) → IfOk r P
-  lawful P f = if_ok_one (λ (p : Played). IsLegalRun script files p.journal) P r f a.legal
-
   played_on : IfOk r (λ (p : Played). HandsBackRun true script files p.journal p.ends)
   played_on = if_ok_three (λ (p : Played). all_ended t ≡ true) (λ (p : Played). p.journal ≡ j) (λ (p : Played). p.ends ≡ ends_from t) (λ (p : Played). HandsBackRun true script files p.journal p.ends) r
       (λ p ended journal ends. run true ended p.journal p.ends journal ends) a.ended a.journal a.ends
@@ -114,26 +116,25 @@ module _ (script : ScriptData) (files : List (List Frame)) (s : Stage) (r : Resu
   limited : IfErr r (AtLimit (HandsBackRun false script files))
   limited = cut_off (HandsBackRun false script files) r (all_ended t ≡ false) j (ends_from t) (λ ended. run false ended j (ends_from t) refl refl) a.cut
 
+  rest_told : RestTold script files j (ends_from t)
+  rest_told = record {
+    calls = calls_stand_once (all_ended t) script files j (ends_from t) back;
+    released = released_as_told (all_ended t) script files j (ends_from t) back;
+    pushes = pushes_stand_once (all_ended t) script files j (ends_from t) back;
+    never_older = none_older script files noted t have.all have.noted.whole;
+    spared = spares_told script.frames noted t.fast.log t.normal.mutator.past.events j (ends_from t) have.noted.whole refl refl have.noted.spared;
+    kept = lists_kept (all_ended t) script files j (ends_from t) back;
+  }
+
   pub keeps : IsScript script → ((journal : JournalData) → IsLegalRun script files journal → EachDrainedTrackReachedItsStop script files journal) → KeepsPlay script files r
   keeps is law = record {
-    played = played_on;
-    limit = limited;
-    legal = a.legal;
-    fates = lawful (λ (p : Played). EachFrameHasOneFate script files p.journal) (λ p legal. frames-have-fates script files p.journal legal);
-    unshut = lawful (λ (p : Played). EachLawfulBlockIsSpared script files p.journal) (λ p legal. lawful-blocks-are-spared script files p.journal is legal);
-    drained = lawful (λ (p : Played). EachDrainedTrackReachedItsStop script files p.journal) (λ p legal. law p.journal legal);
-    settled = lawful (λ (p : Played). SettledMeansKept script files p.journal) (λ p legal. settled script files p.journal is legal);
-    emptied = lawful (λ (p : Played). PipeIsEmptied script files p.journal) (λ p legal. pipe-is-emptied script files p.journal is legal);
-    cut_run = a.cut_run;
+    done = if_ok_three (λ (p : Played). HandsBackRun true script files p.journal p.ends) (λ (p : Played). IsLegalRun script files p.journal) (λ (p : Played). p.summary ≡ summary_told script.frames p.journal p.ends) (IsDonePlay script files) r
+        (λ p back legal summary. record { played = back; promises = promises_kept script files is law p.journal legal; summary = summary }) played_on a.legal a.summary;
+    limit = limit_two r (HandsBackRun false script files) (cut_by script files) (IsCutPlay script files) (λ journal ends back cut. record { played = back; cut_run = cut }) limited a.cut_run;
+    run = handed_two (IsToldAlone script files) (RestTold script files) (TellsItsRun script files) r
+        (λ journal ends alone rest. record { alone = alone; calls = rest.calls; released = rest.released; pushes = rest.pushes; never_older = rest.never_older; spared = rest.spared; kept = rest.kept })
+        (alone_kept script files r played_on limited a.legal a.cut_run) (handed_on (RestTold script files) rest_told);
     enough = (λ enough. never_limited r (HandsBackRun false script files) (never_cut_off script files is enough) limited);
-    summary = a.summary;
-    alone = alone_kept script files r played_on limited a.legal a.cut_run;
-    calls = handed_on CallsStandOnce (calls_stand_once (all_ended t) script files j (ends_from t) back);
-    released = handed_on ReleasedAsTold (released_as_told (all_ended t) script files j (ends_from t) back);
-    pushes = handed_on PushesStandOnce (pushes_stand_once (all_ended t) script files j (ends_from t) back);
-    never_older = handed_on older_by (none_older script files noted t have.all have.noted.whole);
-    spared = handed_on (spares_by script.frames) (spares_told script.frames noted t.fast.log t.normal.mutator.past.events j (ends_from t) have.noted.whole refl refl have.noted.spared);
-    kept = handed_on (keeps_by script files) (lists_kept (all_ended t) script files j (ends_from t) back);
   }
 
   module _ (name : List ℕ) (old new : Files) (set : SetsFile old name (Some (pcm_of script.frames t.fast.log)) new) where

@@ -14,7 +14,6 @@ use Rattle.af_rendering.specs.declared.rendering.Played.{Played}
 use Rattle.af_playing.specs.declared.answering.PlayFault.{PlayFault}
 use Rattle.af_playing.specs.declared.answering.PlayFault.TheVariants as fault
 use Rattle.af_playing.specs.PlayedRuns.{AtFault, AtLimit, HandedBack, HandsBackRun, HasStoreCause, LeavesRun, Plays, all_ended, fault_of, is_full, is_limit}
-use Rattle.af_playing.specs.Spelled.{NoneOlder}
 use Rattle.af_session.specs.Together.{SessionState}
 use Rattle.af_tally.specs.Sound.{pcm_of}
 use Rattle.af_rendering.proofs.NotedRounds.{left_whole}
@@ -111,6 +110,19 @@ module _ {T : Type 0} (r : Result T PlayFault) where
       by_answer (Ok y) is = tt
       by_answer (Err f) is = by_fault f is
 
+  -- what follows of two things that are so at the limit is so there
+  pub limit_two : (P Q R : JournalData → EndsState → Type 0) → ((journal : JournalData) (ends : EndsState) → P journal ends → Q journal ends → R journal ends) → IfErr r (AtLimit P) → IfErr r (AtLimit Q) → IfErr r (AtLimit R)
+  limit_two P Q R follows = by_answer r
+    where
+      by_fault : (f : PlayFault) → AtLimit P f → AtLimit Q f → AtLimit R f
+      by_fault fault.Store p q = tt
+      by_fault fault.Memory p q = tt
+      by_fault (fault.CycleLimit journal ends) p q = follows journal ends p q
+
+      by_answer : (x : Result T PlayFault) → IfErr x (AtLimit P) → IfErr x (AtLimit Q) → IfErr x (AtLimit R)
+      by_answer (Ok y) p q = tt
+      by_answer (Err f) p q = by_fault f p q
+
   -- what is so anyway is so after a fault
   pub at_fault : (P : Type 0) → P → IfErr r (AtFault P)
   at_fault P p = by_answer r
@@ -185,6 +197,13 @@ handed P (Ok p) A j e is journal ends cut = subst (λ (x : JournalData × EndsSt
 handed P (Err f) A j e is journal ends (more, inl cut) = subst (AtLimit P) (sym cut) is
 handed P (Err f) A j e is journal ends (more, inr want) = subst (AtLimit P) (sym want) tt
 
+-- so is what follows of two such things
+pub handed_two : (P Q R : JournalData → EndsState → Type 0) (r : Result Played PlayFault) → ((journal : JournalData) (ends : EndsState) → P journal ends → Q journal ends → R journal ends) → HandedBack P r → HandedBack Q r → HandedBack R r
+handed_two P Q R (Ok p) follows a b = follows p.journal p.ends a b
+handed_two P Q R (Err fault.Store) follows a b = tt
+handed_two P Q R (Err fault.Memory) follows a b = tt
+handed_two P Q R (Err (fault.CycleLimit journal ends)) follows a b = follows journal ends a b
+
 -- nothing is after want of memory or a fault of the store
 pub none_handed : (P : JournalData → EndsState → Type 0) (r : Result Played PlayFault) (fault : PlayFault) → is_limit fault ≡ false → IsErrAnd r (λ f. f ≡ fault) → HandedBack P r
 none_handed P (Ok p) fault not is = absurd is
@@ -195,10 +214,6 @@ memory_handed P r is = none_handed P r fault.Memory refl is
 
 pub store_handed : (P : JournalData → EndsState → Type 0) (r : Result Played PlayFault) (e : StoreError) → IsErrAnd r (λ f. f ≡ fault_of e) → HandedBack P r
 store_handed P r e is = none_handed P r (fault_of e) (limits_not e) is
-
--- what a journal tells of the states that its cycles used
-abbrev pub older_by : JournalData → EndsState → Type 0
-older_by j e = NoneOlder j
 
 -- what a journal is of a run that was cut off
 abbrev pub cut_by : ScriptData → List (List Frame) → JournalData → EndsState → Type 0

@@ -4,3 +4,4 @@ pub mod PlayedAlone
 pub mod InTime
 pub mod PlayedStages
 pub mod PlayKept
+pub mod Pieces

@@ -1,12 +1,9 @@
 -- What a play answers, by the stage that was played; and what is promised of each answer, whatever the store.
-use Rattle.std.specs.Prelude.{◌≡◌, ◌⊎◌, ℕ, true, false, List, Some, Result, IfErr, IfOk}
+use Rattle.std.specs.Prelude.{◌≡◌, ◌⊎◌, ◌≤◌, ◌++◌, ℕ, true, false, List, Option, Some, Result, IfErr, IfOk}
 use Rattle.af_base.specs.declared.frame.Frame.{Frame}
-use Rattle.af_audit.specs.Drained.{EachDrainedTrackReachedItsStop}
-use Rattle.af_audit.specs.Emptied.{PipeIsEmptied}
-use Rattle.af_audit.specs.Fates.{EachFrameHasOneFate}
-use Rattle.af_audit.specs.Settled.{SettledMeansKept}
-use Rattle.af_audit.specs.Spared.{EachLawfulBlockIsSpared}
 use Rattle.af_enough.specs.Enough.{HasEnoughCycles}
+use Rattle.af_nblog.specs.declared.entries.Note.{Note}
+use Rattle.af_nblog.specs.LogText.{log_text}
 use Rattle.af_model.specs.Journals.{JournalData, journal_of}
 use Rattle.af_io.specs.Files.{Files, SetsFile}
 use Rattle.af_runs.specs.LegalRuns.{IsCutRun, IsLegalRun, run_of}
@@ -18,8 +15,9 @@ use Rattle.af_playing.specs.declared.answering.PlayFault.TheVariants as fault
 use Rattle.af_rendering.specs.declared.rendering.Played.{Played}
 use Rattle.af_rendering.specs.declared.staging.Stage.{Stage}
 use Rattle.af_session.specs.Ends.{EndsState, ends_from}
+use Rattle.af_side_by_side.specs.Logging.{IsLogOf, LoggingState, TellsLog}
 use Rattle.af_rendering.specs.Hostile.{PokesSpareOthers}
-use Rattle.af_playing.specs.PlayedRuns.{AtFault, AtLimit, HandedBack, HandsBackRun, LeavesRun, all_ended}
+use Rattle.af_playing.specs.PlayedRuns.{AtFault, AtLimit, HandedBack, HandsBackRun, KeepsPromises, LeavesRun, all_ended}
 use Rattle.af_session.specs.Shown.{shown_by, summary_told}
 use Rattle.af_told_law.specs.KeptEnds.{KeepsLists}
 use Rattle.af_playing.specs.PlayedAlone.{IsToldAlone}
@@ -36,34 +34,37 @@ pub record Answers (script : ScriptData) (files : List (List Frame)) (s : Stage)
   pub cut : IfErr result (λ f. (all_ended s.parties ≡ false) × ((f ≡ fault.CycleLimit (journal_of s.rounds s.parties.fast.log) (ends_from s.parties)) ⊎ (f ≡ fault.Memory)))
   pub cut_run : IfErr result (AtLimit (λ journal _. IsCutRun script files journal))
 
--- what a journal and the ends tell of the tracks that were spared
-abbrev pub spares_by : ℕ → JournalData → EndsState → Type 0
-spares_by len j e = PokesSpareOthers (shown_by len j e.normal.mutator.past.events)
+-- ## What is promised of a play, whatever the store
 
--- the ends keep the lists of the run that the journal tells
-abbrev pub keeps_by : ScriptData → List (List Frame) → JournalData → EndsState → Type 0
-keeps_by script files j e = KeepsLists (run_of script files j) e
+-- What is promised where all parties have ended: their run is handed back, its journal by itself keeps the promises of a play that is done, and its summary is that of the journal and the ends
+pub record IsDonePlay (script : ScriptData) (files : List (List Frame)) (p : Played) : Type 0 where
+  pub played : HandsBackRun true script files p.journal p.ends
+  pub promises : KeepsPromises script files p.journal
+  pub summary : p.summary ≡ summary_told script.frames p.journal p.ends
 
--- What is promised of a play's answer, whatever the store: each field is a clause of `play`
+-- What is promised where the log was full first: the run so far is handed back, and its journal by itself is that of a cut run
+pub record IsCutPlay (script : ScriptData) (files : List (List Frame)) (journal : JournalData) (ends : EndsState) : Type 0 where
+  pub played : HandsBackRun false script files journal ends
+  pub cut_run : IsCutRun script files journal
+
+-- What a journal that is handed back tells of its run, and the ends with it: the summary is that of the journal alone, each client's calls and each state pushed stand once in it, each client released as many frames as its calls put there, no cycle uses a state older than one before it, each track that nobody poked is spared, and the ends keep the lists of the run that it tells
+pub record TellsItsRun (script : ScriptData) (files : List (List Frame)) (journal : JournalData) (ends : EndsState) : Type 0 where
+  pub alone : IsToldAlone script files journal ends
+  pub calls : CallsStandOnce journal ends
+  pub released : ReleasedAsTold journal ends
+  pub pushes : PushesStandOnce journal ends
+  pub never_older : NoneOlder journal
+  pub spared : PokesSpareOthers (shown_by script.frames journal ends.normal.mutator.past.events)
+  pub kept : KeepsLists (run_of script files journal) ends
+
+-- All that is promised of a play's answer: of one that is done, of one that was cut off, of the journal in both, and that a script with enough cycles is never cut off
 pub record KeepsPlay (script : ScriptData) (files : List (List Frame)) (result : Result Played PlayFault) : Type 0 where
-  pub played : IfOk result (λ p. HandsBackRun true script files p.journal p.ends)
-  pub limit : IfErr result (AtLimit (HandsBackRun false script files))
-  pub legal : IfOk result (λ p. IsLegalRun script files p.journal)
-  pub fates : IfOk result (λ p. EachFrameHasOneFate script files p.journal)
-  pub unshut : IfOk result (λ p. EachLawfulBlockIsSpared script files p.journal)
-  pub drained : IfOk result (λ p. EachDrainedTrackReachedItsStop script files p.journal)
-  pub settled : IfOk result (λ p. SettledMeansKept script files p.journal)
-  pub emptied : IfOk result (λ p. PipeIsEmptied script files p.journal)
-  pub cut_run : IfErr result (AtLimit (λ journal _. IsCutRun script files journal))
+  pub done : IfOk result (IsDonePlay script files)
+  pub limit : IfErr result (AtLimit (IsCutPlay script files))
+  pub run : HandedBack (TellsItsRun script files) result
   pub enough : HasEnoughCycles script → IfErr result (AtLimit (λ journal ends. ⊥))
-  pub summary : IfOk result (λ p. p.summary ≡ summary_told script.frames p.journal p.ends)
-  pub alone : HandedBack (IsToldAlone script files) result
-  pub calls : HandedBack CallsStandOnce result
-  pub released : HandedBack ReleasedAsTold result
-  pub pushes : HandedBack PushesStandOnce result
-  pub never_older : HandedBack (λ journal _. NoneOlder journal) result
-  pub spared : HandedBack (spares_by script.frames) result
-  pub kept : HandedBack (keeps_by script files) result
+
+-- ## What is promised of its file
 
 -- What is promised of the file of a play: where all have ended, or the log was full first, it holds the sound of the journal; where the store or memory failed it is as before or holds a front of the sound of some first rounds. The whole sound is such a front
 pub record KeepsFiles (script : ScriptData) (files : List (List Frame)) (name : List ℕ) (old new : Files) (result : Result Played PlayFault) : Type 0 where
@@ -71,3 +72,17 @@ pub record KeepsFiles (script : ScriptData) (files : List (List Frame)) (name : 
   pub cut : IfErr result (AtLimit (λ journal _. SetsFile old name (Some (journal_pcm script.frames journal)) new))
   pub left : IfErr result (AtFault (LeavesRun script files name old new))
   pub left_whole : IfOk result (λ _. LeavesRun script files name old new)
+
+-- ## What is promised of its log
+
+-- a log with this room is kept of the journal of what was played, or none is
+abbrev pub TellsLogOf : Option ℕ → ℕ → Result Played PlayFault → LoggingState → Type 0
+TellsLogOf kept frames played l = IfOk played (λ p. TellsLog kept frames p.journal l)
+
+-- the text of a log of this journal stands behind another text; with room for 32 notes none was refused
+abbrev pub AppendsLogOf : (frames room : ℕ) → JournalData → List ℕ → List ℕ → Type 0
+AppendsLogOf frames room j text text' = (notes : List Note) × (refused : ℕ) × IsLogOf frames room j notes refused × (text' ≡ text ++ log_text notes refused) × (32 ≤ room → refused ≡ 0)
+
+-- so does that of the journal of what was played
+abbrev pub AppendsLogOfPlay : (frames room : ℕ) → Result Played PlayFault → List ℕ → List ℕ → Type 0
+AppendsLogOfPlay frames room played text text' = IfOk played (λ p. AppendsLogOf frames room p.journal text text')

@@ -1,34 +1,22 @@
 //! A script's rounds from first to last, in which each party is on its own.
-ghost use Rattle.std.specs.Prelude.{◌≡◌, ◌≤◌, ◌++◌, ℕ, List, [], Option, Some, true, false, Err, IfErr, IfOk, OnErr, OnOk};
+ghost use Rattle.std.specs.Prelude.{◌≡◌, ◌≤◌, ℕ, List, [], Option, Some, Err, IfErr, IfOk, OnErr, OnOk};
 ghost use Rattle.af_io.specs.Causes.{HasCause};
 ghost use Rattle.af_io.specs.Files.{Files, LeavesFront, SetsFile};
 ghost use Rattle.af_model.specs.Journals.{RoundNoted};
-ghost use Rattle.af_nblog.specs.LogText.{log_text};
-ghost use Rattle.af_nblog.specs.declared.entries.Note.{Note as SomeNote};
-ghost use Rattle.af_playing.specs.declared.answering.PlayFault.TheVariants.{Memory as MemoryFault};
-ghost use Rattle.af_rendering.specs.Hostile.{PokesSpareOthers};
-ghost use Rattle.af_side_by_side.specs.Logging.{BeginsLog, HasLogOf, IsLogOf, LogsPlay, TellsLog};
 ghost use Rattle.af_enough.specs.Enough.{HasEnoughCycles};
-ghost use Rattle.af_audit.specs.Drained.{EachDrainedTrackReachedItsStop};
-ghost use Rattle.af_audit.specs.Emptied.{PipeIsEmptied};
-ghost use Rattle.af_audit.specs.Fates.{EachFrameHasOneFate};
-ghost use Rattle.af_audit.specs.Settled.{SettledMeansKept};
-ghost use Rattle.af_audit.specs.Spared.{EachLawfulBlockIsSpared};
-ghost use Rattle.af_runs.specs.LegalRuns.{IsCutRun, IsLegalRun, run_of};
-ghost use Rattle.af_playing.specs.PlayedRuns.{AtFault, AtLimit, HandedBack, HandsBackRun, HasStoreCause, LeavesRun, Plays};
-ghost use Rattle.af_playing.specs.PlayKept.{KeepsFiles, KeepsPlay};
-ghost use Rattle.af_rendering.specs.Rendered.{HaveFiles};
-ghost use Rattle.af_session.specs.Shown.{shown_by, summary_told};
-ghost use Rattle.af_told_law.specs.KeptEnds.{KeepsLists};
-ghost use Rattle.af_rendering.specs.Stages.{IsNewStage};
-ghost use Rattle.af_playing.specs.PlayedStages.{HasPlayed};
-ghost use Rattle.af_tally.specs.Sound.{pcm_of};
-ghost use Rattle.af_runs.specs.Pcm.{journal_pcm};
+ghost use Rattle.af_playing.specs.declared.answering.PlayFault.TheVariants.{Memory as MemoryFault};
 ghost use Rattle.af_playing.specs.InTime.{EndsInTime};
-ghost use Rattle.af_playing.specs.PlayedAlone.{IsToldAlone};
-ghost use Rattle.af_playing.specs.Spelled.{CallsStandOnce, NoneOlder, PushesStandOnce, ReleasedAsTold};
+ghost use Rattle.af_playing.specs.PlayedRuns.{AtLimit, HandedBack, HasStoreCause, LeavesRun, Plays};
+ghost use Rattle.af_playing.specs.PlayedStages.{HasPlayed};
+ghost use Rattle.af_playing.specs.Pieces.{given_by};
+ghost use Rattle.af_playing.specs.PlayKept.{AppendsLogOfPlay, IsCutPlay, IsDonePlay, KeepsFiles, KeepsPlay, TellsItsRun, TellsLogOf};
+ghost use Rattle.af_rendering.specs.Rendered.{HaveFiles};
+ghost use Rattle.af_rendering.specs.Stages.{IsNewStage};
+ghost use Rattle.af_side_by_side.specs.Logging.{BeginsLog, HasLogOf, LogsPlay};
+ghost use Rattle.af_tally.specs.Sound.{pcm_of};
 
 use crate::answering::{PlayFault, answer};
+use crate::piece::Piece;
 use crate::playing_of_all::play_to_end;
 use af_audit::drained_tracks_have_reached_their_stop;
 use af_base::Memory;
@@ -120,27 +108,33 @@ fn play_made<R: Threads + Sync, S: Store, G: Gate>(
 fn play_with<R: Threads + Sync, S: Store, G: Gate>(
     rt: &R,
     alloc: Global,
-    script: &Script,
-    files: &[Pcm],
+    piece: &Piece<'_>,
     store: &mut S,
-    name: &str,
     logging: &mut Logging,
     gate: &G,
 ) -> Result<Played, PlayFault>
-    requires files { HaveFiles (record { tracks = script.now.tracks; files = files.now }) }
-    requires log { (kept : Option ℕ) × BeginsLog kept script.now.cycles logging.old }
-    ensures keeps { KeepsPlay script.now files.now result }
-    ensures files { S.told store.old → KeepsFiles script.now files.now name.now (S.files store.old) (S.files store.new) result }
+    requires files { HaveFiles (given_by piece.now) }
+    requires log { (kept : Option ℕ) × BeginsLog kept piece.now.script.now.cycles logging.old }
+    ensures keeps { KeepsPlay piece.now.script.now piece.now.files.now result }
+    ensures files { S.told store.old → KeepsFiles piece.now.script.now piece.now.files.now piece.now.name.now (S.files store.old) (S.files store.new) result }
     ensures tells { S.told store.old → S.told store.new }
     ensures cause { HasStoreCause (S.faults store.old) (S.faults store.new) result }
-    ensures log { (kept : Option ℕ) → BeginsLog kept script.now.cycles logging.old → IfOk result (λ p. TellsLog kept script.now.frames p.journal logging.new) }
+    ensures log { (kept : Option ℕ) → BeginsLog kept piece.now.script.now.cycles logging.old → TellsLogOf kept piece.now.script.now.frames result logging.new }
 {
     drained_tracks_have_reached_their_stop();
-    let mut stage = Stage::make(alloc, script)?;
+    let mut stage = Stage::make(alloc, piece.script)?;
     match play_made(
-        &mut stage, rt, alloc, script, files, store, name, logging, gate,
+        &mut stage,
+        rt,
+        alloc,
+        piece.script,
+        piece.files,
+        store,
+        piece.name,
+        logging,
+        gate,
     ) {
-        Ok(()) => answer(stage, alloc, script, files),
+        Ok(()) => answer(stage, alloc, piece.script, piece.files),
         Err(error) => {
             drop(stage);
             Err(PlayFault::from(error))
@@ -148,48 +142,30 @@ fn play_with<R: Threads + Sync, S: Store, G: Gate>(
     }
 }
 
-/// Plays a script in rounds. In each every party that has not ended makes one turn, on a thread of its own where one can be made: each client, the normal mixer, and the fast mixer, which makes sixteen cycles, or fewer after one that isn't mixed. Then all parties meet. A party's turn begins at the gate, by its number: the clients' are those of their tracks, and the mixers' come behind. The sound goes to the file of this name, round by round. All blocks, logs and mixers are made before the file is; the rounds are noted as they are played. It makes at most as many rounds as the script has cycles.
+/// Plays a script in rounds. In each every party that has not ended makes one turn, on a thread of its own where one can be made: each client, the normal mixer, and the fast mixer, which makes sixteen cycles, or fewer after one that isn't mixed. Then all parties meet. A party's turn begins at the gate, by its number: the clients' are those of their tracks, and the mixers' come behind. The sound goes to the file of the piece, round by round. All blocks, logs and mixers are made before the file is; the rounds are noted as they are played. It makes at most as many rounds as the script has cycles.
 ///
-/// Whatever the threads did, what was played is a run of the script and its files, of rounds of all parties, whose journal is handed back: in it each client's calls and each state pushed stand once, in their order, each client has released as many frames as its calls put there, and no cycle uses a state older than one before it. The summary is that of the journal alone. The lists that the ends handed back keep are those of the run that the journal tells (`kept`): of the clients' proxies, of the queue's mutator, of the report's reader, of the pipe's end, and of the proxies that the normal mixer holds, where no poke was made. Where the store tells it the file is the sound of the journal. Whatever clients stored in their words, each track on whose blocks nothing was poked is spared: no call of its client was answered Corrupt, and no look of the normal mixer at its blocks was Shut. Ok says that all parties have ended, CycleLimit that the log is full and some party has not; so after each round but the last some party goes on and the log has room. After a fault no file has changed, or the file holds a front of the sound of some first rounds.
+/// Whatever the threads did, what was played is a run of the script and its files, of rounds of all parties, whose journal is handed back (`HandsBackRun`). Ok says that all parties have ended (`done`), CycleLimit that the log is full and some party has not (`limit`); so after each round but the last some party goes on and the log has room. In both the journal tells its run (`run`): each client's calls and each state pushed stand in it once, in their order, each client has released as many frames as its calls put there, and no cycle uses a state older than one before it. The summary is that of the journal alone. The lists that the ends handed back keep are those of the run that the journal tells: of the clients' proxies, of the queue's mutator, of the report's reader, of the pipe's end, and of the proxies that the normal mixer holds, if no poke was made. Whatever clients stored in their words, each track on whose blocks nothing was poked is spared: no call of its client was answered Corrupt, and no look of the normal mixer at its blocks was Shut. Where the store tells it the file is the sound of the journal; after a fault no file has changed, or the file holds a front of the sound of some first rounds (`files`).
 ///
-/// By itself, whoever made it, the journal of Ok is that of a legal run of the script and its files (`legal`). In it each frame that a client without a poke released was mixed once, in its place, was discarded by one flush that was noticed, or is still queued (`fates`); nothing of such a track was found shut or corrupt (`unshut`); a track that is reported drained has reached the count of its last stop, at which its client had released so much (`drained`); and what a client releases after it saw a START settled is discarded by a later flush alone (`settled`). All that the normal mixer put into the pipe was taken from it and mixed (`emptied`). The journal after CycleLimit is that of a cut run (`cut_run`), and CycleLimit never comes to a script whose tracks play through and whose cycles are enough by the rule (`enough`): whatever its threads do, its rounds can't come to the end of the log with a party still going (`in_time`), so what was played to its end is Ok. That the journal of Ok is legal is a law on plays, whatever the threads did: nothing judges it. That of CycleLimit is judged before it is handed back, so only of a script without enough cycles: there Memory may also stand for one that was judged not to be that of a cut run, or that is longer than the judge counts (131,072 turns of the normal mixer). No play has come to either.
+/// By itself, whoever made it, the journal of Ok keeps the promises of a play that is done (`KeepsPromises`): it is that of a legal run of the script and its files, in which each frame that a client without a poke released was mixed once, in its place, was discarded by one flush that was noticed, or is still queued; nothing of such a track was found shut or corrupt; a track that is reported drained has reached the count of its last stop, at which its client had released so much; and what a client releases after it saw a START settled is discarded by a later flush alone. All that the normal mixer put into the pipe was taken from it and mixed. The journal after CycleLimit is that of a cut run, and CycleLimit never comes to a script whose tracks play through and whose cycles are enough by the rule (`enough`): whatever its threads do, its rounds can't come to the end of the log with a party still going (`in_time`), so what was played to its end is Ok. That the journal of Ok is legal is a law on plays, whatever the threads did: nothing judges it. That of CycleLimit is judged before it is handed back, so only of a script without enough cycles: there Memory may also stand for one that was judged not to be that of a cut run, or that is longer than the judge counts (131,072 turns of the normal mixer). No play has come to either.
 pub fn play<R: Threads + Sync, S: Store, G: Gate>(
     rt: &R,
     alloc: Global,
-    script: &Script,
-    files: &[Pcm],
+    piece: &Piece<'_>,
     store: &mut S,
-    name: &str,
     gate: &G,
 ) -> Result<Played, PlayFault>
-    requires { HaveFiles (record { tracks = script.now.tracks; files = files.now }) }
-    ensures played { IfOk result (λ p. HandsBackRun true script.now files.now p.journal p.ends) }
-    ensures limit { IfErr result (AtLimit (HandsBackRun false script.now files.now)) }
-    ensures legal { IfOk result (λ p. IsLegalRun script.now files.now p.journal) }
-    ensures fates { IfOk result (λ p. EachFrameHasOneFate script.now files.now p.journal) }
-    ensures unshut { IfOk result (λ p. EachLawfulBlockIsSpared script.now files.now p.journal) }
-    ensures drained { IfOk result (λ p. EachDrainedTrackReachedItsStop script.now files.now p.journal) }
-    ensures settled { IfOk result (λ p. SettledMeansKept script.now files.now p.journal) }
-    ensures emptied { IfOk result (λ p. PipeIsEmptied script.now files.now p.journal) }
-    ensures cut_run { IfErr result (AtLimit (λ journal _. IsCutRun script.now files.now journal)) }
-    ensures enough { HasEnoughCycles script.now → IfErr result (AtLimit (λ journal ends. ⊥)) }
-    ensures in_time { EndsInTime script.now files.now }
-    ensures summary { IfOk result (λ p. p.summary ≡ summary_told script.now.frames p.journal p.ends) }
-    ensures alone { HandedBack (IsToldAlone script.now files.now) result }
-    ensures calls { HandedBack CallsStandOnce result }
-    ensures released { HandedBack ReleasedAsTold result }
-    ensures pushes { HandedBack PushesStandOnce result }
-    ensures never_older { HandedBack (λ journal _. NoneOlder journal) result }
-    ensures spared { HandedBack (λ journal ends. PokesSpareOthers (shown_by script.now.frames journal ends.normal.mutator.past.events)) result }
-    ensures kept { HandedBack (λ journal ends. KeepsLists (run_of script.now files.now journal) ends) result }
-    ensures written { S.told store.old → IfOk result (λ p. SetsFile (S.files store.old) name.now (Some (journal_pcm script.now.frames p.journal)) (S.files store.new)) }
-    ensures cut { S.told store.old → IfErr result (AtLimit (λ journal _. SetsFile (S.files store.old) name.now (Some (journal_pcm script.now.frames journal)) (S.files store.new))) }
-    ensures left { S.told store.old → IfErr result (AtFault (LeavesRun script.now files.now name.now (S.files store.old) (S.files store.new))) }
+    requires { HaveFiles (given_by piece.now) }
+    ensures done { IfOk result (IsDonePlay piece.now.script.now piece.now.files.now) }
+    ensures limit { IfErr result (AtLimit (IsCutPlay piece.now.script.now piece.now.files.now)) }
+    ensures run { HandedBack (TellsItsRun piece.now.script.now piece.now.files.now) result }
+    ensures enough { HasEnoughCycles piece.now.script.now → IfErr result (AtLimit (λ journal ends. ⊥)) }
+    ensures in_time { EndsInTime piece.now.script.now piece.now.files.now }
+    ensures files { S.told store.old → KeepsFiles piece.now.script.now piece.now.files.now piece.now.name.now (S.files store.old) (S.files store.new) result }
     ensures tells { S.told store.old → S.told store.new }
     ensures cause { HasStoreCause (S.faults store.old) (S.faults store.new) result }
 {
     let mut logging = Logging::none(alloc)?;
-    play_with(rt, alloc, script, files, store, name, &mut logging, gate)
+    play_with(rt, alloc, piece, store, &mut logging, gate)
 }
 
 // Where all parties have ended, drains what is left of a log, and appends its text. Memory is its only refusal; `text` is then as before.
@@ -200,7 +176,7 @@ fn tell(
     text: &mut Vec<u8>,
 ) -> Result<(), Memory>
     requires told { IfOk played.now (λ p. (frames : ℕ) × (room : ℕ) × HasLogOf frames room p.journal logging.old) }
-    ensures log { (frames room : ℕ) → IfOk played.now (λ p. HasLogOf frames room p.journal logging.old) → OnOk result (IfOk played.now (λ p. (notes : List SomeNote) × (refused : ℕ) × IsLogOf frames room p.journal notes refused × (text.new.items ≡ text.old.items ++ log_text notes refused) × (32 ≤ room → refused ≡ 0))) }
+    ensures log { (n r : ℕ) → TellsLogOf (Some r) n played.now logging.old → OnOk result (AppendsLogOfPlay n r played.now text.old.items text.new.items) }
     ensures none { IfErr played.now (λ _. text.new.items ≡ text.old.items) }
     ensures unchanged { OnErr result (text.new.items ≡ text.old.items) }
     ensures memory { OnErr result (IfErr played.now (λ _. ⊥)) }
@@ -231,46 +207,27 @@ fn hand_on(played: Result<Played, PlayFault>, told: Result<(), Memory>) -> Resul
 pub fn play_logged<R: Threads + Sync, S: Store, G: Gate>(
     rt: &R,
     alloc: Global,
-    script: &Script,
-    files: &[Pcm],
+    piece: &Piece<'_>,
     store: &mut S,
-    name: &str,
     gate: &G,
     room: u32,
     text: &mut Vec<u8>,
 ) -> Result<Played, PlayFault>
-    requires files { HaveFiles (record { tracks = script.now.tracks; files = files.now }) }
-    requires some { 1 ≤ room }
-    requires few { room ≤ 1024 }
-    ensures played { IfOk result (λ p. HandsBackRun true script.now files.now p.journal p.ends) }
-    ensures limit { IfErr result (AtLimit (HandsBackRun false script.now files.now)) }
-    ensures legal { IfOk result (λ p. IsLegalRun script.now files.now p.journal) }
-    ensures fates { IfOk result (λ p. EachFrameHasOneFate script.now files.now p.journal) }
-    ensures unshut { IfOk result (λ p. EachLawfulBlockIsSpared script.now files.now p.journal) }
-    ensures drained { IfOk result (λ p. EachDrainedTrackReachedItsStop script.now files.now p.journal) }
-    ensures settled { IfOk result (λ p. SettledMeansKept script.now files.now p.journal) }
-    ensures emptied { IfOk result (λ p. PipeIsEmptied script.now files.now p.journal) }
-    ensures cut_run { IfErr result (AtLimit (λ journal _. IsCutRun script.now files.now journal)) }
-    ensures enough { HasEnoughCycles script.now → IfErr result (AtLimit (λ journal ends. ⊥)) }
-    ensures in_time { EndsInTime script.now files.now }
-    ensures summary { IfOk result (λ p. p.summary ≡ summary_told script.now.frames p.journal p.ends) }
-    ensures alone { HandedBack (IsToldAlone script.now files.now) result }
-    ensures calls { HandedBack CallsStandOnce result }
-    ensures released { HandedBack ReleasedAsTold result }
-    ensures pushes { HandedBack PushesStandOnce result }
-    ensures never_older { HandedBack (λ journal _. NoneOlder journal) result }
-    ensures spared { HandedBack (λ journal ends. PokesSpareOthers (shown_by script.now.frames journal ends.normal.mutator.past.events)) result }
-    ensures kept { HandedBack (λ journal ends. KeepsLists (run_of script.now files.now journal) ends) result }
-    ensures written { S.told store.old → IfOk result (λ p. SetsFile (S.files store.old) name.now (Some (journal_pcm script.now.frames p.journal)) (S.files store.new)) }
-    ensures cut { S.told store.old → IfErr result (AtLimit (λ journal _. SetsFile (S.files store.old) name.now (Some (journal_pcm script.now.frames journal)) (S.files store.new))) }
-    ensures left { S.told store.old → IfErr result (AtFault (LeavesRun script.now files.now name.now (S.files store.old) (S.files store.new))) }
+    requires files { HaveFiles (given_by piece.now) }
+    requires room { (1 ≤ room) × (room ≤ 1024) }
+    ensures done { IfOk result (IsDonePlay piece.now.script.now piece.now.files.now) }
+    ensures limit { IfErr result (AtLimit (IsCutPlay piece.now.script.now piece.now.files.now)) }
+    ensures run { HandedBack (TellsItsRun piece.now.script.now piece.now.files.now) result }
+    ensures enough { HasEnoughCycles piece.now.script.now → IfErr result (AtLimit (λ journal ends. ⊥)) }
+    ensures in_time { EndsInTime piece.now.script.now piece.now.files.now }
+    ensures files { S.told store.old → KeepsFiles piece.now.script.now piece.now.files.now piece.now.name.now (S.files store.old) (S.files store.new) result }
     ensures tells { S.told store.old → S.told store.new }
     ensures cause { HasStoreCause (S.faults store.old) (S.faults store.new) result }
-    ensures log { IfOk result (λ p. (notes : List SomeNote) × (refused : ℕ) × IsLogOf script.now.frames room p.journal notes refused × (text.new.items ≡ text.old.items ++ log_text notes refused) × (32 ≤ room → refused ≡ 0)) }
+    ensures log { AppendsLogOfPlay piece.now.script.now.frames room result text.old.items text.new.items }
     ensures unchanged { OnErr result (text.new.items ≡ text.old.items) }
 {
-    let mut logging = Logging::of(alloc, room, script.cycles())?;
-    let played = play_with(rt, alloc, script, files, store, name, &mut logging, gate);
+    let mut logging = Logging::of(alloc, room, piece.script.cycles())?;
+    let played = play_with(rt, alloc, piece, store, &mut logging, gate);
     let told = tell(&mut logging, alloc, &played, text);
     drop(logging);
     hand_on(played, told)

@@ -20,54 +20,16 @@ returns-clause-made g c = λ told.
     let p = c.play-played.ensures in
     let here : Loaded = record { script = c.args.loaded.now.script; files = c.deref.result.now } in
     let same : here ≡ loaded_view c.args.loaded.now = λ k. record { script = c.args.loaded.now.script; files = c.deref.ensures.value k } in
-    let keeps : KeepsPlay here.script here.files c.play-played.result = record {
-      played = p.played;
-      limit = p.limit;
-      legal = p.legal;
-      fates = p.fates;
-      unshut = p.unshut;
-      drained = p.drained;
-      settled = p.settled;
-      emptied = p.emptied;
-      cut_run = p.cut_run;
-      enough = p.enough;
-      summary = p.summary;
-      alone = p.alone;
-      calls = p.calls;
-      released = p.released;
-      pushes = p.pushes;
-      never_older = p.never_older;
-      spared = p.spared;
-      kept = p.kept;
-    } in
+    let keeps : KeepsPlay here.script here.files c.play-played.result = record { done = p.done; limit = p.limit; run = p.run; enough = p.enough } in
     subst (λ (l : Loaded). Makes c.tell-told.result (Ok (play_job c.args.target.now c.args.journal.now l)) old new) same
-    (Makes-told here c.is_accepted.ensures c.what_follows_of_rounds.ensures c.cycles.result c.cycles.ensures.value c.args.target.now c.args.journal.now old mid new c.play-played.result c.tell-told.result keeps (p.written told) (p.cut told) (p.left told)
+    (Makes-told here c.is_accepted.ensures c.what_follows_of_rounds.ensures c.cycles.result c.cycles.ensures.value c.args.target.now c.args.journal.now old mid new c.play-played.result c.tell-told.result keeps (p.files told)
     c.tell-told.ensures.told (c.tell-told.ensures.files (p.tells told)))
 
 pub returns-clause-line : goal.returns-clause-line
 returns-clause-line g c =
     let p = c.play-played.ensures in
     let here : Loaded = record { script = c.args.loaded.now.script; files = c.deref.result.now } in
-    let keeps : KeepsPlay here.script here.files c.play-played.result = record {
-      played = p.played;
-      limit = p.limit;
-      legal = p.legal;
-      fates = p.fates;
-      unshut = p.unshut;
-      drained = p.drained;
-      settled = p.settled;
-      emptied = p.emptied;
-      cut_run = p.cut_run;
-      enough = p.enough;
-      summary = p.summary;
-      alone = p.alone;
-      calls = p.calls;
-      released = p.released;
-      pushes = p.pushes;
-      never_older = p.never_older;
-      spared = p.spared;
-      kept = p.kept;
-    } in
+    let keeps : KeepsPlay here.script here.files c.play-played.result = record { done = p.done; limit = p.limit; run = p.run; enough = p.enough } in
     some_play_told here c.is_accepted.ensures c.what_follows_of_rounds.ensures c.cycles.result c.play-played.result c.tell-told.result keeps c.tell-told.ensures.told
 
 pub returns-clause-cause : goal.returns-clause-cause

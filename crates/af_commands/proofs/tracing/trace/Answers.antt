@@ -21,55 +21,17 @@ returns-clause-made g c = λ told.
     let p = c.play_logged-played.ensures in
     let here : Loaded = record { script = c.args.loaded.now.script; files = c.deref.result.now } in
     let same : here ≡ loaded_view c.args.loaded.now = λ k. record { script = c.args.loaded.now.script; files = c.deref.ensures.value k } in
-    let keeps : KeepsPlay here.script here.files c.play_logged-played.result = record {
-      played = p.played;
-      limit = p.limit;
-      legal = p.legal;
-      fates = p.fates;
-      unshut = p.unshut;
-      drained = p.drained;
-      settled = p.settled;
-      emptied = p.emptied;
-      cut_run = p.cut_run;
-      enough = p.enough;
-      summary = p.summary;
-      alone = p.alone;
-      calls = p.calls;
-      released = p.released;
-      pushes = p.pushes;
-      never_older = p.never_older;
-      spared = p.spared;
-      kept = p.kept;
-    } in
+    let keeps : KeepsPlay here.script here.files c.play_logged-played.result = record { done = p.done; limit = p.limit; run = p.run; enough = p.enough } in
     subst (λ (l : Loaded). Makes c.tell_with_log-told.result (Ok (trace_job c.args.target.now c.args.journal.now c.args.log.now c.args.room l)) old new) same
     (Makes-logged here c.is_accepted.ensures c.what_follows_of_rounds.ensures c.args.room c.args.target.now c.args.journal.now c.args.log.now old mid new c.deref-2.result.now c.play_logged-played.new.text.items c.new-text.result.items c.deref-2.ensures.value c.new-text.ensures.items
-    c.cycles-cycles.result c.cycles-cycles.ensures.value c.play_logged-played.result c.tell_with_log-told.result keeps (p.written told) (p.cut told) (p.left told) p.log
+    c.cycles-cycles.result c.cycles-cycles.ensures.value c.play_logged-played.result c.tell_with_log-told.result keeps (p.files told) p.log
     c.tell_with_log-told.ensures.told (c.tell_with_log-told.ensures.files (p.tells told)))
 
 pub returns-clause-line : goal.returns-clause-line
 returns-clause-line g c =
     let p = c.play_logged-played.ensures in
     let here : Loaded = record { script = c.args.loaded.now.script; files = c.deref.result.now } in
-    let keeps : KeepsPlay here.script here.files c.play_logged-played.result = record {
-      played = p.played;
-      limit = p.limit;
-      legal = p.legal;
-      fates = p.fates;
-      unshut = p.unshut;
-      drained = p.drained;
-      settled = p.settled;
-      emptied = p.emptied;
-      cut_run = p.cut_run;
-      enough = p.enough;
-      summary = p.summary;
-      alone = p.alone;
-      calls = p.calls;
-      released = p.released;
-      pushes = p.pushes;
-      never_older = p.never_older;
-      spared = p.spared;
-      kept = p.kept;
-    } in
+    let keeps : KeepsPlay here.script here.files c.play_logged-played.result = record { done = p.done; limit = p.limit; run = p.run; enough = p.enough } in
     some_play_told here c.is_accepted.ensures c.what_follows_of_rounds.ensures c.cycles-cycles.result c.play_logged-played.result c.tell_with_log-told.result keeps c.tell_with_log-told.ensures.told
 
 pub returns-clause-cause : goal.returns-clause-cause

@@ -21,37 +21,23 @@ tell-told-requires g c =
     let begins = subst (λ (n : ℕ). BeginsLog (Some c.args.room) n c.in_ok-logging.logging) c.cycles.ensures.value c.in_ok-logging.ensures in
     let logging = c.play_with-played.new.logging in
     record {
-      told = if_ok_one (λ (p : Played). HasLogOf c.args.script.now.frames c.args.room p.journal logging) (λ (p : Played). (frames : ℕ) × (room : ℕ) × HasLogOf frames room p.journal logging) c.play_with-played.result
-          (λ p log. (c.args.script.now.frames, c.args.room, log)) (c.play_with-played.ensures.log (Some c.args.room) begins);
+      told = if_ok_one (λ (p : Played). HasLogOf c.args.piece.now.script.now.frames c.args.room p.journal logging) (λ (p : Played). (frames : ℕ) × (room : ℕ) × HasLogOf frames room p.journal logging) c.play_with-played.result
+          (λ p log. (c.args.piece.now.script.now.frames, c.args.room, log)) (c.play_with-played.ensures.log (Some c.args.room) begins);
     }
 
 -- no room for the log
 pub returns-in_err-logging : goal.returns-in_err-logging
 returns-in_err-logging g c =
-    let keeps = keeps_none c.args.script.now c.args.files.now c.from_residual.result fault.Memory refl c.from_residual.ensures.1 in
+    let p = c.args.piece.now in
+    let old = g.S.Store.files c.args.store.now in
+    let keeps = keeps_none p.script.now p.files.now c.from_residual.result fault.Memory refl c.from_residual.ensures.1 in
     record {
-      played = keeps.played;
+      done = keeps.done;
       limit = keeps.limit;
-      legal = keeps.legal;
-      fates = keeps.fates;
-      unshut = keeps.unshut;
-      drained = keeps.drained;
-      settled = keeps.settled;
-      emptied = keeps.emptied;
-      cut_run = keeps.cut_run;
+      run = keeps.run;
       enough = keeps.enough;
-      in_time = ends_in_time c.args.script.now c.args.files.now;
-      summary = keeps.summary;
-      alone = keeps.alone;
-      calls = keeps.calls;
-      released = keeps.released;
-      pushes = keeps.pushes;
-      never_older = keeps.never_older;
-      spared = keeps.spared;
-      kept = keeps.kept;
-      written = (λ told. (files_none c.args.script.now c.args.files.now c.args.name.now (g.S.Store.files c.args.store.now) (g.S.Store.files c.args.store.now) c.from_residual.result fault.Memory refl c.from_residual.ensures.1 (inl (λ name. refl))).written);
-      cut = (λ told. (files_none c.args.script.now c.args.files.now c.args.name.now (g.S.Store.files c.args.store.now) (g.S.Store.files c.args.store.now) c.from_residual.result fault.Memory refl c.from_residual.ensures.1 (inl (λ name. refl))).cut);
-      left = (λ told. (files_none c.args.script.now c.args.files.now c.args.name.now (g.S.Store.files c.args.store.now) (g.S.Store.files c.args.store.now) c.from_residual.result fault.Memory refl c.from_residual.ensures.1 (inl (λ name. refl))).left);
+      in_time = ends_in_time p.script.now p.files.now;
+      files = (λ told. files_none p.script.now p.files.now p.name.now old old c.from_residual.result fault.Memory refl c.from_residual.ensures.1 (inl (λ name. refl)));
       tells = (λ told. told);
       cause = cause_memory c.from_residual.result (g.S.Store.faults c.args.store.now) c.from_residual.ensures.1;
       log = IfOk-from_err c.from_residual.result _ c.from_residual.ensures.0;
@@ -61,37 +47,22 @@ returns-in_err-logging g c =
 -- what was played
 pub returns : goal.returns
 returns g c =
+    let p = c.args.piece.now in
     let told = c.tell-told in
     let played = c.play_with-played in
     let done = c.hand_on in
     let begins = subst (λ (n : ℕ). BeginsLog (Some c.args.room) n c.in_ok-logging.logging) c.cycles.ensures.value c.in_ok-logging.ensures in
     let handed : IsHandedOn played.result done.result = handed_by told.result played.result done.result done.ensures.same done.ensures.memory told.ensures.memory in
-    let keeps = keeps_on c.args.script.now c.args.files.now played.result done.result handed played.ensures.keeps in
+    let keeps = keeps_on p.script.now p.files.now played.result done.result handed played.ensures.keeps in
     record {
-      played = keeps.played;
+      done = keeps.done;
       limit = keeps.limit;
-      legal = keeps.legal;
-      fates = keeps.fates;
-      unshut = keeps.unshut;
-      drained = keeps.drained;
-      settled = keeps.settled;
-      emptied = keeps.emptied;
-      cut_run = keeps.cut_run;
+      run = keeps.run;
       enough = keeps.enough;
-      in_time = ends_in_time c.args.script.now c.args.files.now;
-      summary = keeps.summary;
-      alone = keeps.alone;
-      calls = keeps.calls;
-      released = keeps.released;
-      pushes = keeps.pushes;
-      never_older = keeps.never_older;
-      spared = keeps.spared;
-      kept = keeps.kept;
-      written = (λ known. (files_on c.args.script.now c.args.files.now played.result done.result c.args.name.now (g.S.Store.files c.args.store.now) (g.S.Store.files played.new.store) handed (played.ensures.files known)).written);
-      cut = (λ known. (files_on c.args.script.now c.args.files.now played.result done.result c.args.name.now (g.S.Store.files c.args.store.now) (g.S.Store.files played.new.store) handed (played.ensures.files known)).cut);
-      left = (λ known. (files_on c.args.script.now c.args.files.now played.result done.result c.args.name.now (g.S.Store.files c.args.store.now) (g.S.Store.files played.new.store) handed (played.ensures.files known)).left);
+      in_time = ends_in_time p.script.now p.files.now;
+      files = (λ known. files_on p.script.now p.files.now played.result done.result p.name.now (g.S.Store.files c.args.store.now) (g.S.Store.files played.new.store) handed (played.ensures.files known));
       tells = played.ensures.tells;
-      cause = cause_on c.args.script.now c.args.files.now played.result done.result (g.S.Store.faults c.args.store.now) (g.S.Store.faults played.new.store) handed played.ensures.cause;
-      log = told_by told.result played.result done.result done.ensures.same done.ensures.memory _ (told.ensures.log c.args.script.now.frames c.args.room (played.ensures.log (Some c.args.room) begins));
+      cause = cause_on p.script.now p.files.now played.result done.result (g.S.Store.faults c.args.store.now) (g.S.Store.faults played.new.store) handed played.ensures.cause;
+      log = told_by told.result played.result done.result done.ensures.same done.ensures.memory _ (told.ensures.log p.script.now.frames c.args.room (played.ensures.log (Some c.args.room) begins));
       unchanged = kept_by told.result played.result done.result done.ensures.same done.ensures.memory _ told.ensures.none told.ensures.unchanged;
     }

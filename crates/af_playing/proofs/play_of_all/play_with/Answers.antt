@@ -14,12 +14,12 @@ use Rattle.af_playing.proofs.play_of_all.play_with.Goals as goal
 -- ## Where nothing was played
 
 pub returns-in_err-stage-clause-keeps : goal.returns-in_err-stage-clause-keeps
-returns-in_err-stage-clause-keeps g c = keeps_none c.args.script.now c.args.files.now c.from_residual.result fault.Memory refl c.from_residual.ensures.1
+returns-in_err-stage-clause-keeps g c = keeps_none c.args.piece.now.script.now c.args.piece.now.files.now c.from_residual.result fault.Memory refl c.from_residual.ensures.1
 
 pub returns-in_err-stage-clause-files : goal.returns-in_err-stage-clause-files
 returns-in_err-stage-clause-files g c = λ told.
     let files = g.S.Store.files c.args.store.now in
-    files_none c.args.script.now c.args.files.now c.args.name.now files files c.from_residual.result fault.Memory refl c.from_residual.ensures.1 (inl (λ name. refl))
+    files_none c.args.piece.now.script.now c.args.piece.now.files.now c.args.piece.now.name.now files files c.from_residual.result fault.Memory refl c.from_residual.ensures.1 (inl (λ name. refl))
 
 pub returns-in_err-stage-clause-cause : goal.returns-in_err-stage-clause-cause
 returns-in_err-stage-clause-cause g c = cause_memory c.from_residual.result (g.S.Store.faults c.args.store.now) c.from_residual.ensures.1
@@ -29,12 +29,12 @@ returns-in_err-stage-clause-cause g c = cause_memory c.from_residual.result (g.S
 pub returns-in-Err-clause-keeps : goal.returns-in-Err-clause-keeps
 returns-in-Err-clause-keeps g c =
     let e = c.in-Err.error in
-    keeps_none c.args.script.now c.args.files.now (Err c.from.result) (fault_of e) (limits_not e) c.from.ensures
+    keeps_none c.args.piece.now.script.now c.args.piece.now.files.now (Err c.from.result) (fault_of e) (limits_not e) c.from.ensures
 
 pub returns-in-Err-clause-files : goal.returns-in-Err-clause-files
 returns-in-Err-clause-files g c = λ told.
     let e = c.in-Err.error in
-    files_none c.args.script.now c.args.files.now c.args.name.now (g.S.Store.files c.args.store.now) (g.S.Store.files c.play_made.new.store) (Err c.from.result) (fault_of e) (limits_not e) c.from.ensures
+    files_none c.args.piece.now.script.now c.args.piece.now.files.now c.args.piece.now.name.now (g.S.Store.files c.args.store.now) (g.S.Store.files c.play_made.new.store) (Err c.from.result) (fault_of e) (limits_not e) c.from.ensures
     (c.in-Err.ensures.left told)
 
 pub returns-in-Err-clause-cause : goal.returns-in-Err-clause-cause
@@ -45,18 +45,18 @@ returns-in-Err-clause-cause g c =
 
 pub returns-in-Ok-clause-keeps : goal.returns-in-Ok-clause-keeps
 returns-in-Ok-clause-keeps g c =
-    let script = c.args.script.now in
-    let files = c.args.files.now in
+    let script = c.args.piece.now.script.now in
+    let files = c.args.piece.now.files.now in
     keeps script files c.play_made.new.stage c.answer.result c.in-Ok.ensures.played c.answer.ensures c.in_ok-stage.ensures.script_is (λ journal legal. c.drained_tracks_have_reached_their_stop.ensures script files journal c.in_ok-stage.ensures.script_is legal)
 
 pub returns-in-Ok-clause-files : goal.returns-in-Ok-clause-files
 returns-in-Ok-clause-files g c = λ told.
-    files_kept c.args.script.now c.args.files.now c.play_made.new.stage c.answer.result c.in-Ok.ensures.played c.answer.ensures c.args.name.now (g.S.Store.files c.args.store.now) (g.S.Store.files c.play_made.new.store)
+    files_kept c.args.piece.now.script.now c.args.piece.now.files.now c.play_made.new.stage c.answer.result c.in-Ok.ensures.played c.answer.ensures c.args.piece.now.name.now (g.S.Store.files c.args.store.now) (g.S.Store.files c.play_made.new.store)
     (c.in-Ok.ensures.written told)
 
 pub returns-in-Ok-clause-cause : goal.returns-in-Ok-clause-cause
 returns-in-Ok-clause-cause g c =
-    cause_kept c.args.script.now c.args.files.now c.play_made.new.stage c.answer.result c.in-Ok.ensures.played c.answer.ensures c.in-Ok.field-0 (g.S.Store.faults c.args.store.now) (g.S.Store.faults c.play_made.new.store)
+    cause_kept c.args.piece.now.script.now c.args.piece.now.files.now c.play_made.new.stage c.answer.result c.in-Ok.ensures.played c.answer.ensures c.in-Ok.field-0 (g.S.Store.faults c.args.store.now) (g.S.Store.faults c.play_made.new.store)
     c.in-Ok.ensures.cause
 
 -- ## The log
@@ -72,6 +72,6 @@ returns-in-Ok-clause-log g c = λ kept begins.
     let have = c.in-Ok.ensures.played in
     let fast = c.in_ok-stage.ensures.new.fast in
     let first = begins c.in_ok-stage.stage.parties.fast (ap (λ (m : MixerState). m.cycles) fast) (ap (λ (m : MixerState). m.log.entries) fast) in
-    if_ok_one (λ (p : Played). p.journal ≡ journal_of s.rounds s.parties.fast.log) (λ (p : Played). TellsLog kept c.args.script.now.frames p.journal c.play_made.new.logging) c.answer.result
-    (λ p journal. tells_log kept c.args.script.now.frames s.parties.fast s.rounds p.journal c.play_made.new.logging (c.in-Ok.ensures.log kept first) have.noted.whole have.frames have.entries journal)
+    if_ok_one (λ (p : Played). p.journal ≡ journal_of s.rounds s.parties.fast.log) (λ (p : Played). TellsLog kept c.args.piece.now.script.now.frames p.journal c.play_made.new.logging) c.answer.result
+    (λ p journal. tells_log kept c.args.piece.now.script.now.frames s.parties.fast s.rounds p.journal c.play_made.new.logging (c.in-Ok.ensures.log kept first) have.noted.whole have.frames have.entries journal)
     c.answer.ensures.journal
