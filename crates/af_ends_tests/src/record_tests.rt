@@ -5,9 +5,13 @@ use af_record::Supplied;
 use std::alloc::Global;
 use std::test::*;
 
-const MANY: [Frame; 1_025] = [Frame { left: 3, right: 4 }; 1_025];
-
-const NONE: [Frame; 1_025] = [Frame { left: 0, right: 0 }; 1_025];
+// So many frames.
+fn many(alloc: Global, count: usize) -> Result<Vec<Frame>, EndError> {
+    match vec![in alloc; Frame { left: 3, right: 4 }; count] {
+        Ok(frames) => Ok(frames),
+        Err(_) => Err(EndError::Memory),
+    }
+}
 
 // What a supply of so many frames answers, and a read to so many places then.
 fn answers(
@@ -17,9 +21,10 @@ fn answers(
     places: usize,
 ) -> Result<(Result<Supplied, EndError>, Result<u32, EndError>), EndError> {
     let (mut capture, mut listener) = open_record(alloc, frames)?;
-    let mut out = NONE;
-    let put = capture.supply(&MANY[..supplied.min(1_025)]);
-    let read = listener.read(&mut out[..places.min(1_025)]);
+    let given = many(alloc, supplied)?;
+    let mut out = many(alloc, places)?;
+    let put = capture.supply(given.as_slice());
+    let read = listener.read(out.as_mut_slice());
     Ok((put, read))
 }
 

@@ -7,8 +7,6 @@ use std::test::*;
 
 const SILENCE: Frame = Frame { left: 0, right: 0 };
 
-const LONG: [Frame; 8_193] = [Frame { left: 5, right: 6 }; 8_193];
-
 const THREE: [Frame; 3] = [
     Frame { left: 1, right: 2 },
     Frame { left: 3, right: 4 },
@@ -55,20 +53,35 @@ fn an_invalid_setting_shuts_the_player(rt: HostRuntime) {
     assert!(rt; shut(rt.alloc()) == Ok(([Some((9, 0, 0)); 2], 2)));
 }
 
-// What a call to so many places answers.
-fn places(alloc: Global, count: usize) -> Result<u32, EndError> {
-    let (_, mut player) = open_static(alloc, &LONG[..8_192])?;
-    let mut out = [SILENCE; 1_025];
-    let told = player.play(Gains::clamped(0), &mut out[..count.min(1_025)])?;
+// So many frames.
+fn many(alloc: Global, count: usize) -> Result<Vec<Frame>, EndError> {
+    match vec![in alloc; SILENCE; count] {
+        Ok(frames) => Ok(frames),
+        Err(_) => Err(EndError::Memory),
+    }
+}
+
+// How many frames a call to so many places takes, of a buffer of so many.
+fn filled(alloc: Global, size: usize, places: usize) -> Result<u32, EndError> {
+    let frames = many(alloc, size)?;
+    let (_, mut player) = open_static(alloc, frames.as_slice())?;
+    let mut out = many(alloc, places)?;
+    let told = player.play(Gains::clamped(0), out.as_mut_slice())?;
     Ok(told.filled)
 }
 
 #[test]
 fn places_and_sizes_are_refused(rt: HostRuntime) {
-    assert!(rt; places(rt.alloc(), 0) == Err(EndError::Argument));
-    assert!(rt; places(rt.alloc(), 1_025) == Err(EndError::Argument));
-    assert!(rt; places(rt.alloc(), 1_024) == Ok(1_024));
-    assert!(rt; matches!(open_static(rt.alloc(), &LONG), Err(EndError::Argument)));
-    assert!(rt; matches!(open_static(rt.alloc(), &LONG[..0]), Err(EndError::Argument)));
-    assert!(rt; open_static(rt.alloc(), &LONG[..1]).is_ok());
+    let refused = Err(EndError::Argument);
+    let table = [
+        (8_192, 0, refused),
+        (8_192, 1_025, refused),
+        (8_192, 1_024, Ok(1_024)),
+        (8_193, 1, refused),
+        (0, 1, refused),
+        (1, 2, Ok(1)),
+    ];
+    for (size, places, answer) in table {
+        assert!(rt; filled(rt.alloc(), size, places) == answer);
+    }
 }
