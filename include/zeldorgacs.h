@@ -84,16 +84,36 @@ enum {
     ZG_E_HANDLE = -3,   /* the handle is null, closed, or of another kind */
     ZG_E_DEAD = -4,     /* INVALID was seen: AudioTrack's DEAD_OBJECT */
     ZG_E_CORRUPT = -5,  /* this end is shut for good */
-    ZG_E_LIMIT = -6     /* this end has counted as far as it can */
+    ZG_E_LIMIT = -6     /* this end has counted as far as it can: 2^62 frames, 2^63 - 1 settings, or as many flushes as it can tell apart */
 };
 
-/* The functions of the archive. They take no null pointer: the functions below look for those, so call these only by way of them. */
+/* The flags of a stream (CBLK_UNDERRUN, CBLK_INVALID, CBLK_DISABLED). */
+enum {
+    ZG_UNDERRUN = 0x01, /* frames were missing */
+    ZG_INVALID = 0x04,  /* the stream is dead: the client is to open another one */
+    ZG_DISABLED = 0x08  /* the server has disabled the stream: the client is to start it again */
+};
+
+/* The functions of the archive, which take no null pointer. Call them by way of those below, which look for that. */
 int64_t zeldorgacs_stream_open(uint32_t frames, zg_handle *client, zg_handle *server);
 int64_t zeldorgacs_client_write(zg_handle *client, const int16_t *samples, size_t count);
 int64_t zeldorgacs_client_flush(zg_handle *client);
 int64_t zeldorgacs_client_set_gains(zg_handle *client, uint16_t left, uint16_t right);
-int64_t zeldorgacs_server_read(zg_handle *server, int16_t *samples, size_t count);
+int64_t zeldorgacs_client_status(zg_handle *client);
+int64_t zeldorgacs_client_clear_disabled(zg_handle *client);
+int64_t zeldorgacs_client_released(zg_handle *client);
+int64_t zeldorgacs_client_flushes(zg_handle *client);
+int64_t zeldorgacs_client_frames(zg_handle *client);
+int64_t zeldorgacs_server_read(zg_handle *server, int16_t *samples, size_t count, int64_t *flushed);
+int64_t zeldorgacs_server_available(zg_handle *server, int64_t *flushed);
 int64_t zeldorgacs_server_gains(zg_handle *server);
+int64_t zeldorgacs_server_tally(zg_handle *server, uint32_t missing);
+int64_t zeldorgacs_server_invalidate(zg_handle *server);
+int64_t zeldorgacs_server_disable(zg_handle *server);
+int64_t zeldorgacs_server_set_status(zg_handle *server, uint32_t word);
+int64_t zeldorgacs_server_consumed(zg_handle *server);
+int64_t zeldorgacs_server_flush_seen(zg_handle *server);
+int64_t zeldorgacs_server_frames(zg_handle *server);
 int64_t zeldorgacs_record_open(uint32_t frames, zg_handle *capture, zg_handle *listener);
 int64_t zeldorgacs_capture_supply(zg_handle *capture, const int16_t *samples, size_t count);
 int64_t zeldorgacs_capture_supplied(zg_handle *capture);
@@ -102,7 +122,7 @@ int64_t zeldorgacs_listener_read(zg_handle *listener, int16_t *samples, size_t c
 int64_t zeldorgacs_listener_total(zg_handle *listener);
 int64_t zeldorgacs_static_open(const int16_t *samples, size_t count, zg_handle *setter, zg_handle *player);
 int64_t zeldorgacs_setter_set(zg_handle *setter, uint32_t start, uint32_t end, uint32_t count);
-int64_t zeldorgacs_player_next(zg_handle *player, uint16_t left, uint16_t right, int16_t *samples, size_t count);
+int64_t zeldorgacs_player_play(zg_handle *player, uint16_t left, uint16_t right, int16_t *samples, size_t count, int64_t *number);
 void zeldorgacs_close(zg_handle *handle);
 
 /* What stands for the samples where there are none, so that the archive is given no null pointer. */
@@ -123,8 +143,8 @@ static inline size_t zg_samples_of(size_t frames)
  */
 
 /*
- * Opens a stream whose buffer has so many frames, 1 to ZG_MOST_BUFFER. The two handles are not the same; what they led to is closed.
- * 0; or ZG_E_ARGUMENT, ZG_E_MEMORY, or ZG_E_HANDLE if one is null: nothing was opened, and the handles are as they were.
+ * Opens a stream for so many frames, 1 to ZG_MOST_BUFFER. What the two handles led to is closed, and they are not one.
+ * 0; ZG_E_ARGUMENT if frames is out of range, ZG_E_MEMORY, ZG_E_HANDLE if a handle is null: then nothing has changed.
  */
 static inline int64_t zg_stream_open(uint32_t frames, zg_client *client, zg_server *server)
 {
@@ -134,9 +154,9 @@ static inline int64_t zg_stream_open(uint32_t frames, zg_client *client, zg_serv
 }
 
 /*
- * Writes the first of these frames, as many as there is room for before the end of the buffer's cells: how many, 0 if the buffer is full
- * (WOULD_BLOCK). So after a short count a second call may find room again. Never waits. ZG_E_DEAD, ZG_E_LIMIT, ZG_E_HANDLE; ZG_E_ARGUMENT if
- * samples is null and frames isn't 0. ZG_E_CORRUPT never comes: that is proved.
+ * Writes the first of these frames, as many as there is room for before the end of the buffer: how many (obtainBuffer, and releaseBuffer). 0 if the
+ * stream is full (WOULD_BLOCK), or frames is 0. After a short count a second call may find room again, at the start of the buffer.
+ * ZG_E_DEAD, ZG_E_LIMIT, ZG_E_HANDLE; ZG_E_ARGUMENT if samples is null and frames isn't 0. ZG_E_CORRUPT never comes: this is proved.
  */
 static inline int64_t zg_client_write(zg_client *client, const int16_t *samples, size_t frames)
 {
@@ -150,8 +170,8 @@ static inline int64_t zg_client_write(zg_client *client, const int16_t *samples,
 }
 
 /*
- * Asks that all frames written so far and not yet read be discarded (flush): the server's next read does it, and takes none then. How many times this
- * client has asked; or ZG_E_LIMIT, ZG_E_HANDLE.
+ * Asks that the frames written so far and not read yet be discarded (flush); the server's next look does that. How many times this client has asked;
+ * or ZG_E_LIMIT, ZG_E_HANDLE.
  */
 static inline int64_t zg_client_flush(zg_client *client)
 {
@@ -161,13 +181,64 @@ static inline int64_t zg_client_flush(zg_client *client)
 }
 
 /*
- * Sets the gains, each in 4.12 (setVolumeLR): 0, or ZG_E_HANDLE. The library keeps them for the server; it doesn't apply them.
+ * Sets the gains of the two sides, each in 4.12, 0 to ZG_UNITY (setVolumeLR). The library hands them to the server, and doesn't apply them.
+ * 0; ZG_E_ARGUMENT if one is above unity, ZG_E_HANDLE.
  */
 static inline int64_t zg_client_set_gains(zg_client *client, uint16_t left, uint16_t right)
 {
     if (!client)
         return ZG_E_HANDLE;
     return zeldorgacs_client_set_gains(&client->handle, left, right);
+}
+
+/*
+ * The status word that the server stored last, 0 before any; or ZG_E_HANDLE.
+ */
+static inline int64_t zg_client_status(zg_client *client)
+{
+    if (!client)
+        return ZG_E_HANDLE;
+    return zeldorgacs_client_status(&client->handle);
+}
+
+/*
+ * Clears ZG_DISABLED, and answers all flags as they were before; or ZG_E_HANDLE.
+ */
+static inline int64_t zg_client_clear_disabled(zg_client *client)
+{
+    if (!client)
+        return ZG_E_HANDLE;
+    return zeldorgacs_client_clear_disabled(&client->handle);
+}
+
+/*
+ * How many frames this client has written (framesReleased); or ZG_E_HANDLE.
+ */
+static inline int64_t zg_client_released(zg_client *client)
+{
+    if (!client)
+        return ZG_E_HANDLE;
+    return zeldorgacs_client_released(&client->handle);
+}
+
+/*
+ * How many times it has asked for a flush; or ZG_E_HANDLE.
+ */
+static inline int64_t zg_client_flushes(zg_client *client)
+{
+    if (!client)
+        return ZG_E_HANDLE;
+    return zeldorgacs_client_flushes(&client->handle);
+}
+
+/*
+ * For how many frames the stream was opened (frameCount); or ZG_E_HANDLE.
+ */
+static inline int64_t zg_client_frames(zg_client *client)
+{
+    if (!client)
+        return ZG_E_HANDLE;
+    return zeldorgacs_client_frames(&client->handle);
 }
 
 /* Closes the handle, if it is open. */
@@ -178,23 +249,40 @@ static inline void zg_client_close(zg_client *client)
 }
 
 /*
- * Reads as many frames as there are, up to so many (obtainBuffer and releaseBuffer): how many, 0 if there are none, or if this call found a flush and
- * discarded what was written before it. What stands behind those frames stays as it was. Never waits. ZG_E_CORRUPT, ZG_E_HANDLE; ZG_E_ARGUMENT if
- * samples is null and frames isn't 0.
+ * Reads as many frames as there are, up to so many: how many (obtainBuffer, and releaseBuffer). 0 if there are none, or frames is 0. What stands
+ * in samples behind them stays. A flush is noticed first: then this call reads none, and *flushed says how many frames it discarded, and else -1.
+ * flushed may be null. It stays where the call is refused.
+ * ZG_E_CORRUPT, ZG_E_HANDLE; ZG_E_ARGUMENT if samples is null and frames isn't 0.
  */
-static inline int64_t zg_server_read(zg_server *server, int16_t *samples, size_t frames)
+static inline int64_t zg_server_read(zg_server *server, int16_t *samples, size_t frames, int64_t *flushed)
 {
+    int64_t nowhere;
     if (!server)
         return ZG_E_HANDLE;
     if (!frames)
         samples = zg_no_samples();
     if (!samples)
         return ZG_E_ARGUMENT;
-    return zeldorgacs_server_read(&server->handle, samples, zg_samples_of(frames));
+    if (!flushed)
+        flushed = &nowhere;
+    return zeldorgacs_server_read(&server->handle, samples, zg_samples_of(frames), flushed);
 }
 
 /*
- * The gains that were set last (getVolumeLR): left in the low 16 bits, right in the high 16 bits, 0x10001000 before any; or ZG_E_HANDLE.
+ * How many frames there are (framesReady), of which it reads none. It notices a flush as a read does. ZG_E_CORRUPT, ZG_E_HANDLE.
+ */
+static inline int64_t zg_server_available(zg_server *server, int64_t *flushed)
+{
+    int64_t nowhere;
+    if (!server)
+        return ZG_E_HANDLE;
+    if (!flushed)
+        flushed = &nowhere;
+    return zeldorgacs_server_available(&server->handle, flushed);
+}
+
+/*
+ * The gains that the client set last (getVolumeLR): left in the low 16 bits, right in the high 16 bits, both ZG_UNITY before any; or ZG_E_HANDLE.
  */
 static inline int64_t zg_server_gains(zg_server *server)
 {
@@ -203,11 +291,234 @@ static inline int64_t zg_server_gains(zg_server *server)
     return zeldorgacs_server_gains(&server->handle);
 }
 
+/*
+ * Counts so many frames as missing, and sets ZG_UNDERRUN (tallyUnderrunFrames). 0; ZG_E_ARGUMENT if missing is 0, ZG_E_HANDLE.
+ */
+static inline int64_t zg_server_tally(zg_server *server, uint32_t missing)
+{
+    if (!server)
+        return ZG_E_HANDLE;
+    return zeldorgacs_server_tally(&server->handle, missing);
+}
+
+/*
+ * Sets ZG_INVALID: each later write of the client answers ZG_E_DEAD. 0, or ZG_E_HANDLE.
+ */
+static inline int64_t zg_server_invalidate(zg_server *server)
+{
+    if (!server)
+        return ZG_E_HANDLE;
+    return zeldorgacs_server_invalidate(&server->handle);
+}
+
+/*
+ * Sets ZG_DISABLED, which the client clears. 0, or ZG_E_HANDLE.
+ */
+static inline int64_t zg_server_disable(zg_server *server)
+{
+    if (!server)
+        return ZG_E_HANDLE;
+    return zeldorgacs_server_disable(&server->handle);
+}
+
+/*
+ * Stores the status word, which the client sees. 0, or ZG_E_HANDLE.
+ */
+static inline int64_t zg_server_set_status(zg_server *server, uint32_t word)
+{
+    if (!server)
+        return ZG_E_HANDLE;
+    return zeldorgacs_server_set_status(&server->handle, word);
+}
+
+/*
+ * How many frames this server has read and discarded, up to 2^63 - 1; or ZG_E_HANDLE.
+ */
+static inline int64_t zg_server_consumed(zg_server *server)
+{
+    if (!server)
+        return ZG_E_HANDLE;
+    return zeldorgacs_server_consumed(&server->handle);
+}
+
+/*
+ * How many flushes had been asked for, by the last one that it noticed; or ZG_E_HANDLE.
+ */
+static inline int64_t zg_server_flush_seen(zg_server *server)
+{
+    if (!server)
+        return ZG_E_HANDLE;
+    return zeldorgacs_server_flush_seen(&server->handle);
+}
+
+/*
+ * For how many frames the stream was opened; or ZG_E_HANDLE.
+ */
+static inline int64_t zg_server_frames(zg_server *server)
+{
+    if (!server)
+        return ZG_E_HANDLE;
+    return zeldorgacs_server_frames(&server->handle);
+}
+
 /* Closes the handle, if it is open. */
 static inline void zg_server_close(zg_server *server)
 {
     if (server)
         zeldorgacs_close(&server->handle);
+}
+
+/*
+ * RECORDINGS: a source that never waits. What finds no room is lost, and counted.
+ */
+
+/*
+ * Opens a recording for so many frames, 1 to ZG_MOST_BUFFER. What the two handles led to is closed, and they are not one.
+ * 0; ZG_E_ARGUMENT if frames is out of range, ZG_E_MEMORY, ZG_E_HANDLE if a handle is null: then nothing has changed.
+ */
+static inline int64_t zg_record_open(uint32_t frames, zg_capture *capture, zg_listener *listener)
+{
+    if (!capture || !listener)
+        return ZG_E_HANDLE;
+    return zeldorgacs_record_open(frames, &capture->handle, &listener->handle);
+}
+
+/*
+ * Supplies these frames: the first of them are put, as many as there is room for, and the others are lost. How many were put.
+ * ZG_E_LIMIT, ZG_E_HANDLE; ZG_E_ARGUMENT if samples is null and frames isn't 0.
+ */
+static inline int64_t zg_capture_supply(zg_capture *capture, const int16_t *samples, size_t frames)
+{
+    if (!capture)
+        return ZG_E_HANDLE;
+    if (!frames)
+        samples = zg_no_samples();
+    if (!samples)
+        return ZG_E_ARGUMENT;
+    return zeldorgacs_capture_supply(&capture->handle, samples, zg_samples_of(frames));
+}
+
+/*
+ * How many frames were supplied; or ZG_E_HANDLE.
+ */
+static inline int64_t zg_capture_supplied(zg_capture *capture)
+{
+    if (!capture)
+        return ZG_E_HANDLE;
+    return zeldorgacs_capture_supplied(&capture->handle);
+}
+
+/*
+ * How many of them were lost (getInputFramesLost); or ZG_E_HANDLE.
+ */
+static inline int64_t zg_capture_overrun(zg_capture *capture)
+{
+    if (!capture)
+        return ZG_E_HANDLE;
+    return zeldorgacs_capture_overrun(&capture->handle);
+}
+
+/* Closes the handle, if it is open. */
+static inline void zg_capture_close(zg_capture *capture)
+{
+    if (capture)
+        zeldorgacs_close(&capture->handle);
+}
+
+/*
+ * Reads as many frames as there are, up to so many: how many. What stands in samples behind them stays.
+ * ZG_E_LIMIT, ZG_E_HANDLE; ZG_E_ARGUMENT if samples is null and frames isn't 0.
+ */
+static inline int64_t zg_listener_read(zg_listener *listener, int16_t *samples, size_t frames)
+{
+    if (!listener)
+        return ZG_E_HANDLE;
+    if (!frames)
+        samples = zg_no_samples();
+    if (!samples)
+        return ZG_E_ARGUMENT;
+    return zeldorgacs_listener_read(&listener->handle, samples, zg_samples_of(frames));
+}
+
+/*
+ * How many frames were read; or ZG_E_HANDLE.
+ */
+static inline int64_t zg_listener_total(zg_listener *listener)
+{
+    if (!listener)
+        return ZG_E_HANDLE;
+    return zeldorgacs_listener_total(&listener->handle);
+}
+
+/* Closes the handle, if it is open. */
+static inline void zg_listener_close(zg_listener *listener)
+{
+    if (listener)
+        zeldorgacs_close(&listener->handle);
+}
+
+/*
+ * STATIC BUFFERS: a sound that doesn't change, and loops in it that may be set while it plays.
+ */
+
+/*
+ * Opens a static buffer with a copy of these frames, 1 to ZG_MOST_BUFFER. What the two handles led to is closed, and they are not one.
+ * 0; ZG_E_ARGUMENT if frames is out of range or samples null, ZG_E_MEMORY, ZG_E_HANDLE if a handle is null: then nothing has changed.
+ */
+static inline int64_t zg_static_open(const int16_t *samples, size_t frames, zg_setter *setter, zg_player *player)
+{
+    if (!setter || !player)
+        return ZG_E_HANDLE;
+    if (!samples || frames > ZG_MOST_BUFFER)
+        return ZG_E_ARGUMENT;
+    return zeldorgacs_static_open(samples, 2 * frames, &setter->handle, &player->handle);
+}
+
+/*
+ * Sets where the player is to play (setLoop, setPosition): with count 0 from start to the end of the buffer; else from start to end, again so many
+ * times, 0xffffffff without end, and then on to the end of the buffer. A player that is within the loop goes on from where it is. Any numbers are
+ * taken here; the player judges them when it sees them.
+ * The number of this setting, from 1; or ZG_E_LIMIT, ZG_E_HANDLE.
+ */
+static inline int64_t zg_setter_set(zg_setter *setter, uint32_t start, uint32_t end, uint32_t count)
+{
+    if (!setter)
+        return ZG_E_HANDLE;
+    return zeldorgacs_setter_set(&setter->handle, start, end, count);
+}
+
+/* Closes the handle, if it is open. */
+static inline void zg_setter_close(zg_setter *setter)
+{
+    if (setter)
+        zeldorgacs_close(&setter->handle);
+}
+
+/*
+ * Plays the next frames of the buffer to so many frames of samples, by the newest setting, at gains in 4.12, above ZG_UNITY taken for that. What has no
+ * frame any more is silence. How many frames of the buffer were taken; *number is the number of the setting, 0 before any, and may be null.
+ * ZG_E_CORRUPT if a setting doesn't fit the buffer (start within it, and for a loop at least 16 frames within it): the player is shut then for good,
+ * and samples is all silence. ZG_E_HANDLE; ZG_E_ARGUMENT if frames is 0 or samples null: then samples and *number stay.
+ */
+static inline int64_t zg_player_play(zg_player *player, uint16_t left, uint16_t right, int16_t *samples, size_t frames, int64_t *number)
+{
+    int64_t nowhere;
+    if (!player)
+        return ZG_E_HANDLE;
+    if (!frames)
+        samples = zg_no_samples();
+    if (!samples)
+        return ZG_E_ARGUMENT;
+    if (!number)
+        number = &nowhere;
+    return zeldorgacs_player_play(&player->handle, left, right, samples, zg_samples_of(frames), number);
+}
+
+/* Closes the handle, if it is open. */
+static inline void zg_player_close(zg_player *player)
+{
+    if (player)
+        zeldorgacs_close(&player->handle);
 }
 
 #ifdef __cplusplus

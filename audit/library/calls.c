@@ -20,7 +20,7 @@ struct shared {
     int ends;
     uint64_t frames, cells, rear, front; /* rear and front: frames written, and frames read or discarded */
     uint64_t flush_at, flushes, noticed;
-    uint32_t gains;
+    uint32_t gains, flags, status;
     uint64_t supplied, lost, total;
     /* a static buffer: the newest setting, the one that was seen, and the head */
     uint32_t newest[3], seen[3], left;
@@ -298,7 +298,10 @@ static void call_write(void)
         struct shared *it = slot->shared;
         uint64_t room = it->frames - (it->rear - it->front), to_end = it->cells - it->rear % it->cells;
         wanted = (int64_t)lesser(lesser(lesser(frames, MOST), room), to_end);
-        put_frames(it, (uint64_t)wanted);
+        if (frames > 0 && it->flags & ZG_INVALID)
+            wanted = ZG_E_DEAD;
+        else
+            put_frames(it, (uint64_t)wanted);
     }
     same("the answer", said, wanted);
 }
@@ -312,56 +315,108 @@ static void call_flush(void)
     ended(false);
     int64_t wanted = refusal(slot, CLIENT, null_handle, false, 0);
     if (wanted == 0) {
-        slot->shared->flush_at = slot->shared->rear;
-        wanted = (int64_t)++slot->shared->flushes;
+        struct shared *it = slot->shared;
+        if (it->flushes + 1 >= 4294967296u / (4 * it->cells)) {
+            wanted = ZG_E_LIMIT;
+        } else {
+            it->flush_at = it->rear;
+            wanted = (int64_t)++it->flushes;
+        }
     }
     same("the answer", said, wanted);
 }
 
-static void call_gains(void)
+/* A look of the server: whether it notices a flush, which then discards what was written before it. */
+static bool notices(struct shared *it, int64_t *dropped)
 {
-    struct slot *slot = slot_of(below(2) ? CLIENT : SERVER);
-    bool null_handle = below(40) == 0;
-    if (below(2)) {
-        uint16_t left = (uint16_t)next(), right = (uint16_t)next();
-        begin("zg_client_set_gains");
-        int64_t said = zg_client_set_gains(null_handle ? NULL : (zg_client *)&slot->handle, left, right);
-        ended(false);
-        int64_t wanted = refusal(slot, CLIENT, null_handle, false, 0);
-        if (wanted == 0)
-            slot->shared->gains = left | (uint32_t)right << 16;
-        same("the answer", said, wanted);
-    } else {
-        begin("zg_server_gains");
-        int64_t said = zg_server_gains(null_handle ? NULL : (zg_server *)&slot->handle);
-        ended(false);
-        int64_t wanted = refusal(slot, SERVER, null_handle, false, 0);
-        same("the answer", said, wanted == 0 ? (int64_t)slot->shared->gains : wanted);
-    }
+    *dropped = -1;
+    if (it->flushes == it->noticed)
+        return false;
+    *dropped = it->flush_at > it->front ? (int64_t)(it->flush_at - it->front) : 0;
+    it->front += (uint64_t)*dropped;
+    it->noticed = it->flushes;
+    return true;
 }
 
 static void call_read(void)
 {
     struct slot *slot = slot_of(SERVER);
     size_t frames = some_length();
-    bool null_handle = below(40) == 0, null_samples = below(40) == 0;
+    bool null_handle = below(40) == 0, null_samples = below(40) == 0, null_flushed = below(4) == 0, looks = below(4) == 0;
+    zg_server *server = null_handle ? NULL : (zg_server *)&slot->handle;
+    int64_t flushed = -77, dropped = -77, said;
     fill_buffer();
-    begin("zg_server_read");
-    int64_t said = zg_server_read(null_handle ? NULL : (zg_server *)&slot->handle, null_samples ? NULL : buffer, frames);
+    if (looks) {
+        frames = 1;
+        null_samples = false;
+    }
+    begin(looks ? "zg_server_available" : "zg_server_read");
+    said = looks ? zg_server_available(server, null_flushed ? NULL : &flushed) : zg_server_read(server, null_samples ? NULL : buffer, frames, null_flushed ? NULL : &flushed);
     ended(false);
     int64_t wanted = refusal(slot, SERVER, null_handle, null_samples, frames);
     struct shared *it = slot->shared;
-    if (wanted == 0 && frames > 0) {
-        if (it->flushes != it->noticed) {
-            it->noticed = it->flushes;
-            it->front = it->flush_at > it->front ? it->flush_at : it->front;
-        } else {
-            wanted = (int64_t)lesser(lesser(frames, MOST), it->rear - it->front);
-        }
+    if (wanted == 0) {
+        dropped = -1;
+        if (frames > 0 && !notices(it, &dropped))
+            wanted = (int64_t)lesser(looks ? UINT64_MAX : lesser(frames, MOST), it->rear - it->front);
     }
     same("the answer", said, wanted);
-    if (wanted > 0)
-        compare_read(it, (uint64_t)wanted);
+    same("the frames that a flush discarded", flushed, null_flushed ? -77 : dropped);
+    if (wanted >= 0)
+        compare_read(it, looks ? 0 : (uint64_t)wanted);
+}
+
+/* The words that the two ends of a stream store for one another. */
+static void call_words(void)
+{
+    unsigned which = (unsigned)(below(10) == 0 ? 7 : below(7));
+    enum kind kind = which < 3 ? CLIENT : SERVER;
+    struct slot *slot = slot_of(kind);
+    bool null_handle = below(40) == 0;
+    zg_client *client = null_handle ? NULL : (zg_client *)&slot->handle;
+    zg_server *server = null_handle ? NULL : (zg_server *)&slot->handle;
+    uint16_t left = (uint16_t)below(below(9) ? 0x1001 : 0x10000), right = (uint16_t)below(below(9) ? 0x1001 : 0x10000);
+    uint32_t word = (uint32_t)next(), missing = (uint32_t)(below(4) ? next() : 0);
+    struct shared nowhere = {0}, *it = slot->kind == kind ? slot->shared : &nowhere;
+    int64_t said, wanted = 0;
+    begin("a word");
+    switch (which) {
+    case 0: doing = "zg_client_set_gains"; said = zg_client_set_gains(client, left, right); break;
+    case 1: doing = "zg_client_status"; said = zg_client_status(client); break;
+    case 2: doing = "zg_client_clear_disabled"; said = zg_client_clear_disabled(client); break;
+    case 3: doing = "zg_server_gains"; said = zg_server_gains(server); break;
+    case 4: doing = "zg_server_tally"; said = zg_server_tally(server, missing); break;
+    case 5: doing = "zg_server_disable"; said = zg_server_disable(server); break;
+    case 6: doing = "zg_server_set_status"; said = zg_server_set_status(server, word); break;
+    default: doing = "zg_server_invalidate"; said = zg_server_invalidate(server);
+    }
+    ended(false);
+    wanted = refusal(slot, kind, null_handle, false, 0);
+    if (wanted == 0)
+        switch (which) {
+        case 0:
+            if (left > ZG_UNITY || right > ZG_UNITY)
+                wanted = ZG_E_ARGUMENT;
+            else
+                it->gains = left | (uint32_t)right << 16;
+            break;
+        case 1: wanted = it->status; break;
+        case 2:
+            wanted = it->flags;
+            it->flags &= ~(uint32_t)ZG_DISABLED;
+            break;
+        case 3: wanted = it->gains; break;
+        case 4:
+            if (missing == 0)
+                wanted = ZG_E_ARGUMENT;
+            else
+                it->flags |= ZG_UNDERRUN;
+            break;
+        case 5: it->flags |= ZG_DISABLED; break;
+        case 6: it->status = word; break;
+        default: it->flags |= ZG_INVALID;
+        }
+    same("the answer", said, wanted);
 }
 
 static void call_supply(void)
@@ -421,10 +476,16 @@ static void call_counts(void)
     bool null_handle = below(40) == 0;
     zg_handle *handle = null_handle ? NULL : &slot->handle;
     begin("a count");
-    switch (below(3)) {
+    switch (below(9)) {
     case 0: tell("zg_capture_supplied", zg_capture_supplied((zg_capture *)handle), slot, CAPTURE, null_handle, it->supplied); break;
     case 1: tell("zg_capture_overrun", zg_capture_overrun((zg_capture *)handle), slot, CAPTURE, null_handle, it->lost); break;
-    default: tell("zg_listener_total", zg_listener_total((zg_listener *)handle), slot, LISTENER, null_handle, it->total);
+    case 2: tell("zg_listener_total", zg_listener_total((zg_listener *)handle), slot, LISTENER, null_handle, it->total); break;
+    case 3: tell("zg_client_released", zg_client_released((zg_client *)handle), slot, CLIENT, null_handle, it->rear); break;
+    case 4: tell("zg_client_flushes", zg_client_flushes((zg_client *)handle), slot, CLIENT, null_handle, it->flushes); break;
+    case 5: tell("zg_client_frames", zg_client_frames((zg_client *)handle), slot, CLIENT, null_handle, it->frames); break;
+    case 6: tell("zg_server_consumed", zg_server_consumed((zg_server *)handle), slot, SERVER, null_handle, it->front); break;
+    case 7: tell("zg_server_flush_seen", zg_server_flush_seen((zg_server *)handle), slot, SERVER, null_handle, it->noticed); break;
+    default: tell("zg_server_frames", zg_server_frames((zg_server *)handle), slot, SERVER, null_handle, it->frames);
     }
 }
 
@@ -495,40 +556,40 @@ static void call_play(void)
 {
     struct slot *slot = slot_of(PLAYER);
     size_t frames = some_length();
-    bool null_handle = below(40) == 0, null_samples = below(40) == 0;
-    uint16_t left = (uint16_t)(below(2) ? 4096 : below(4098)), right = (uint16_t)(below(2) ? 4096 : below(4098));
+    bool null_handle = below(40) == 0, null_samples = below(40) == 0, null_number = below(4) == 0;
+    uint16_t left = (uint16_t)(below(2) ? 0x1000 : below(9) ? below(0x1001) : next()), right = (uint16_t)(below(2) ? 0x1000 : below(9) ? below(0x1001) : next());
+    int64_t number = -77;
     fill_buffer();
-    begin("zg_player_next");
-    int64_t said = zg_player_next(null_handle ? NULL : (zg_player *)&slot->handle, left, right, null_samples ? NULL : buffer, frames);
+    begin("zg_player_play");
+    int64_t said = zg_player_play(null_handle ? NULL : (zg_player *)&slot->handle, left, right, null_samples ? NULL : buffer, frames, null_number ? NULL : &number);
     ended(false);
     int64_t wanted = refusal(slot, PLAYER, null_handle, null_samples, frames);
-    if (wanted == 0 && frames > 0) {
-        struct shared *it = slot->shared;
-        if (left > 4096 || right > 4096) {
-            same("the answer", said, ZG_E_ARGUMENT);
-            return;
-        }
-        frames = lesser(frames, MOST);
-        hear(it);
-        const int16_t *frame = NULL;
-        while ((size_t)wanted < frames && next_frame(it, &frame)) {
-            same("a left sample", buffer[2 * wanted], scaled(frame[0], left));
-            same("a right sample", buffer[2 * wanted + 1], scaled(frame[1], right));
-            wanted++;
-        }
-        for (size_t i = 2 * (size_t)wanted; i < 2 * frames; i++)
-            same("silence", buffer[i], 0);
-        same("the rest of the buffer", memcmp(buffer + 2 * frames, was + 2 * frames, sizeof was - 4 * frames), 0);
-        if (it->shut)
-            wanted = ZG_E_CORRUPT;
+    if (wanted != 0 || frames == 0) {
+        same("the answer", said, wanted != 0 ? wanted : ZG_E_ARGUMENT);
+        same("the buffer", memcmp(buffer, was, sizeof was), 0);
+        same("the number", number, -77);
+        return;
     }
-    same("the answer", said, wanted);
+    struct shared *it = slot->shared;
+    frames = lesser(frames, MOST);
+    hear(it);
+    const int16_t *frame = NULL;
+    while ((size_t)wanted < frames && next_frame(it, &frame)) {
+        same("a left sample", buffer[2 * wanted], scaled(frame[0], (uint32_t)lesser(left, 0x1000)));
+        same("a right sample", buffer[2 * wanted + 1], scaled(frame[1], (uint32_t)lesser(right, 0x1000)));
+        wanted++;
+    }
+    for (size_t i = 2 * (size_t)wanted; i < 2 * frames; i++)
+        same("silence", buffer[i], 0);
+    same("the rest of the buffer", memcmp(buffer + 2 * frames, was + 2 * frames, sizeof was - 4 * frames), 0);
+    same("the number", number, null_number ? -77 : (int64_t)it->seen_number);
+    same("the answer", said, it->shut ? ZG_E_CORRUPT : wanted);
 }
 
 int main(int words, char **word)
 {
-    static void (*const calls[])(void) = {call_open, call_close, call_write, call_write, call_read, call_read, call_flush, call_gains,
-                                          call_supply, call_supply, call_listen, call_listen, call_counts, call_set, call_play, call_play};
+    static void (*const calls[])(void) = {call_open, call_close, call_write, call_write, call_read, call_read, call_flush, call_words,
+                                          call_supply, call_supply, call_listen, call_listen, call_counts, call_counts, call_set, call_play, call_play};
     unsigned long most = words > 1 ? strtoul(word[1], NULL, 10) : 1000000;
     if (words > 2)
         state += strtoull(word[2], NULL, 10) * 7919;

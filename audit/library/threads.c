@@ -11,6 +11,7 @@
 #include <pthread.h>
 #include <sched.h>
 #include <stdatomic.h>
+#include <stdbool.h>
 #include <stdio.h>
 #include <stdlib.h>
 #include <time.h>
@@ -87,15 +88,15 @@ static void *writer(void *seed)
 }
 
 /* Whether a gap may end at this frame: a flush was asked for there, not before the last gap's. */
-static int is_place(uint32_t number, unsigned *from)
+static bool is_place(uint32_t number, unsigned *from)
 {
     unsigned count = atomic_load(&flushes);
     for (unsigned i = *from; i < count; i++)
         if (atomic_load(&places[i]) == number) {
             *from = i;
-            return 1;
+            return true;
         }
-    return 0;
+    return false;
 }
 
 static int stopped(const char *what, long long number, long long wanted)
@@ -120,7 +121,7 @@ int main(int words, char **word)
     for (int quiet = 0; quiet < 3;) {
         int16_t samples[2 * MOST];
         size_t most = 1 + next(&state) % (next(&state) % 2 ? 16 : MOST);
-        int64_t count = zg_server_read(&server, samples, most);
+        int64_t count = zg_server_read(&server, samples, most, NULL);
         reads++;
         if (count < 0 || (size_t)count > most)
             return stopped("a read", count, 0);
@@ -146,7 +147,7 @@ int main(int words, char **word)
         }
         pause_at_times(&state);
         if (time(NULL) >= end)
-            atomic_store(&over, 1);
+            atomic_store(&over, true);
     }
     pthread_join(thread, NULL);
     if (refused != 0)

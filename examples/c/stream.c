@@ -53,7 +53,7 @@ static int64_t read_all(void)
     int16_t samples[2 * MOST];
     uint32_t at = 0;
     while (at < total) {
-        int64_t count = zg_server_read(&server, samples, MOST);
+        int64_t count = zg_server_read(&server, samples, MOST, NULL);
         if (count < 0)
             return count;
         if (count == 0)

@@ -1,42 +1,38 @@
-//! What C is answered, and how a handle is opened for a call.
+//! What C is answered.
 
-use crate::handle::Handle;
-use crate::kept::Kept;
-use crate::loose::Loose;
-use crate::refused::Refused;
-use std::alloc::Global;
-use std::mem::replace;
+use crate::ends::EndError;
 
-// The number of a refusal, as the header has it.
-fn number(refused: Refused) -> i64 {
-    match refused {
-        Refused::Argument => -1,
-        Refused::Memory => -2,
-        Refused::Handle => -3,
-        Refused::Dead => -4,
-        Refused::Corrupt => -5,
-        Refused::Limit => -6,
+/// The handle is closed, or leads to an end of another kind.
+pub const NO_HANDLE: i64 = -3;
+
+/// The number of a refusal, as the header has it.
+pub fn refused(error: EndError) -> i64 {
+    match error {
+        EndError::Argument => -1,
+        EndError::Memory => -2,
+        EndError::Dead => -4,
+        EndError::Corrupt => -5,
+        EndError::Limit => -6,
     }
 }
 
-/// What C is answered: a count, or a number below 0.
-pub fn told(answer: Result<u32, Refused>) -> i64 {
+/// A count, or the number of a refusal.
+pub fn told(answer: Result<u32, EndError>) -> i64 {
     match answer {
         Ok(count) => i64::from(count),
-        Err(refused) => number(refused),
+        Err(error) => refused(error),
     }
 }
 
-/// What a handle led to, if it was open. It is closed.
-pub fn taken(alloc: Global, handle: &mut Handle) -> Option<Box<Kept, Global>> {
-    let loose = replace(handle, Handle::closed()).into_loose(alloc)?;
-    Some(loose.into_box())
+/// 0, or the number of a refusal.
+pub fn done(answer: Result<(), EndError>) -> i64 {
+    match answer {
+        Ok(()) => 0,
+        Err(error) => refused(error),
+    }
 }
 
-/// Has the handle lead to this. What it led to is dropped.
-pub fn put(alloc: Global, handle: &mut Handle, kept: Box<Kept, Global>) {
-    let old = replace(handle, Handle::of(Loose::of(kept)));
-    if let Some(loose) = old.into_loose(alloc) {
-        drop(loose.into_box());
-    }
+/// A long count, up to 2^63 - 1.
+pub fn counted(count: u64) -> i64 {
+    count.min(0x7fff_ffff_ffff_ffff) as i64
 }

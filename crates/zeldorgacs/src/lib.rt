@@ -1,14 +1,24 @@
-//! The ends of streams, recordings and static buffers, for C: thin exports over the proved proxies, each of which checks its arguments.
+//! The ends of streams, recordings and static buffers, for C: thin exports each of which answers whatever its handle is.
 #![tactic(auto)]
 
 mod answers;
-mod client_end;
+mod capture;
+mod client;
 mod closing;
+mod ends;
+mod error;
 mod handle;
 mod kept;
+mod listener;
 mod loose;
 mod making;
-mod refused;
+mod opened;
+mod opening;
+mod player;
+mod record_ends;
 mod samples;
-mod server_end;
-mod streams;
+mod server;
+mod setter;
+mod static_ends;
+mod stream_client;
+mod stream_server;
