@@ -1,0 +1,4 @@
+use Rattle.af_ends.proofs.record_ends.ListenerEnd.read.Given as goal
+
+abbrev pub ghosts-read_in : goal.ghosts-read_in
+ghosts-read_in a = record { name = a.blank.name; parts = a.blank.parts }

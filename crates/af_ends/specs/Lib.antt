@@ -1,0 +1,4 @@
+pub mod Refusals
+pub mod Streams
+pub mod Recordings
+pub mod Statics
