@@ -41,7 +41,7 @@ static unsigned long call_number;
 static const char *doing = "";
 
 /* The calls of malloc, realloc and free by the library. */
-static bool inside;
+static bool inside, failed;
 static long fails_at, asked, live;
 
 void *__real_malloc(size_t size);
@@ -53,8 +53,10 @@ void *__wrap_malloc(size_t size)
     if (!inside)
         return __real_malloc(size);
     asked++;
-    if (asked == fails_at)
+    if (asked == fails_at) {
+        failed = true;
         return NULL;
+    }
     void *at = __real_malloc(size);
     live += at != NULL;
     return at;
@@ -64,8 +66,10 @@ void *__wrap_realloc(void *at, size_t size)
 {
     if (inside) {
         asked++;
-        if (asked == fails_at)
+        if (asked == fails_at) {
+            failed = true;
             return NULL;
+        }
     }
     return __real_realloc(at, size);
 }
@@ -147,6 +151,7 @@ static void begin(const char *name)
     doing = name;
     asked = 0;
     fails_at = 0;
+    failed = false;
     inside = true;
 }
 
@@ -197,9 +202,8 @@ static struct shared *new_shared(uint64_t frames)
 /* What an open call did: nothing, if it was refused. */
 static void opened(int64_t said, bool fits, struct slot *a, struct slot *b, enum kind first, struct shared *shared)
 {
-    bool out_of_memory = fails_at && asked >= fails_at;
     ended(true);
-    same("the answer", said, !fits ? ZG_E_ARGUMENT : out_of_memory ? ZG_E_MEMORY : 0);
+    same("the answer", said, !fits ? ZG_E_ARGUMENT : failed ? ZG_E_MEMORY : 0);
     if (said != 0) {
         free(shared);
         return;
