@@ -1,6 +1,6 @@
 //! What C is answered.
 
-use crate::ends::EndError;
+use af_ends::EndError;
 
 /// The handle is closed, or leads to an end of another kind.
 pub const NO_HANDLE: i64 = -3;

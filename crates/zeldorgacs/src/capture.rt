@@ -1,11 +1,11 @@
 //! The end of a recording that is supplied.
 
 use crate::answers::{NO_HANDLE, counted, told};
-use crate::ends::{CaptureEnd, EndError};
 use crate::handle::Handle;
 use crate::kept::Kept;
 use crate::opened::{put, taken};
 use crate::samples::{count_of, frames_of};
+use af_ends::{CaptureEnd, EndError};
 use std::alloc::Global;
 
 // Supplies the first of these samples: how many frames were put.

@@ -1,11 +1,11 @@
 //! The end of a recording that reads.
 
 use crate::answers::{NO_HANDLE, counted, told};
-use crate::ends::{EndError, ListenerEnd};
 use crate::handle::Handle;
 use crate::kept::Kept;
 use crate::opened::{put, taken};
 use crate::samples::{count_of, put_frames, silence};
+use af_ends::{EndError, ListenerEnd};
 use std::alloc::Global;
 
 // Reads as many frames as there are and have room.

@@ -1,10 +1,10 @@
 //! How a handle is opened for a call, and closed again behind it.
 
 use crate::answers::refused;
-use crate::ends::EndError;
 use crate::handle::Handle;
 use crate::kept::Kept;
 use crate::loose::Loose;
+use af_ends::EndError;
 use std::alloc::Global;
 use std::mem::replace;
 
@@ -28,11 +28,11 @@ pub fn close(kept: Box<Kept, Global>) {
     match replace(&mut *kept, Kept::Nothing) {
         Kept::Nothing => {}
         Kept::Client(end) => end.close(),
-        Kept::Server(end) => end.close(),
+        Kept::Server(end) => drop(end.close()),
         Kept::Capture(end) => end.close(),
-        Kept::Listener(end) => end.close(),
+        Kept::Listener(end) => drop(end.close()),
         Kept::Setter(end) => end.close(),
-        Kept::Player(end) => end.close(),
+        Kept::Player(end) => drop(end.close()),
     }
 }
 

@@ -1,11 +1,11 @@
 //! How two ends are opened.
 
 use crate::answers::refused;
-use crate::ends::{EndError, MOST_FRAMES, open_record, open_static, open_stream};
 use crate::handle::Handle;
 use crate::kept::Kept;
 use crate::opened::put_both;
 use crate::samples::all_frames_of;
+use af_ends::{EndError, MOST_FRAMES, open_record, open_static, open_stream};
 use std::alloc::Global;
 
 /// Opens a stream of so many frames, from 1 to 8192. What the handles led to is closed. 0, or a refusal, which changes nothing.

@@ -1,12 +1,12 @@
 //! The end of a static buffer that plays.
 
 use crate::answers::{NO_HANDLE, counted, told};
-use crate::ends::{EndError, PlayerEnd};
 use crate::handle::Handle;
 use crate::kept::Kept;
 use crate::opened::{put, taken};
 use crate::samples::{count_of, put_frames, silence};
 use af_base::Gains;
+use af_ends::{EndError, PlayerEnd};
 use std::alloc::Global;
 
 // Plays to all places of the samples, as far as a call takes them, and tells the number of the setting: how many frames of the buffer were taken.

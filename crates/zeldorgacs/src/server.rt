@@ -1,11 +1,11 @@
 //! The server of a stream.
 
 use crate::answers::{NO_HANDLE, counted, done, told};
-use crate::ends::{EndError, Found, StreamServer};
 use crate::handle::Handle;
 use crate::kept::Kept;
 use crate::opened::{put, taken};
 use crate::samples::{count_of, put_frames, silence};
+use af_ends::{EndError, Found, StreamServer};
 use std::alloc::Global;
 
 // How many frames a flush that was noticed discarded, and -1 if none was.

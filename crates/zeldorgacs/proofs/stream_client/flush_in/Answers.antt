@@ -1,9 +1,0 @@
-use Rattle.std.proofs.Common.{◌≡◌, true, refl, sym, subst}
-use Rattle.af_base.specs.declared.event.ClientEvent.TheVariants as client
-use Rattle.af_model.specs.History.{is_lawful}
-use Rattle.af_model.proofs.Counts.{lawful_more}
-use Rattle.af_cblk.specs.declared.view.ClientPart.{ClientPart}
-use Rattle.zeldorgacs.proofs.stream_client.flush_in.Goals as goal
-
-pub returns-clause-lawful : goal.returns-clause-lawful
-returns-clause-lawful g c = subst (λ (x : ClientPart). is_lawful x.events ≡ true) (sym c.flush.ensures.flushed) (lawful_more c.args.client.now.pass.part.events client.Flush refl c.requires.lawful)
