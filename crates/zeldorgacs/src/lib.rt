@@ -1,0 +1,17 @@
+//! The ends of streams, recordings and static buffers, for C: thin exports over those of af_ends, each of which answers whatever its handle is.
+#![tactic(auto)]
+
+mod answers;
+mod capture;
+mod client;
+mod closing;
+mod handle;
+mod kept;
+mod listener;
+mod loose;
+mod opened;
+mod opening;
+mod player;
+mod samples;
+mod server;
+mod setter;

@@ -1,0 +1,199 @@
+//! The server of a stream.
+
+use crate::answers::{NO_HANDLE, counted, done, told};
+use crate::handle::Handle;
+use crate::kept::Kept;
+use crate::opened::{put, taken};
+use crate::samples::{count_of, put_frames, silence};
+use af_ends::{EndError, Found, StreamServer};
+use std::alloc::Global;
+
+// How many frames a flush that was noticed discarded, and -1 if none was.
+fn flushed_by(found: Found) -> i64 {
+    match found.flushed {
+        Some(dropped) => i64::from(dropped),
+        None => -1,
+    }
+}
+
+// Reads as many frames as there are and have room.
+fn read(end: &mut StreamServer, samples: &mut [i16], flushed: &mut i64) -> Result<u32, EndError> {
+    let mut frames = silence();
+    let most = count_of(samples);
+    let found = end.read(&mut frames[..most])?;
+    put_frames(&frames[..found.frames as usize], samples);
+    *flushed = flushed_by(found);
+    Ok(found.frames)
+}
+
+// How many frames there are.
+fn available(end: &mut StreamServer, flushed: &mut i64) -> Result<u32, EndError> {
+    let found = end.available()?;
+    *flushed = flushed_by(found);
+    Ok(found.frames)
+}
+
+/// Reads as many frames as there are and have room, and tells of a flush that it noticed: how many frames, or a refusal.
+#[unsafe(no_mangle)]
+pub extern "C" fn zeldorgacs_server_read(
+    alloc: Global,
+    server: &mut Handle,
+    samples: &mut [i16],
+    flushed: &mut i64,
+) -> i64 {
+    let Some(mut kept) = taken(alloc, server) else {
+        return NO_HANDLE;
+    };
+    let answer = match &mut *kept {
+        Kept::Server(end) => told(read(end, samples, flushed)),
+        _ => NO_HANDLE,
+    };
+    put(alloc, server, kept);
+    answer
+}
+
+/// How many frames there are, of which it takes none, or a refusal. It tells of a flush as a read does.
+#[unsafe(no_mangle)]
+pub extern "C" fn zeldorgacs_server_available(
+    alloc: Global,
+    server: &mut Handle,
+    flushed: &mut i64,
+) -> i64 {
+    let Some(mut kept) = taken(alloc, server) else {
+        return NO_HANDLE;
+    };
+    let answer = match &mut *kept {
+        Kept::Server(end) => told(available(end, flushed)),
+        _ => NO_HANDLE,
+    };
+    put(alloc, server, kept);
+    answer
+}
+
+/// The gains that the client set last: left in the low 16 bits, right in the high 16 bits; or a refusal.
+#[unsafe(no_mangle)]
+pub extern "C" fn zeldorgacs_server_gains(alloc: Global, server: &mut Handle) -> i64 {
+    let Some(mut kept) = taken(alloc, server) else {
+        return NO_HANDLE;
+    };
+    let answer = match &mut *kept {
+        Kept::Server(end) => {
+            let gains = end.gains();
+            i64::from(gains.left()) + (i64::from(gains.right()) << 16)
+        }
+        _ => NO_HANDLE,
+    };
+    put(alloc, server, kept);
+    answer
+}
+
+/// Counts so many frames as missing, and sets UNDERRUN: 0, or a refusal.
+#[unsafe(no_mangle)]
+pub extern "C" fn zeldorgacs_server_tally(alloc: Global, server: &mut Handle, missing: u32) -> i64 {
+    let Some(mut kept) = taken(alloc, server) else {
+        return NO_HANDLE;
+    };
+    let answer = match &mut *kept {
+        Kept::Server(end) => done(end.tally(missing)),
+        _ => NO_HANDLE,
+    };
+    put(alloc, server, kept);
+    answer
+}
+
+/// Sets INVALID: the client writes no more. 0, or a refusal.
+#[unsafe(no_mangle)]
+pub extern "C" fn zeldorgacs_server_invalidate(alloc: Global, server: &mut Handle) -> i64 {
+    let Some(mut kept) = taken(alloc, server) else {
+        return NO_HANDLE;
+    };
+    let answer = match &mut *kept {
+        Kept::Server(end) => {
+            end.invalidate();
+            0
+        }
+        _ => NO_HANDLE,
+    };
+    put(alloc, server, kept);
+    answer
+}
+
+/// Sets DISABLED, which the client clears. 0, or a refusal.
+#[unsafe(no_mangle)]
+pub extern "C" fn zeldorgacs_server_disable(alloc: Global, server: &mut Handle) -> i64 {
+    let Some(mut kept) = taken(alloc, server) else {
+        return NO_HANDLE;
+    };
+    let answer = match &mut *kept {
+        Kept::Server(end) => {
+            end.disable();
+            0
+        }
+        _ => NO_HANDLE,
+    };
+    put(alloc, server, kept);
+    answer
+}
+
+/// Stores the status word, which the client sees: 0, or a refusal.
+#[unsafe(no_mangle)]
+pub extern "C" fn zeldorgacs_server_set_status(
+    alloc: Global,
+    server: &mut Handle,
+    word: u32,
+) -> i64 {
+    let Some(mut kept) = taken(alloc, server) else {
+        return NO_HANDLE;
+    };
+    let answer = match &mut *kept {
+        Kept::Server(end) => {
+            end.set_status(word);
+            0
+        }
+        _ => NO_HANDLE,
+    };
+    put(alloc, server, kept);
+    answer
+}
+
+/// How many frames were taken and discarded, up to 2^63 - 1, or a refusal.
+#[unsafe(no_mangle)]
+pub extern "C" fn zeldorgacs_server_consumed(alloc: Global, server: &mut Handle) -> i64 {
+    let Some(mut kept) = taken(alloc, server) else {
+        return NO_HANDLE;
+    };
+    let answer = match &mut *kept {
+        Kept::Server(end) => counted(end.consumed()),
+        _ => NO_HANDLE,
+    };
+    put(alloc, server, kept);
+    answer
+}
+
+/// How many flushes had been asked for, by the last one that was noticed; or a refusal.
+#[unsafe(no_mangle)]
+pub extern "C" fn zeldorgacs_server_flush_seen(alloc: Global, server: &mut Handle) -> i64 {
+    let Some(mut kept) = taken(alloc, server) else {
+        return NO_HANDLE;
+    };
+    let answer = match &mut *kept {
+        Kept::Server(end) => i64::from(end.flush_seen()),
+        _ => NO_HANDLE,
+    };
+    put(alloc, server, kept);
+    answer
+}
+
+/// How many frames the stream may hold, or a refusal.
+#[unsafe(no_mangle)]
+pub extern "C" fn zeldorgacs_server_frames(alloc: Global, server: &mut Handle) -> i64 {
+    let Some(mut kept) = taken(alloc, server) else {
+        return NO_HANDLE;
+    };
+    let answer = match &mut *kept {
+        Kept::Server(end) => i64::from(end.frames()),
+        _ => NO_HANDLE,
+    };
+    put(alloc, server, kept);
+    answer
+}
