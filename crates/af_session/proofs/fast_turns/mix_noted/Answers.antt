@@ -2,7 +2,7 @@ use Rattle.std.proofs.Common.{[], ◌≤◌, ◌<◌, length, sym, ap, subst, ar
 use Rattle.af_fast.specs.Mixer.{MixerState, IsInOrder}
 use Rattle.af_fast.specs.Mixing.{MixesOnce}
 use Rattle.af_session.specs.Shown.{Follows}
-use Rattle.af_session.proofs.Following.{follows_added, follows_still}
+use Rattle.af_session.proofs.Following.{follows_added, follows_still, places_kept}
 use Rattle.af_session.proofs.fast_turns.mix_noted.Goals as goal
 
 pub mix-cycle-requires-clause-order : goal.mix-cycle-requires-clause-order
@@ -40,3 +40,11 @@ returns-else-len-entries-clause-tally g c =
     let as_long : length next.log.entries ≤ length was.log.entries =
     omega (arith, c.if-len-entries.false, c.len-entries.ensures, ap (λ l. length l.entries) c.log.ensures, c.len.ensures, ap (λ l. length l.entries) c.log-2.ensures) in
     follows_still was next c.args.buffer.now c.mix-cycle.new.out c.mix-cycle.result (c.mix-cycle.ensures.mixes [] c.requires.order) as_long c.args.tally.now
+
+pub returns-else-len-entries-clause-places : goal.returns-else-len-entries-clause-places
+returns-else-len-entries-clause-places g c = λ n tracks held.
+    let was = c.args.fast.now in
+    let next = c.mix-cycle.new.self in
+    let as_long : length next.log.entries ≤ length was.log.entries =
+    omega (arith, c.if-len-entries.false, c.len-entries.ensures, ap (λ l. length l.entries) c.log.ensures, c.len.ensures, ap (λ l. length l.entries) c.log-2.ensures) in
+    places_kept was next c.args.buffer.now c.mix-cycle.new.out c.mix-cycle.result (c.mix-cycle.ensures.mixes [] c.requires.order) as_long c.args.tally.now n tracks held
