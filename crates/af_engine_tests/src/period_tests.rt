@@ -1,5 +1,5 @@
 //! A turn and a cycle bring what a client wrote to the sound.
-ghost use Rattle.std.specs.Prelude.{◌≡◌, ◌<◌, length, slice_get, Some};
+ghost use Rattle.std.specs.Prelude.{◌≡◌, ◌<◌, false, length, slice_get, Some};
 ghost use Rattle.af_cblk.specs.Sides.{Made};
 ghost use Rattle.af_engine.specs.declared.ends.TrackEnds.{TrackEnds};
 ghost use Rattle.af_engine.specs.Engines.{AreTogether};
