@@ -58,11 +58,26 @@ fn write_some<L: Ledger>(client: &mut Client, block: &Block, turn: usize, steps:
     ensures { IsClientOf block.now client.new }
 {
     let frames = [
-        Frame { left: 100, right: -100 },
-        Frame { left: 200, right: -200 },
-        Frame { left: 300, right: -300 },
-        Frame { left: 400, right: -400 },
-        Frame { left: 500, right: -500 },
+        Frame {
+            left: 100,
+            right: -100,
+        },
+        Frame {
+            left: 200,
+            right: -200,
+        },
+        Frame {
+            left: 300,
+            right: -300,
+        },
+        Frame {
+            left: 400,
+            right: -400,
+        },
+        Frame {
+            left: 500,
+            right: -500,
+        },
     ];
     let count = turn % 6;
     if count > 0 && client.released() < 100_000 {
