@@ -4,9 +4,13 @@
 #[cfg(test)]
 mod closing_tests;
 #[cfg(test)]
+mod frames;
+#[cfg(test)]
 mod record_tests;
 #[cfg(test)]
 mod static_tests;
+#[cfg(test)]
+mod stream_calls;
 #[cfg(test)]
 mod stream_tests;
 #[cfg(test)]

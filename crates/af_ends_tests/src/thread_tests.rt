@@ -1,4 +1,5 @@
 //! Two threads at work on the two ends of a stream, of a recording and of a static buffer.
+use crate::frames::{NOTHING, number, numbered};
 use af_base::{Frame, Gains};
 use af_ends::{
     CaptureEnd, EndError, ListenerEnd, PlayerEnd, SetterEnd, StreamClient, StreamServer, close,
@@ -13,20 +14,9 @@ const FRAMES: u32 = 100_000;
 
 const CALLS: u32 = 5_000_000;
 
-const NOTHING: Frame = Frame { left: 0, right: 0 };
-
-// Frames with these numbers as their words.
-fn number(frames: &mut [Frame], first: u32) {
-    let mut next = first;
-    for frame in frames.iter_mut() {
-        *frame = Frame::unpack(next);
-        next = next.wrapping_add(1);
-    }
-}
-
 fn write_all(mut client: StreamClient) -> StreamClient {
     let mut next: u32 = 0;
-    let mut frames = [NOTHING; 64];
+    let mut frames = [NOTHING; 32];
     for _ in 0..CALLS {
         if next >= FRAMES {
             break;
@@ -61,7 +51,7 @@ fn read_all(
     calls: u32,
 ) -> (StreamServer, Option<u32>) {
     let mut next = first;
-    let mut out = [NOTHING; 100];
+    let mut out = [NOTHING; 50];
     for _ in 0..calls {
         if next.is_none_or(|number| number >= last) {
             break;
@@ -84,7 +74,7 @@ fn all_carried<R: Threads + Sync>(rt: &R, alloc: Global) -> Result<bool, EndErro
         move || -> (StreamServer, Option<u32>) { read_all(server, Some(0), FRAMES, CALLS) },
     );
     let written = client.released();
-    let (server, next) = read_all(server, next, u32::MAX, 10);
+    let (server, next) = read_all(server, next, u32::MAX, 20);
     let read = next.map(u64::from);
     match close(client, server) {
         Ok(lived) => Ok(read == Some(written) && lived.consumed() == written),
@@ -99,9 +89,9 @@ fn a_stream_carries_each_frame(rt: HostRuntime) {
 }
 
 fn supply_all(mut capture: CaptureEnd) -> CaptureEnd {
-    let mut frames = [NOTHING; 500];
-    for round in 0..400u32 {
-        number(&mut frames, round.wrapping_mul(500));
+    let mut frames = [NOTHING; 50];
+    for round in 0..4_000u32 {
+        number(&mut frames, round.wrapping_mul(50));
         if capture.supply(&frames).is_err() {
             break;
         }
@@ -123,7 +113,7 @@ fn risen(frames: &[Frame], count: u32, low: Option<u32>) -> Option<u32> {
 
 fn listen(mut listener: ListenerEnd, low: Option<u32>, calls: u32) -> (ListenerEnd, Option<u32>) {
     let mut next = low;
-    let mut out = [NOTHING; 1_100];
+    let mut out = [NOTHING; 100];
     for _ in 0..calls {
         match listener.read(&mut out) {
             Ok(count) => next = risen(&out, count, next),
@@ -136,13 +126,13 @@ fn listen(mut listener: ListenerEnd, low: Option<u32>, calls: u32) -> (ListenerE
 
 // Whether each frame that was supplied was read in its order, or lost and counted.
 fn all_found<R: Threads + Sync>(rt: &R, alloc: Global) -> Result<bool, EndError> {
-    let (capture, listener) = open_record(alloc, 4_096)?;
+    let (capture, listener) = open_record(alloc, 1_000)?;
     let (capture, (listener, next)) = join(
         rt,
         move || -> CaptureEnd { supply_all(capture) },
         move || -> (ListenerEnd, Option<u32>) { listen(listener, Some(0), 2_000) },
     );
-    let (listener, next) = listen(listener, next, 10);
+    let (listener, next) = listen(listener, next, 20);
     capture.close();
     match listener.close() {
         Ok(recorded) => {
@@ -192,11 +182,15 @@ fn play_all(mut player: PlayerEnd) -> (PlayerEnd, bool) {
     (player, good)
 }
 
+// A buffer whose frame at each start of a setting has the number of the start.
+fn opened(alloc: Global) -> Result<(SetterEnd, PlayerEnd), EndError> {
+    let frames = numbered(alloc, 1_000)?;
+    open_static(alloc, frames.as_slice())
+}
+
 // Whether the player heard settings in their order, from another thread.
 fn all_heard<R: Threads + Sync>(rt: &R, alloc: Global) -> Result<bool, EndError> {
-    let mut frames = [NOTHING; 1_200];
-    number(&mut frames, 0);
-    let (setter, player) = open_static(alloc, &frames)?;
+    let (setter, player) = opened(alloc)?;
     let (setter, (player, good)) = join(
         rt,
         move || -> SetterEnd { set_all(setter) },
