@@ -1,87 +1,82 @@
 //! The calls of a static buffer's two ends.
-use af_base::{Frame, Gains};
-use af_ends::{EndError, open_static};
+use crate::frames::{NOTHING, numbered};
+use af_base::Gains;
+use af_ends::{EndError, PlayerEnd, SetterEnd, open_static};
 use af_static::Unrolled;
 use std::alloc::Global;
 use std::test::*;
 
-const SILENCE: Frame = Frame { left: 0, right: 0 };
+// The two ends of a buffer of the frames from 0 on.
+fn opened(alloc: Global, size: u32) -> Result<(SetterEnd, PlayerEnd), EndError> {
+    let frames = numbered(alloc, size)?;
+    open_static(alloc, frames.as_slice())
+}
 
-const THREE: [Frame; 3] = [
-    Frame { left: 1, right: 2 },
-    Frame { left: 3, right: 4 },
-    Frame { left: 5, right: 6 },
-];
+// Whether a call to two places at unity plays these words, of which so many frames are the buffer's, by the setting of this number.
+fn plays(player: &mut PlayerEnd, words: &[u32; 2], filled: u32, number: u64) -> bool {
+    let mut out = [NOTHING; 2];
+    let told = player.play(Gains::clamped(0x1000_1000), &mut out);
+    let is_told = told
+        == Ok(Unrolled {
+            number,
+            filled,
+            shut: None,
+        });
+    is_told && out[0].pack() == words[0] && out[1].pack() == words[1]
+}
 
-// What two calls answer, and what they play, with a setting between them.
-fn two_calls(alloc: Global) -> Result<([Result<Unrolled, EndError>; 2], [Frame; 4]), EndError> {
-    let (mut setter, mut player) = open_static(alloc, &THREE)?;
-    let unity = Gains::clamped(0x1000_1000);
-    let (mut one, mut two) = ([SILENCE; 2], [SILENCE; 2]);
-    let first = player.play(unity, &mut one);
-    setter.set(2, 0, 0)?;
-    let second = player.play(unity, &mut two);
-    Ok(([first, second], [one[0], one[1], two[0], two[1]]))
+// Two calls, with a setting between them.
+fn two_calls(alloc: Global) -> Result<bool, EndError> {
+    let (mut setter, mut player) = opened(alloc, 6)?;
+    let first = plays(&mut player, &[0, 1], 2, 0);
+    let number = setter.set(5, 0, 0)?;
+    let second = plays(&mut player, &[5, 0], 1, 1);
+    Ok(first && number == 1 && second)
 }
 
 #[test]
 fn a_setting_is_played(rt: HostRuntime) {
-    let told = |number, filled| {
-        Ok(Unrolled {
-            number,
-            filled,
-            shut: None,
-        })
-    };
-    let heard = [THREE[0], THREE[1], THREE[2], SILENCE];
-    assert!(rt; two_calls(rt.alloc()) == Ok(([told(0, 2), told(1, 1)], heard)));
+    assert!(rt; two_calls(rt.alloc()) == Ok(true));
 }
 
-// An invalid setting, and two calls after it. The last setting's number.
-fn shut(alloc: Global) -> Result<([Option<(u32, u32, u32)>; 2], u64), EndError> {
-    let (mut setter, mut player) = open_static(alloc, &THREE)?;
-    let mut out = [SILENCE; 2];
+// Whether a call tells that this setting shut the player.
+fn is_shut(player: &mut PlayerEnd, by: (u32, u32, u32)) -> bool {
+    let mut out = [NOTHING; 2];
+    match player.play(Gains::clamped(0), &mut out) {
+        Ok(told) => told.shut == Some(by),
+        Err(_) => false,
+    }
+}
+
+// An invalid setting, a call, a valid one, and a call.
+fn shut(alloc: Global) -> Result<bool, EndError> {
+    let (mut setter, mut player) = opened(alloc, 3)?;
     setter.set(9, 0, 0)?;
-    let first = player.play(Gains::clamped(0), &mut out)?;
-    let number = setter.set(0, 0, 0)?;
-    let second = player.play(Gains::clamped(0), &mut out)?;
-    Ok(([first.shut, second.shut], number))
+    let first = is_shut(&mut player, (9, 0, 0));
+    setter.set(0, 0, 0)?;
+    let second = is_shut(&mut player, (9, 0, 0));
+    Ok(first && second)
 }
 
 #[test]
 fn an_invalid_setting_shuts_the_player(rt: HostRuntime) {
-    assert!(rt; shut(rt.alloc()) == Ok(([Some((9, 0, 0)); 2], 2)));
-}
-
-// So many frames.
-fn many(alloc: Global, count: usize) -> Result<Vec<Frame>, EndError> {
-    match vec![in alloc; SILENCE; count] {
-        Ok(frames) => Ok(frames),
-        Err(_) => Err(EndError::Memory),
-    }
+    assert!(rt; shut(rt.alloc()) == Ok(true));
 }
 
 // How many frames a call to so many places takes, of a buffer of so many.
-fn filled(alloc: Global, size: usize, places: usize) -> Result<u32, EndError> {
-    let frames = many(alloc, size)?;
-    let (_, mut player) = open_static(alloc, frames.as_slice())?;
-    let mut out = many(alloc, places)?;
+fn filled(alloc: Global, size: u32, places: u32) -> Result<u32, EndError> {
+    let (_, mut player) = opened(alloc, size)?;
+    let mut out = numbered(alloc, places)?;
     let told = player.play(Gains::clamped(0), out.as_mut_slice())?;
     Ok(told.filled)
 }
 
 #[test]
 fn places_and_sizes_are_refused(rt: HostRuntime) {
-    let refused = Err(EndError::Argument);
-    let table = [
-        (8_192, 0, refused),
-        (8_192, 1_025, refused),
-        (8_192, 1_024, Ok(1_024)),
-        (8_193, 1, refused),
-        (0, 1, refused),
-        (1, 2, Ok(1)),
-    ];
-    for (size, places, answer) in table {
-        assert!(rt; filled(rt.alloc(), size, places) == answer);
+    for (size, places) in &[(8_192, 0), (8_192, 1_025), (8_193, 1), (0, 1)] {
+        assert!(rt; filled(rt.alloc(), *size, *places) == Err(EndError::Argument));
+    }
+    for (size, places, count) in &[(8_192, 1_024, 1_024), (1, 2, 1)] {
+        assert!(rt; filled(rt.alloc(), *size, *places) == Ok(*count));
     }
 }

@@ -1,0 +1,26 @@
+//! Numbered frames.
+use af_base::Frame;
+use af_ends::EndError;
+use std::alloc::Global;
+
+pub(crate) const NOTHING: Frame = Frame { left: 0, right: 0 };
+
+// Gives frames these numbers as their words, from the first on.
+pub(crate) fn number(frames: &mut [Frame], first: u32) {
+    let mut next = first;
+    for frame in frames.iter_mut() {
+        *frame = Frame::unpack(next);
+        next = next.wrapping_add(1);
+    }
+}
+
+// So many frames with the numbers from 0 on as their words.
+pub(crate) fn numbered(alloc: Global, count: u32) -> Result<Vec<Frame>, EndError> {
+    let mut frames = Vec::new(alloc);
+    for word in 0..count {
+        if frames.push(Frame::unpack(word)).is_err() {
+            return Err(EndError::Memory);
+        }
+    }
+    Ok(frames)
+}
