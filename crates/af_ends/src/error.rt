@@ -5,7 +5,7 @@
 pub enum EndError {
     /// An argument is outside the range that the call names.
     Argument,
-    /// There is no memory. Only a call that opens answers it.
+    /// Out of memory. Only a call that opens answers it.
     Memory,
     /// The client of a stream has seen INVALID in the flags: its server has invalidated the stream. The frames were not written.
     Dead,

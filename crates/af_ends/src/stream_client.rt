@@ -27,7 +27,7 @@ const UNITY: u16 = 0x1000;
 
 /// The end of a stream that writes: AOSP's `AudioTrackClientProxy`, with a share of the control block.
 ///
-/// Contracts see the block, and the proxy with the list of all that it did and the frames that it released. It pokes never, so no call of it answers Corrupt. No call takes memory or waits, and it may be sent to another thread.
+/// Contracts see the block, and the proxy with the list of all that it did and the frames that it released. It pokes never, so no call of it answers Corrupt. No call takes memory or waits. That it may be sent to another thread is not proved yet.
 #[derive(Drop)]
 pub struct StreamClient {
     pub(crate) stream: Arc<Common<ParkedClient>, Global>,
