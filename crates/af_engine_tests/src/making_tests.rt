@@ -3,8 +3,8 @@ use af_engine::{Engine, EngineTrack, MakeError, MixerSpec, SpecError, TrackEnds,
 use std::alloc::Global;
 use std::test::*;
 
-/// A fast stereo track of eight frames.
-pub(crate) const FAST: EngineTrack = EngineTrack {
+// A fast stereo track of eight frames.
+const FAST: EngineTrack = EngineTrack {
     fast: true,
     mono: false,
     positional: false,
