@@ -110,7 +110,11 @@ fn is_played<R: Threads + Sync>(
     }
     let mut store = MemStore::new(alloc, Vec::new(alloc));
     let name = "out.pcm";
-    let piece = Piece { script, files, name };
+    let piece = Piece {
+        script,
+        files,
+        name,
+    };
     let played = play(rt, alloc, &piece, &mut store, watch);
     let is_whole = played.is_ok();
     drop(played);
