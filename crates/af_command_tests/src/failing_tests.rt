@@ -29,9 +29,7 @@ const RENDERS: &[Failure<'static>] = &[
     (1, 0, 5, None, ""),
     (2, 0, 5, None, ""),
     (3, 0, 5, None, ""),
-    (4, 0, 5, Some(4), ""),
-    (5, 0, 5, Some(12), ""),
-    (6, 0, 5, Some(20), ""),
+    (4, 0, 5, Some(12), ""),
     (0, 1, 5, Some(24), "cycles 3 mixed 4 drop"),
 ];
 

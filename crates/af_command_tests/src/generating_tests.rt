@@ -25,8 +25,8 @@ type GenerateFailure<'a> = (u64, u64, u8, Option<usize>, &'a str);
 
 /// The first and the last call that fill OUT, and the line.
 const FAILURES: &[GenerateFailure<'static>] = &[
-    (28, 0, 5, Some(512), ""),
-    (420, 0, 5, Some(401920), ""),
+    (28, 0, 5, Some(6656), ""),
+    (58, 0, 5, Some(400896), ""),
     (1000, 1, 5, Some(402432), "cycles 1572 mixed 800000 dr"),
 ];
 
